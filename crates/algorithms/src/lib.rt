@@ -1,0 +1,1 @@
+// Nothing to run: what the search and the building rest on.

@@ -1,0 +1,21 @@
+-- Stores of one byte after another are a splice. Assumes nothing.
+use Prim.Native.Nat.{ℕ, suc, _+_, _/_, _%_, _≤_}
+use native.Mathlib.Omega.{arith}
+use mathlib.Core.Path.{_≡_}
+use mathlib.Core.List.{[], _∷_}
+use lib.ListN.{length, set}
+use lib.Seq.{sets, sets-eq}
+use Rattle.model.specs.Bytes.{Bytes, bytes16, bytes32, splice}
+
+pub write-2 : (b : Bytes) (i x : ℕ) → i + 2 ≤ length b → set (set b i (x % 256)) (i + 1) (x / 256 % 256) ≡ splice i (bytes16 x) b
+unfolding splice bytes16
+write-2 b i x h = let one : i + 1 ≡ suc i = omega arith in rw one (sets-eq (x % 256 ∷ x / 256 % 256 ∷ []) b i h)
+
+pub write-4 : (b : Bytes) (i x : ℕ) → i + 4 ≤ length b
+    → set (set (set (set b i (x % 256)) (i + 1) (x / 256 % 256)) (i + 2) (x / 65536 % 256)) (i + 3) (x / 65536 / 256 % 256) ≡ splice i (bytes32 x) b
+unfolding splice bytes32 bytes16
+write-4 b i x h =
+    let one : i + 1 ≡ suc i = omega arith in
+    let two : i + 2 ≡ suc (suc i) = omega arith in
+    let three : i + 3 ≡ suc (suc (suc i)) = omega arith in
+    rw (one, two, three) (sets-eq (x % 256 ∷ x / 256 % 256 ∷ x / 65536 % 256 ∷ x / 65536 / 256 % 256 ∷ []) b i h)

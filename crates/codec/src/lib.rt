@@ -1,0 +1,3 @@
+// Numbers and records in bytes, the low byte first.
+pub mod bytes;
+pub mod records;

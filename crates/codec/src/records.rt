@@ -1,0 +1,62 @@
+// The records of the bodies: nodes, edges, and lists of 16-bit numbers.
+ghost use mathlib.Core.Path.{_≡_};
+ghost use Prim.Native.Nat.{ℕ, _+_, _*_, _<_, _≤_};
+ghost use lib.ListN.{length};
+ghost use Rattle.model.specs.Bytes.{word16};
+ghost use Rattle.model.specs.Network.{coordinate, node, nodeSize, edge, edgeSize};
+use crate::bytes::read16;
+use crate::bytes::read32;
+
+pub const NODE_SIZE: usize = 8;
+
+pub const EDGE_SIZE: usize = 8;
+
+// A coordinate as it stands in the file, with 1,000,000 added.
+fn shifted(raw: u32) -> u32
+    ensures { λ r. ⌜ r ≡ coordinate raw ⌝ }
+{
+    std::num::wrapping_add_u32(raw, 1000000)
+}
+
+pub fn node_x(b: &[u8], i: usize) -> u32
+    requires { ⌜ nodeSize * i + nodeSize ≤ length (now b) ⌝ }
+    ensures { λ r. ⌜ r ≡ node (now (b .entry)) i .x ⌝ }
+{
+    shifted(read32(b, NODE_SIZE * i))
+}
+
+pub fn node_y(b: &[u8], i: usize) -> u32
+    requires { ⌜ nodeSize * i + nodeSize ≤ length (now b) ⌝ }
+    ensures { λ r. ⌜ r ≡ node (now (b .entry)) i .y ⌝ }
+{
+    shifted(read32(b, NODE_SIZE * i + 4))
+}
+
+pub fn edge_first(b: &[u8], i: usize) -> usize
+    requires { ⌜ edgeSize * i + edgeSize ≤ length (now b) ⌝ }
+    ensures { λ r. ⌜ (r ≡ edge (now (b .entry)) i .first) × (r < 65536) ⌝ }
+{
+    read16(b, EDGE_SIZE * i) as usize
+}
+
+pub fn edge_second(b: &[u8], i: usize) -> usize
+    requires { ⌜ edgeSize * i + edgeSize ≤ length (now b) ⌝ }
+    ensures { λ r. ⌜ (r ≡ edge (now (b .entry)) i .second) × (r < 65536) ⌝ }
+{
+    read16(b, EDGE_SIZE * i + 2) as usize
+}
+
+pub fn edge_seconds(b: &[u8], i: usize) -> u32
+    requires { ⌜ edgeSize * i + edgeSize ≤ length (now b) ⌝ }
+    ensures { λ r. ⌜ r ≡ edge (now (b .entry)) i .seconds ⌝ }
+{
+    read32(b, EDGE_SIZE * i + 4)
+}
+
+// Number i of a list of 16-bit numbers.
+pub fn number(b: &[u8], i: usize) -> usize
+    requires { ⌜ 2 * i + 2 ≤ length (now b) ⌝ }
+    ensures { λ r. ⌜ (r ≡ word16 (now (b .entry)) (2 * i)) × (r < 65536) ⌝ }
+{
+    read16(b, 2 * i) as usize
+}

@@ -1,0 +1,151 @@
+-- The oracle: the bytes that building writes, what its bodies hold, and rules 8 to 11. Assumes nothing.
+use Prim.Native.Nat.{ℕ, _+_, _*_, _/_}
+use mathlib.Core.Bool.{Bool, not, _&&_, _||_, cond}
+use mathlib.Core.List.{List, [], _∷_, _++_, map}
+use lib.ListN.{length, getD}
+use lib.Dec.{eqb, ltb, leb}
+use Rattle.model.specs.Lists.{Part, gapless, any, concat, concatMap, indexOf, rising, upTo}
+use Rattle.model.specs.Bytes.{Bytes, word16, word32, bytes16, bytes32}
+use Rattle.model.specs.Contents.{nodeBody, edgeBody, closedBody, file, oracleEdition}
+use Rattle.model.specs.Distance.{Distance, unreachable, finite}
+use Rattle.model.specs.Network.{network, order, distance}
+use Rattle.model.specs.Grid.{gridOver, gridBroken, gridNumber}
+use Rattle.model.specs.Access.{accessLists, transitNodes}
+
+-- ---- a distance in bodies 6 and 7, a 32-bit number
+
+abbrev pub valueSize : ℕ
+valueSize = 4
+
+-- "The value 4,294,967,295 means 'no walk'; every other value is at most 409,500,000, which is 4,095 × 100,000."
+abbrev pub noWalk : ℕ
+noWalk = 4_294_967_295
+
+abbrev pub maxValue : ℕ
+maxValue = 409_500_000
+
+-- The number for a distance, and back.
+unfoldable pub coded : Distance → ℕ
+coded unreachable = noWalk
+coded (finite n) = n
+
+unfoldable pub valueBytes : Distance → Bytes
+valueBytes x = bytes32 (coded x)
+
+unfoldable pub decoded : ℕ → Distance
+decoded v = cond (eqb v noWalk) unreachable (finite v)
+
+-- The distance at a position.
+unfoldable pub value : Bytes → ℕ → Distance
+value b position = decoded (word32 b position)
+
+-- Out of range.
+unfoldable pub valueBroken : Bytes → ℕ → Bool
+valueBroken b position = not (eqb (word32 b position) noWalk) && ltb maxValue (word32 b position)
+
+-- ---- building
+
+-- "A list is a 16-bit count, then entries of 6 bytes: a 16-bit index into body 5, rising within the list, and 32-bit seconds."
+abbrev pub entrySize : ℕ
+entrySize = 2 + valueSize
+
+unfoldable pub entryBytes : List ℕ → ℕ → Distance → Bytes
+entryBytes transit a d = bytes16 (indexOf a transit) ++ valueBytes d
+
+-- The list of node u, with the access nodes of its cell.
+unfoldable pub listBytes : (ℕ → ℕ → Distance) → List ℕ → ℕ → List ℕ → Bytes
+listBytes d transit u access = bytes16 (length access) ++ concatMap (λ a. entryBytes transit a (d u a)) access
+
+-- A start is a 32-bit number.
+abbrev pub startSize : ℕ
+startSize = 4
+
+-- Where each list starts, the first of them at `at`.
+unfoldable pub starts : ℕ → List Bytes → Bytes
+starts at [] = []
+starts at (l ∷ ls) = bytes32 at ++ starts (at + length l) ls
+
+-- Body 6: "N 32-bit starts, counted from this body's beginning; then the lists in place order, without gaps."
+unfoldable pub accessBytes : (ℕ → ℕ → Distance) → List ℕ → List (List ℕ) → Bytes
+accessBytes d transit lists =
+    let ls = map (λ u. listBytes d transit u (getD lists u [])) (upTo (length lists)) in
+    starts (startSize * length lists) ls ++ concat ls
+
+-- Body 7: "T rows of T 32-bit seconds", "table(a, b) in the row of a and the column of b".
+unfoldable pub tableBytes : (ℕ → ℕ → Distance) → List ℕ → Bytes
+tableBytes d transit = concatMap (λ a. concatMap (λ b. valueBytes (d a b)) transit) transit
+
+-- The transit nodes of the network in f under g.
+unfoldable pub transitOf : Bytes → ℕ → List ℕ
+transitOf f g = let net = network f in transitNodes (order net) (accessLists net (gridOver g (net .nodes)))
+
+-- The oracle built under g from f: "its bodies 1 to 3 are the network's own bytes".
+unfoldable pub oracle : Bytes → ℕ → Bytes
+oracle f g =
+    let net = network f in
+    let lists = accessLists net (gridOver g (net .nodes)) in
+    let transit = transitNodes (order net) lists in
+    file oracleEdition
+    (nodeBody f ∷ edgeBody f ∷ closedBody f ∷ bytes16 g ∷ concatMap bytes16 transit ∷
+    accessBytes (distance net) transit lists ∷ tableBytes (distance net) transit ∷ [])
+
+-- ---- reading
+
+-- T, the number of transit nodes of a transit body.
+unfoldable pub transitCount : Bytes → ℕ
+transitCount b = length b / 2
+
+-- The list of node u within the access body b: where it starts, its number of entries, and its part of the body.
+unfoldable pub listStart : Bytes → ℕ → ℕ
+listStart b u = word32 b (startSize * u)
+
+unfoldable pub listCount : Bytes → ℕ → ℕ
+listCount b u = word16 b (listStart b u)
+
+unfoldable pub listPart : Bytes → ℕ → Part
+listPart b u = record { start = listStart b u; size = 2 + entrySize * listCount b u }
+
+-- Entry i of that list.
+pub record AccessEntry : Type 0 where
+  pub index : ℕ
+  pub distance : Distance
+
+unfoldable pub accessAt : Bytes → ℕ → ℕ → ℕ
+accessAt b u i = listStart b u + 2 + entrySize * i
+
+unfoldable pub accessEntry : Bytes → ℕ → ℕ → AccessEntry
+accessEntry b u i = record { index = word16 b (accessAt b u i); distance = value b (accessAt b u i + 2) }
+
+unfoldable pub accessList : Bytes → ℕ → List AccessEntry
+accessList b u = map (accessEntry b u) (upTo (listCount b u))
+
+-- What stands in the row of transit node i and the column of transit node j of the table body b, for T transit nodes.
+unfoldable pub tableEntry : Bytes → ℕ → ℕ → ℕ → Distance
+tableEntry b T i j = value b (valueSize * (i * T + j))
+
+-- ---- the rules of the last four bodies (9 is `numbersBroken`)
+
+-- Rule 8: "A grid body not of 2 bytes, or g .. outside 1 to 64."
+unfoldable pub gridBodyBroken : Bytes → Bool
+gridBodyBroken b = not (eqb (length b) 2) || gridBroken (gridNumber b)
+
+-- Rule 10: "An access body that breaks its layout, an index not below T, or a value out of range."
+unfoldable pub entryBroken : ℕ → Bytes → ℕ → ℕ → Bool
+entryBroken T b u i = leb T (accessEntry b u i .index) || valueBroken b (accessAt b u i + 2)
+
+-- The indexes of the list of node u.
+unfoldable pub indexes : Bytes → ℕ → List ℕ
+indexes b u = map (λ e. e .index) (accessList b u)
+
+unfoldable pub listBroken : ℕ → Bytes → ℕ → Bool
+listBroken T b u = not (rising (indexes b u)) || any (entryBroken T b u) (upTo (listCount b u))
+
+unfoldable pub accessBroken : ℕ → ℕ → Bytes → Bool
+accessBroken n T b = not (gapless (startSize * n) (map (listPart b) (upTo n)) (length b)) || any (listBroken T b) (upTo n)
+
+-- Rule 11: "A table not of 4 × T × T bytes, or a value out of range."
+unfoldable pub cellBroken : Bytes → ℕ → Bool
+cellBroken b i = valueBroken b (valueSize * i)
+
+unfoldable pub tableBroken : ℕ → Bytes → Bool
+tableBroken T b = not (eqb (length b) (valueSize * (T * T))) || any (cellBroken b) (upTo (T * T))

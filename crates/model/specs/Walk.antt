@@ -1,0 +1,28 @@
+-- Arcs, walks, and least totals of walks. Assumes nothing.
+use Prim.Native.Nat.{ℕ, _+_, _≤_}
+use mathlib.Core.List.{List, List·Memᴰ}
+
+-- One direction of an open edge.
+pub record Arc : Type 0 where
+  pub from : ℕ
+  pub to : ℕ
+  pub cost : ℕ
+
+-- `a` is one of `arcs`.
+abbrev pub Mem : Arc → List Arc → Type 0
+Mem a arcs = List·Memᴰ a arcs
+
+-- `Walk arcs u t n`: a walk from u to t whose total is n. "A walk from u to t starts at u and takes open roads one after another, each from the place
+-- reached to that road's other end, and ends at t. .. u alone, with no road, is a walk from u to u. A walk's total is the sum of its roads' seconds."
+pub data Walk (arcs : List Arc) : ℕ → ℕ → ℕ → Type 0 where
+  stay : {u : ℕ} → Walk arcs u u 0
+  go : {t n : ℕ} (a : Arc) → Mem a arcs → Walk arcs (a .to) t n → Walk arcs (a .from) t (a .cost + n)
+
+-- n is the least number with P.
+pub record LeastOf (P : ℕ → Type 0) (n : ℕ) : Type 0 where
+  pub has : P n
+  pub least : (m : ℕ) → P m → n ≤ m
+
+-- n is the least total over all walks from u to t. "A least walk has that total."
+abbrev pub Least : List Arc → ℕ → ℕ → ℕ → Type 0
+Least arcs u t n = LeastOf (Walk arcs u t) n

@@ -1,0 +1,36 @@
+// What the calls hand back. The contracts of the calls and the definitions in specs/ cite these types.
+
+// Document 01's "far" and "local".
+pub enum Kind {
+    Far,
+    Local,
+}
+
+// The answer to a question about two nodes: "a time, none, or a refusal; the first two carry far or local and the pairs tried".
+pub enum Answer {
+    Time {
+        seconds: u32,
+        kind: Kind,
+        pairs: u32,
+    },
+    None {
+        kind: Kind,
+        pairs: u32,
+    },
+    Refused {
+        rule: u32,
+    },
+}
+
+// What building hands back: the number of the broken rule and zeros, or 0 with the oracle's size in bytes and its number of transit nodes.
+pub struct Built {
+    pub rule: u32,
+    pub size: u32,
+    pub transit: u32,
+}
+
+// What the way hands back: the number of the broken rule and a zero, or 0 with the number of nodes written.
+pub struct Route {
+    pub rule: u32,
+    pub nodes: u32,
+}

@@ -1,0 +1,28 @@
+-- ---- lists, numbers and bytes
+pub mod Tests
+pub mod RangeLaws
+pub mod Members
+pub mod FileLaws
+pub mod ReadLaws
+-- ---- walks and distances
+pub mod Walks
+pub mod DistanceLaws
+pub mod Shorten
+pub mod Exact
+pub mod Least
+-- ---- the far theorem
+pub mod Far
+pub mod FarGrid
+pub mod FarOver
+pub mod FarModel
+-- ---- built oracles
+pub mod Built
+pub mod Accepted
+pub mod Shape
+pub mod WellShaped
+pub mod Audits
+pub mod FarBodies
+pub mod Times
+-- ---- the way
+pub mod Way
+pub mod Ways

@@ -1,0 +1,271 @@
+-- Every oracle built from an accepted network is well-shaped. Assumes nothing.
+use Prim.Native.Nat.{ℕ, _+_, _*_, _/_, _%_, _<_}
+use native.Mathlib.Omega.{arith}
+use native.Mathlib.Nat.{zero-add, mul-assoc}
+use mathlib.Core.Path.{_≡_, refl, sym, _∙_, ap, subst}
+use mathlib.Core.Bool.{true, false}
+use mathlib.Core.List.{List, [], _∷_, _++_, map, append-assoc, append-nil, List·Memᴰ}
+use lib.ListN.{length, getD, length-append}
+use lib.Dec.{leb}
+use borrow.Author.Tests.{lt-leb, eq-eqb}
+use Rattle.model.specs.Lists.{gapless, rising, upTo, indexOf, concat, concatMap}
+use Rattle.model.specs.Bytes.{Bytes, word16, bytes16, words16}
+use Rattle.model.specs.Contents.{contentsBroken, bodiesBroken, oracleEdition, oracleEntries, nodeBody, edgeBody, closedBody, gridBody, transitBody, accessBody, tableBody}
+use Rattle.model.specs.Distance.{Distance, unreachable, finite}
+use Rattle.theory.specs.Exact.{dist-bound}
+use Rattle.model.specs.Network.{network, order, arcs, distance, nodeCount, edgeCount, nodesBroken, coordinatesBroken, edgesBroken, someEdgeBroken, numbersBroken}
+use Rattle.model.specs.Grid.{gridNumber}
+use Rattle.model.specs.Access.{accessNodes, transitNodes}
+use Rattle.model.specs.Oracle.{indexes, cellBroken, oracle, value, valueBroken, valueBytes, valueSize, entrySize, listBytes, entryBytes, accessBytes, tableBytes, transitCount, listCount, listPart, accessAt, accessEntry, accessList, gridBodyBroken, entryBroken, listBroken, accessBroken, tableBroken}
+use Rattle.model.specs.Rules.{firstBroken, networkRules, shapeRules, accepted, wellShaped}
+use Rattle.theory.specs.FileLaws.{word16-read}
+use Rattle.theory.specs.Members.{range→, filter→, map→, concatMap→, getD-mem, index-of}
+use Rattle.theory.specs.FarModel.{inside}
+use Rattle.theory.specs.Built.{Good, bodies-of, transit-of, lists-of, cells-of, access-of, count-lists, list-of, few-transit, few-access, in-transit, count-transit}
+use Rattle.theory.specs.Accepted.{Passed, all-passed, good, ends, costs, few, g-fits, count-nodes}
+use Rattle.theory.specs.Shape.{gapless-parts, Bounded, value-fine, rising-range, rising-filter, rising-index, any-none, contents-fine, bodies-fine}
+use Rattle.theory.specs.ReadLaws as read
+
+-- ---- lists
+abbrev pair : ℕ → ℕ → ℕ × ℕ
+pair a c = (a, c)
+
+map-id : {A : Type 0} (l : List A) → map (λ x. x) l ≡ l
+map-id [] = refl
+map-id (x ∷ l) = ap (λ r. x ∷ r) (map-id l)
+
+map-map : {A B C : Type 0} (f : B → C) (g : A → B) (l : List A) → map f (map g l) ≡ map (λ x. f (g x)) l
+map-map f g [] = refl
+map-map f g (x ∷ l) = ap (λ r. f (g x) ∷ r) (map-map f g l)
+
+concatMap-append : {A B : Type 0} (f : A → List B) (xs ys : List A) → concatMap f (xs ++ ys) ≡ concatMap f xs ++ concatMap f ys
+unfolding concatMap
+concatMap-append f [] ys = refl
+concatMap-append f (x ∷ xs) ys = rw (concatMap-append f xs ys, append-assoc (f x) (concatMap f xs) (concatMap f ys))
+
+concatMap-map : {A B C : Type 0} (f : B → List C) (h : A → B) (l : List A) → concatMap f (map h l) ≡ concatMap (λ x. f (h x)) l
+unfolding concatMap
+concatMap-map f h [] = refl
+concatMap-map f h (x ∷ l) = ap (λ r. f (h x) ++ r) (concatMap-map f h l)
+
+-- a table in rows is a list of its squares
+flat : {C : Type 0} (f : ℕ → ℕ → List C) (t l : List ℕ) → concatMap (λ a. concatMap (f a) t) l ≡ concatMap (λ p. f (p .0) (p .1)) (concatMap (λ a. map (pair a) t) l)
+unfolding concatMap
+flat f t [] = refl
+flat f t (a ∷ l) = rw (concatMap-append (λ p. f (p .0) (p .1)) (map (pair a) t) (concatMap (λ a. map (pair a) t) l), concatMap-map (λ p. f (p .0) (p .1)) (pair a) t, flat f t l)
+
+-- 16-bit numbers that were written are read
+words-read : (l : List ℕ) → ((i : ℕ) → i < length l → getD l i 0 < 65536) → words16 (concatMap bytes16 l) ≡ l
+unfolding words16
+words-read l h =
+    let size : (n : ℕ) → length (bytes16 n) ≡ 2 = λ n. unfold bytes16 in refl in
+    let count : length (concatMap bytes16 l) / 2 ≡ length l = omega (arith, read.length-concatMap bytes16 2 size l) in
+    rw count (read.map-range (λ i. word16 (concatMap bytes16 l) (2 * i)) (λ x. x) 0 0 l (λ i q. each i q) ∙ map-id l)
+  where
+    each : (i : ℕ) → i < length l → word16 (concatMap bytes16 l) (2 * (0 + i)) ≡ getD l i 0
+    each i q =
+        let e : 2 * (0 + i) ≡ 2 * i + 0 = omega arith in
+        rw e (read.word16-drop (concatMap bytes16 l) (2 * i) 0 ∙ rw (read.drop-concatMap bytes16 2 (λ n. unfold bytes16 in refl) i l 0 q) (word16-read (getD l i 0) _ (h i q)))
+
+-- ---- the rules
+module _ (f : Bytes) (g : ℕ) (ok : Passed f g) where
+  abbrev o : Bytes
+  o = oracle f g
+
+  abbrev fine : Good f g
+  fine = good f g ok
+
+  abbrev N : ℕ
+  N = order (network f)
+
+  abbrev d : ℕ → ℕ → Distance
+  d = distance (network f)
+
+  abbrev t : List ℕ
+  t = transit-of f g
+
+  bounded : (u v : ℕ) → u < N → Bounded (d u v)
+  unfolding distance
+  bounded u v h = step (d u v) refl
+    where
+      step : (x : Distance) → d u v ≡ x → Bounded x
+      step unreachable e = tt
+      step (finite k) e = omega (arith, few f g ok, dist-bound (arcs (network f)) N u v (inside (network f) (ends f g ok)) h 100000 k (costs f g ok) e)
+
+  same-count : nodeCount (nodeBody o) ≡ N
+  same-count = ap nodeCount (bodies-of f g fine 0 (omega arith)) ∙ sym (count-nodes f)
+
+  rule1 : contentsBroken oracleEdition oracleEntries o ≡ false
+  unfolding oracle
+  rule1 = contents-fine oracleEdition _ (unfold oracle in fine .small)
+
+  rule2 : bodiesBroken oracleEntries o ≡ false
+  unfolding oracle
+  rule2 = bodies-fine oracleEdition _ (unfold oracle in fine .small)
+
+  rule3 : nodesBroken (nodeBody o) ≡ false
+  rule3 = ap nodesBroken (bodies-of f g fine 0 (omega arith)) ∙ ok .nodes-rule
+
+  rule4 : coordinatesBroken (nodeBody o) ≡ false
+  rule4 = ap coordinatesBroken (bodies-of f g fine 0 (omega arith)) ∙ ok .coordinates
+
+  rule5 : edgesBroken (edgeBody o) ≡ false
+  rule5 = ap edgesBroken (bodies-of f g fine 1 (omega arith)) ∙ ok .edges-rule
+
+  rule6 : someEdgeBroken (nodeCount (nodeBody o)) (edgeBody o) ≡ false
+  rule6 = rw (bodies-of f g fine 0 (omega arith), bodies-of f g fine 1 (omega arith)) (ok .some-edge)
+
+  rule7 : numbersBroken (edgeCount (edgeBody o)) (closedBody o) ≡ false
+  rule7 = rw (bodies-of f g fine 1 (omega arith), bodies-of f g fine 2 (omega arith)) (ok .closed)
+
+  rule8 : gridBodyBroken (gridBody o) ≡ false
+  unfolding gridBodyBroken gridNumber
+  rule8 =
+      let e : word16 (bytes16 g) 0 ≡ g = ap (λ (b : Bytes). word16 b 0) (sym (append-nil (bytes16 g))) ∙ word16-read g [] (fine .g-fits) in
+      rw (bodies-of f g fine 3 (omega arith), e) (unfold bytes16 in ok .grid)
+
+  -- transit nodes rise and are nodes
+  transit-rises : rising t ≡ true
+  unfolding transitNodes
+  transit-rises = rising-filter _ (upTo N) (rising-range 0 N)
+
+  transit-node : {a : ℕ} → List·Memᴰ a t → a < N
+  unfolding transitNodes
+  transit-node {a} m = omega (arith, range→ 0 N a (filter→ _ (upTo N) m .0))
+
+  rule9 : numbersBroken (nodeCount (nodeBody o)) (transitBody o) ≡ false
+  unfolding numbersBroken
+  rule9 =
+      let ws : words16 (concatMap bytes16 t) ≡ t = words-read t (λ i q. omega (arith, transit-node (getD-mem t i 0 q), fine .few)) in
+      let even : length (concatMap bytes16 t) % 2 ≡ 0 = omega (arith, read.length-concatMap bytes16 2 (λ n. unfold bytes16 in refl) t) in
+      rw (same-count, bodies-of f g fine 4 (omega arith), ws, eq-eqb (length (concatMap bytes16 t) % 2) 0 even, transit-rises)
+      (any-none (leb N) t (λ a m. lt-leb N a (transit-node m)))
+
+  -- ---- rule 10
+  abbrev b : Bytes
+  b = accessBytes d t (lists-of f g)
+
+  abbrev pieces : List Bytes
+  pieces = read.ls d t (lists-of f g)
+
+  small-list : (u : ℕ) → u < N → length (getD (lists-of f g) u []) < 65536
+  small-list u h = rw (list-of f g u h) (omega (arith, few-access f g u, fine .few))
+
+  in-lists : (u : ℕ) → u < N → u < length (lists-of f g)
+  in-lists u h = rw (count-lists f g) h
+
+  listed : (u : ℕ) → u < N → (i : ℕ) → i < length (getD (lists-of f g) u []) → List·Memᴰ (getD (getD (lists-of f g) u []) i 0) t
+  listed u h i q = in-transit f g fine u h (subst (λ (l : List ℕ). List·Memᴰ (getD (getD (lists-of f g) u []) i 0) l) (list-of f g u h) (getD-mem (getD (lists-of f g) u []) i 0 q))
+
+  list-length : (u : ℕ) (l : List ℕ) → length (listBytes d t u l) ≡ 2 + entrySize * length l
+  unfolding listBytes bytes16
+  list-length u l =
+      let size : (a : ℕ) → length (entryBytes t a (d u a)) ≡ 6 = λ a. entry-length a (d u a) in
+      omega (arith, read.length-concatMap (λ a. entryBytes t a (d u a)) 6 size l)
+    where
+      entry-length : (a : ℕ) (x : Distance) → length (entryBytes t a x) ≡ 6
+      entry-length a x = unfold entryBytes bytes16 in omega (arith, read.length-value x)
+
+  layout : gapless (4 * N) (map (listPart b) (upTo N)) (length b) ≡ true
+  layout =
+      let count : length pieces ≡ N = read.count-lists d t (lists-of f g) ∙ count-lists f g in
+      let end : length b ≡ 4 * length (lists-of f g) + length (concat pieces) = unfold accessBytes in omega (arith, length-append (Rattle.model.specs.Oracle.starts (4 * length (lists-of f g)) pieces) (concat pieces), read.length-front d t (lists-of f g)) in
+      let all = gapless-parts (4 * length (lists-of f g)) 0 (listPart b) pieces
+      (λ u h. begins u (rw count at h)) (λ u h. lasts u (rw count at h)) in
+      let whole : gapless (4 * length (lists-of f g)) (map (listPart b) (upTo (length (lists-of f g)))) (4 * length (lists-of f g) + length (concat pieces)) ≡ true = subst (λ (n : ℕ). gapless (4 * length (lists-of f g)) (map (listPart b) (upTo n)) (4 * length (lists-of f g) + length (concat pieces)) ≡ true) (read.count-lists d t (lists-of f g)) all in
+      subst (λ (n : ℕ). gapless (4 * n) (map (listPart b) (upTo n)) (length b) ≡ true) (count-lists f g)
+      (subst (λ (m : ℕ). gapless (4 * length (lists-of f g)) (map (listPart b) (upTo (length (lists-of f g)))) m ≡ true) (sym end) whole)
+    where
+      begins : (u : ℕ) → u < N → listPart b (0 + u) .start ≡ Rattle.theory.specs.FileLaws.startOf (4 * length (lists-of f g)) pieces u
+      begins u h = unfold listPart in rw zero-add (read.list-start d t (lists-of f g) u (in-lists u h) (Rattle.theory.specs.Built.access-small f g fine))
+
+      lasts : (u : ℕ) → u < N → listPart b (0 + u) .size ≡ length (getD pieces u [])
+      lasts u h =
+          unfold listPart in
+          rw (zero-add, read.list-count d t (lists-of f g) u (in-lists u h) (Rattle.theory.specs.Built.access-small f g fine) (small-list u h))
+          (sym (ap length (read.its-list d t (lists-of f g) u (in-lists u h) (Rattle.theory.specs.Built.access-small f g fine)) ∙ list-length u (getD (lists-of f g) u [])))
+
+  entry-is : (u : ℕ) → u < N → (i : ℕ) → i < length (getD (lists-of f g) u []) → accessEntry b u i ≡ read.entryOf d t u (getD (getD (lists-of f g) u []) i 0)
+  entry-is u h i q =
+      read.entry-read d t (lists-of f g) u (in-lists u h) (Rattle.theory.specs.Built.access-small f g fine) i q
+      (omega (arith, index-of (getD (getD (lists-of f g) u []) i 0) t (listed u h i q) .0, few-transit f g, fine .few)) (fine .near u _ h)
+
+  entry-fine : (u : ℕ) → u < N → (i : ℕ) → i < length (getD (lists-of f g) u []) → entryBroken (length t) b u i ≡ false
+  unfolding entryBroken
+  entry-fine u h i q =
+      let e = entry-is u h i q in
+      let x : leb (length t) (accessEntry b u i .index) ≡ false = rw e (lt-leb (length t) _ (index-of (getD (getD (lists-of f g) u []) i 0) t (listed u h i q) .0)) in
+      let y : value b (accessAt b u i + 2) ≡ d u (getD (getD (lists-of f g) u []) i 0) = ap (λ z. z .distance) (entry-same i) ∙ ap (λ z. z .distance) e in
+      rw x (value-fine b (accessAt b u i + 2) _ y (bounded u _ h))
+    where
+      entry-same : (i : ℕ) → record { index = word16 b (accessAt b u i); distance = value b (accessAt b u i + 2) } ≡ accessEntry b u i
+      entry-same i = unfold accessEntry in refl
+
+  access-rises : (u : ℕ) → rising (access-of f g u) ≡ true
+  unfolding accessNodes
+  access-rises u = rising-filter _ (upTo (length (cells-of f g))) (rising-range 0 (length (cells-of f g)))
+
+  list-fine : (u : ℕ) → u < N → listBroken (length t) b u ≡ false
+  unfolding listBroken indexes rising
+  list-fine u h =
+      let L = getD (lists-of f g) u [] in
+      let small = Rattle.theory.specs.Built.access-small f g fine in
+      let read-back : accessList b u ≡ map (read.entryOf d t u) L = read.list-read d t (lists-of f g) u (in-lists u h) small (small-list u h)
+      (λ i q. omega (arith, index-of (getD L i 0) t (listed u h i q) .0, few-transit f g, fine .few)) (λ i q. fine .near u _ h) in
+      let count : listCount b u ≡ length L = read.list-count d t (lists-of f g) u (in-lists u h) small (small-list u h) in
+      let indexes : map (λ e. e .index) (map (read.entryOf d t u) L) ≡ map (λ a. indexOf a t) L = map-map (λ e. e .index) (read.entryOf d t u) L in
+      let rises : rising (map (λ a. indexOf a t) L) ≡ true = rising-index t L transit-rises (rw (list-of f g u h) (access-rises u)) (λ x m. in-transit f g fine u h (rw (list-of f g u h) at m)) in
+      rw (read-back, indexes, rises, count) (any-none (entryBroken (length t) b u) (upTo (length L)) (λ i m. entry-fine u h i (omega (arith, range→ 0 (length L) i m))))
+
+  rule10 : accessBroken (nodeCount (nodeBody o)) (transitCount (transitBody o)) (accessBody o) ≡ false
+  unfolding accessBroken
+  rule10 = rw (same-count, count-transit f g fine, bodies-of f g fine 5 (omega arith), layout) (any-none (listBroken (length t) b) (upTo N) (λ u m. list-fine u (omega (arith, range→ 0 N u m))))
+
+  -- ---- rule 11
+  abbrev pairs : List (ℕ × ℕ)
+  pairs = concatMap (λ a. map (pair a) t) t
+
+  abbrev of-pair : ℕ × ℕ → Distance
+  of-pair p = d (p .0) (p .1)
+
+  squares : tableBytes d t ≡ concatMap (λ p. valueBytes (of-pair p)) pairs
+  unfolding tableBytes
+  squares = flat (λ a c. valueBytes (d a c)) t t
+
+  table-length : length (tableBytes d t) ≡ valueSize * (length t * length t)
+  unfolding tableBytes
+  table-length =
+      read.length-concatMap (λ a. concatMap (λ c. valueBytes (d a c)) t) (4 * length t) (λ a. read.length-concatMap (λ c. valueBytes (d a c)) 4 (λ c. read.length-value (d a c)) t) t ∙
+      mul-assoc 4 (length t) (length t)
+
+  count-pairs : length pairs ≡ length t * length t
+  count-pairs = omega (arith, table-length, ap length squares, read.length-concatMap (λ p. valueBytes (of-pair p)) 4 (λ p. read.length-value (of-pair p)) pairs)
+
+  pair-node : {p : ℕ × ℕ} → List·Memᴰ p pairs → p .0 < N
+  pair-node {p} m =
+      let r = concatMap→ (λ a. map (pair a) t) t m in
+      let q = map→ (pair (r .0)) t (r .2) in
+      rw (ap (λ z. z .0) (q .2)) (transit-node (r .1))
+
+  square-fine : (i : ℕ) → i < length t * length t → valueBroken (tableBytes d t) (valueSize * i) ≡ false
+  square-fine i h =
+      let q : i < length pairs = rw count-pairs h in
+      let n : getD pairs i (0, 0) .0 < N = pair-node (getD-mem pairs i (0, 0) q) in
+      let e : tableBytes d t ≡ concatMap (λ p. valueBytes (of-pair p)) pairs ++ [] = squares ∙ sym (append-nil _) in
+      let v : value (tableBytes d t) (valueSize * i) ≡ of-pair (getD pairs i (0, 0)) = rw e (read.value-at of-pair pairs [] i (0, 0) q (fine .near _ _ n)) in
+      value-fine (tableBytes d t) (valueSize * i) _ v (bounded _ _ n)
+
+  rule11 : tableBroken (transitCount (transitBody o)) (tableBody o) ≡ false
+  unfolding tableBroken cellBroken
+  rule11 =
+      rw (count-transit f g fine, bodies-of f g fine 6 (omega arith), eq-eqb (length (tableBytes d t)) (valueSize * (length t * length t)) table-length)
+      (any-none (cellBroken (tableBytes d t)) (upTo (length t * length t)) (λ i m. square-fine i (omega (arith, range→ 0 (length t * length t) i m))))
+
+  pub no-rule : firstBroken (shapeRules o) ≡ 0
+  unfolding firstBroken shapeRules networkRules
+  no-rule = rw (rule1, rule2, rule3, rule4, rule5, rule6, rule7, rule8, rule9, rule10, rule11)
+
+-- The theorem.
+pub built-well-shaped : (f : Bytes) (g : ℕ) → accepted f g ≡ true → wellShaped (oracle f g) ≡ true
+unfolding wellShaped
+built-well-shaped f g h = rw (no-rule f g (all-passed f g h))
