@@ -234,6 +234,7 @@ module _ (arcs : List Arc) (N s : ℕ) (within : Within N arcs) (s-in : s < N) (
   finish-le all t n w = ⊎-elim (λ l. l) (λ y. omega (arith, all (y .0) (y .1) (y .2), y .3, inv .fits t)) (from-start w)
 
   pub finish : (K : ℕ) → Costs K arcs → (N - 1) * K < noWalk → ((v : ℕ) → v < N → at done v ≡ 0 → at d v ≡ noWalk) → (t : ℕ) → t < N → at d t ≡ coded (dist arcs N s t)
+  unfolding coded
   finish K c small all t i = pick (dist arcs N s t) refl
     where
       pick : (p : Distance) → dist arcs N s t ≡ p → at d t ≡ coded p
