@@ -1,1 +1,3 @@
 pub mod Dijkstra
+pub mod Settle
+pub mod Rounds
