@@ -1,6 +1,8 @@
 -- Arcs, walks, and least totals of walks. Assumes nothing.
-use Prim.Native.Nat.{ℕ, _+_, _≤_}
-use mathlib.Core.List.{List, List·Memᴰ}
+use Prim.Native.Nat.{ℕ, _+_, _≤_, _<_}
+use mathlib.Core.Path.{_≡_}
+use mathlib.Core.Logic.{_⊎_}
+use mathlib.Core.List.{List, [], _∷_, List·Memᴰ}
 
 -- One direction of an open edge.
 pub record Arc : Type 0 where
@@ -26,3 +28,20 @@ pub record LeastOf (P : ℕ → Type 0) (n : ℕ) : Type 0 where
 -- n is the least total over all walks from u to t. "A least walk has that total."
 abbrev pub Least : List Arc → ℕ → ℕ → ℕ → Type 0
 Least arcs u t n = LeastOf (Walk arcs u t) n
+
+-- ---- "Ways and least walks are compared as lists of places"
+
+-- The nodes of a walk after its first, and all of them.
+unfoldable pub nodesAfter : {arcs : List Arc} {u t n : ℕ} → Walk arcs u t n → List ℕ
+nodesAfter stay = []
+nodesAfter (go a m w) = a .to ∷ nodesAfter w
+
+unfoldable pub nodesOf : {arcs : List Arc} {u t n : ℕ} → Walk arcs u t n → List ℕ
+nodesOf {u = u} w = u ∷ nodesAfter w
+
+-- "Of two different ones, that with the smaller number in the first position where they differ comes first by place numbers." A list comes before
+-- those that go on after it.
+unfoldable pub Before : List ℕ → List ℕ → Type 0
+Before l [] = ⊥
+Before [] (y ∷ ys) = Unit {0}
+Before (x ∷ xs) (y ∷ ys) = (x < y) ⊎ ((x ≡ y) × Before xs ys)

@@ -12,7 +12,7 @@ use Rattle.model.specs.Walk.{Arc, Mem, Walk, stay, go}
 use Rattle.theory.specs.Walks.{Within, along, hops}
 use Rattle.model.specs.Distance.{Distance, unreachable, finite, sooner, later, at, start, relax, round, rounds, dist}
 
--- What stands at a place after a store.
+-- What stands at a node after a store.
 at-set : (P : ℕ → Distance → Type 0) (ts : List Distance) (i : ℕ) (x : Distance) → P i x → ((v : ℕ) → P v (at ts v)) → (v : ℕ) → P v (at (set ts i x) v)
 at-set P ts i x p h v = pick (ℕ-discrete v i) (decLe (length ts) i)
   where

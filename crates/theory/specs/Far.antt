@@ -1,4 +1,4 @@
--- The far theorem: a least walk between two places far apart goes through an access place of each.
+-- The far theorem: a least walk between two nodes far apart goes through an access node of each.
 -- Directed, for every choice of the crossing end, and for every nest of squares.
 -- Assumes nothing.
 use mathlib.Core.Path.{_≡_, refl, sym, _∙_}
@@ -14,7 +14,7 @@ use Rattle.theory.specs.Walks.{recount, one, join, part, Symmetric, leas
 
 -- ---- the statement
 
--- a square: which places are inside
+-- a square: which nodes are inside
 abbrev pub Square : Type 0
 Square = ℕ → Bool
 
@@ -38,7 +38,7 @@ pub record Through (arcs : List Arc) (pick : Arc → ℕ) (S I T : Square) (x : 
   pub after : Least arcs x q j
   pub whole : Least arcs p q (i + j)
 
--- an access place for leaving (from a crossing of the cell C to one of the outer square O), and for entering (from one of O to one of C)
+-- an access node for leaving (from a crossing of the cell C to one of the outer square O), and for entering (from one of O to one of C)
 abbrev pub OutAccess : List Arc → (Arc → ℕ) → Square → Square → Square → ℕ → Type 0
 OutAccess arcs pick C I O a = Through arcs pick C I O a
 
@@ -52,7 +52,7 @@ pub record Nest (C I O : Square) (home away : ℕ) : Type 0 where
   pub at-home : C home ≡ true
   pub far-off : O away ≡ false
 
--- n is the sum of a way from s to t over an access place for leaving s and one for entering t
+-- n is the sum of a way from s to t over an access node for leaving s and one for entering t
 pub record Via (arcs : List Arc) (pick : Arc → ℕ) (Cs Is Os Ct It Ot : Square) (s t n : ℕ) : Type 0 where
   pub a : ℕ
   pub b : ℕ
@@ -82,7 +82,7 @@ not-in {P} h q = elim (which false P) [ inl e ↦ e | inr e ↦ absurd (true≢f
 
 -- ---- walks across a border
 module _ (arcs : List Arc) where
-  -- an arc at a place of a walk from u to v
+  -- an arc at a node of a walk from u to v
   record On (u v n : ℕ) (e : Arc) : Type 0 where
     listed : List·Memᴰ e arcs
     j : ℕ

@@ -12,7 +12,7 @@ use Rattle.model.specs.Walk.{LeastOf, Arc, Least}
 use Rattle.model.specs.Grid.{gap}
 use Rattle.theory.specs.Far.{Square, Nest, Via, far-least}
 
--- ---- the grid: each place has a column and a row
+-- ---- the grid: each node has a column and a row
 gap-self : (a : ℕ) → gap a a ≤ 0
 unfolding gap
 gap-self a = omega arith
@@ -25,7 +25,7 @@ gap-join : (x a b : ℕ) → gap a b ≤ gap x a + gap x b
 unfolding gap
 gap-join x a b = omega arith
 
--- the places whose column and row each differ from c's by at most r
+-- the nodes whose column and row each differ from c's by at most r
 unfoldable pub square : (ℕ → ℕ) → (ℕ → ℕ) → ℕ → ℕ → Square
 square col row r c x = leb (gap (col x) (col c)) r && leb (gap (row x) (row c)) r
 

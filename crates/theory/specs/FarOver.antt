@@ -1,4 +1,4 @@
--- The access places as lists, and the time between two far places as the least over pairs of them. All of it computes.
+-- The access nodes as lists, and the time between two far nodes as the least over pairs of them. All of it computes.
 -- Assumes nothing.
 use mathlib.Core.Path.{_≡_, refl}
 use mathlib.Core.Logic.{_⊎_}
@@ -16,7 +16,7 @@ use Rattle.theory.specs.Far.{Square, OutAccess, InAccess, Nest, far}
 unfoldable pub over : (ℕ → Distance) → (ℕ → ℕ → Distance) → (ℕ → Distance) → List ℕ → List ℕ → Distance
 over f g h A B = soonest (λ a. soonest (λ b. plus (f a) (plus (g a b) (h b))) B) A
 
--- The least sum over the access places is the time: over any lists A and B that have them all, in any order and perhaps with others,
+-- The least sum over the access nodes is the time: over any lists A and B that have them all, in any order and perhaps with others,
 -- and from tables f, g and h of which nothing is asked beyond those lists.
 module _ (arcs : List Arc) (pick : Arc → ℕ) (ends : (a : Arc) → (pick a ≡ a .from) ⊎ (pick a ≡ a .to)) (Cs Is Os Ct It Ot : Square) (s t : ℕ)
     (ns : Nest Cs Is Os s t) (nt : Nest Ct It Ot t s) (apart : (x : ℕ) → Is x ≡ true → It x ≡ false) where

@@ -5,9 +5,9 @@ use mathlib.Core.Logic.{_⊎_, inl, inr}
 use mathlib.Core.List.{List, [], _∷_, List·Memᴰ, List·Memᴰ·head, List·Memᴰ·tail, List·Memᴰ·cases-cons, List·Memᴰ·not-nil}
 use Prim.Native.Nat.{ℕ, zero, suc, min, _+_, _≤_, _<_}
 use native.Mathlib.Omega.{arith}
-use native.Mathlib.Decide.{decLe}
 use Rattle.model.specs.Distance.{Distance, unreachable, finite, plus, sooner, soonest, IsLeast}
 use Rattle.model.specs.Walk.{LeastOf}
+use Rattle.theory.specs.Extremes.{either}
 
 pub time-inj : {n k : ℕ} → finite n ≡ finite k → n ≡ k
 time-inj e = cc
@@ -51,9 +51,6 @@ meets-plus P Q (finite n) (finite k) p q = record {
 meets-plus P Q (finite n) unreachable p q = λ m s. q (s .j) (s .right)
 meets-plus P Q unreachable y p q = λ m s. p (s .i) (s .left)
 
-pub either : (a b : ℕ) → (min a b ≡ a) ⊎ (min a b ≡ b)
-either a b = elim (decLe a b) [ yes h ↦ inl (omega arith) | no h ↦ inr (omega arith) ]
-
 pub meets-sooner : (P Q : ℕ → Type 0) (x y : Distance) → IsLeast P x → IsLeast Q y → IsLeast (λ n. P n ⊎ Q n) (sooner x y)
 unfolding sooner
 meets-sooner P Q (finite n) (finite k) p q = record { has = holds (either n k); least = λ m. bound m }
@@ -76,12 +73,12 @@ meets-sooner P Q unreachable y p q = meets-weaker Q (λ n. P n ⊎ Q n) (λ n h.
     other m (inl r) = absurd (p m r)
     other m (inr r) = r
 
-pub record Among (l : List ℕ) (P : ℕ → ℕ → Type 0) (n : ℕ) : Type 0 where
-  pub x : ℕ
+pub record Among {A : Type 0} (l : List A) (P : A → ℕ → Type 0) (n : ℕ) : Type 0 where
+  pub x : A
   pub listed : List·Memᴰ x l
   pub has : P x n
 
-pub meets-soonest : (P : ℕ → ℕ → Type 0) (f : ℕ → Distance) (l : List ℕ) → ((x : ℕ) → List·Memᴰ x l → IsLeast (P x) (f x)) → IsLeast (Among l P) (soonest f l)
+pub meets-soonest : {A : Type 0} (P : A → ℕ → Type 0) (f : A → Distance) (l : List A) → ((x : A) → List·Memᴰ x l → IsLeast (P x) (f x)) → IsLeast (Among l P) (soonest f l)
 unfolding soonest
 meets-soonest P f [] h = λ n a. List·Memᴰ·not-nil (a .listed)
 meets-soonest P f (x ∷ l) h =

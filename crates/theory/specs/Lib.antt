@@ -2,8 +2,11 @@
 pub mod Tests
 pub mod RangeLaws
 pub mod Members
+pub mod Extremes
 pub mod FileLaws
 pub mod ReadLaws
+pub mod Signed
+pub mod GridLaws
 -- ---- walks and distances
 pub mod Walks
 pub mod DistanceLaws

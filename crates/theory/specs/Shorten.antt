@@ -1,12 +1,15 @@
--- Every walk among `N` places can be cut to one of fewer than `N` arcs that takes no longer. Assumes nothing.
+-- Every walk among `N` nodes can be cut to one of fewer than `N` arcs that takes no longer. Assumes nothing.
 use Prim.Native.Nat.{ℕ, zero, suc, _+_, _*_, _≤_, _<_}
-use native.Mathlib.Nat.{not-suc-le-zero, suc-mul}
+use native.Mathlib.Nat.{suc-mul}
 use native.Mathlib.Decide.{ℕ-discrete}
 use native.Mathlib.Omega.{arith}
-use mathlib.Core.Path.{_≡_, refl, sym, ap, subst}
+use mathlib.Core.Path.{_≡_, refl, sym, subst}
 use mathlib.Core.Logic.{_≢_, _⊎_, inl, inr}
 use mathlib.Core.List.{List, [], _∷_, List·Memᴰ, List·Memᴰ·head, List·Memᴰ·tail, List·Memᴰ·not-nil, List·Memᴰ·cases-cons}
 use lib.ListN.{length}
+use Rattle.model.specs.Lists.{upTo}
+use Rattle.theory.specs.RangeLaws.{length-range}
+use Rattle.theory.specs.Members.{→upTo}
 use Rattle.model.specs.Walk.{Arc, Mem, Walk, stay, go}
 use Rattle.theory.specs.Walks.{Within, hops, Costs}
 
@@ -15,7 +18,7 @@ keep : {x p : ℕ} → Dec (x ≡ p) → List ℕ → List ℕ
 keep (yes e) s = s
 keep {x} (no n) s = x ∷ s
 
--- The places of `s` that are not `p`.
+-- The nodes of `s` that are not `p`.
 remove : ℕ → List ℕ → List ℕ
 remove p [] = []
 remove p (x ∷ s) = keep (ℕ-discrete x p) (remove p s)
@@ -50,33 +53,14 @@ remove-mem p v (x ∷ s) i n = pick (ℕ-discrete x p) (List·Memᴰ·cases-cons
     pick (no m) (inl f) h = List·Memᴰ·head f
     pick (no m) (inr j) h = List·Memᴰ·tail (h j)
 
--- The places below `n`.
-places : ℕ → List ℕ
-places zero = []
-places (suc n) = n ∷ places n
-
-places-length : (n : ℕ) → length (places n) ≡ n
-unfolding places
-places-length zero = refl
-places-length (suc n) = ap suc (places-length n)
-
-places-mem : (n v : ℕ) → v < n → List·Memᴰ v (places n)
-unfolding places
-places-mem zero v h = absurd (not-suc-le-zero h)
-places-mem (suc n) v h = pick (ℕ-discrete v n) (places-mem n v)
-  where
-    pick : Dec (v ≡ n) → (v < n → List·Memᴰ v (places n)) → List·Memᴰ v (n ∷ places n)
-    pick (yes e) k = List·Memᴰ·head e
-    pick (no m) k = List·Memᴰ·tail (k (omega arith))
-
--- A walk whose places are all in `s`.
+-- A walk whose nodes are all in `s`.
 data Tour (arcs : List Arc) (s : List ℕ) : ℕ → ℕ → ℕ → Type 0 where
   here : {u : ℕ} → List·Memᴰ u s → Tour arcs s u u 0
   step : {t n : ℕ} (a : Arc) → Mem a arcs → List·Memᴰ (a .from) s → Tour arcs s (a .to) t n → Tour arcs s (a .from) t (a .cost + n)
 
-tour : {arcs : List Arc} {u t n : ℕ} (N : ℕ) → Within N arcs → u < N → Walk arcs u t n → Tour arcs (places N) u t n
-tour N b h stay = here (places-mem N _ h)
-tour N b h (go a i w) = step a i (places-mem N _ h) (tour N b (b a i .1) w)
+tour : {arcs : List Arc} {u t n : ℕ} (N : ℕ) → Within N arcs → u < N → Walk arcs u t n → Tour arcs (upTo N) u t n
+tour N b h stay = here (→upTo N _ h)
+tour N b h (go a i w) = step a i (→upTo N _ h) (tour N b (b a i .1) w)
 
 -- Behind the last visit to `p`, a tour does without `p`.
 data Cut (arcs : List Arc) (s : List ℕ) (p v t n : ℕ) : Type 0 where
@@ -128,7 +112,7 @@ shorten-tour {arcs} (suc k) s h (step {t = t} {n = n} a i j w) = pick (λ v m. s
     pick rec (leaves b m l e w′ le) = rw (← e) (more b l (omega arith) (rec (b .to) m w′))
 
 pub shorten : {arcs : List Arc} {u t n : ℕ} (N : ℕ) → Within N arcs → u < N → Walk arcs u t n → Short arcs N u t n
-shorten N b h w = shorten-tour N (places N) (omega (arith, places-length N)) (tour N b h w)
+shorten N b h w = shorten-tour N (upTo N) (omega (arith, length-range 0 N)) (tour N b h w)
 
 -- A walk costs at most `K` an arc.
 pub costs-hops : {arcs : List Arc} {u t n : ℕ} (K : ℕ) → Costs K arcs → (w : Walk arcs u t n) → n ≤ hops w * K

@@ -1,10 +1,10 @@
--- The way: from each place on to the lowest-numbered next place that is on a least walk. Of all least walks its places come first.
+-- The way: from each node on to the lowest-numbered next node that is on a least walk. Of all least walks its nodes come first.
 -- Assumes nothing.
 use mathlib.Core.Path.{_≡_, refl, sym, _∙_, ap, subst}
 use mathlib.Core.Logic.{_⊎_, inl, inr, _↔_}
 use mathlib.Core.Bool.{Bool, true, _&&_, true≢false}
-use mathlib.Core.List.{List, [], _∷_, List·Memᴰ, List·Memᴰ·head, List·Memᴰ·tail, List·Memᴰ·cases-cons, List·Memᴰ·not-nil, Memᴰ·cast}
-use Prim.Native.Nat.{ℕ, zero, suc, min, _+_, _≤_, _<_}
+use mathlib.Core.List.{List, [], _∷_, List·Memᴰ, List·Memᴰ·not-nil, Memᴰ·cast}
+use Prim.Native.Nat.{ℕ, zero, suc, _+_, _≤_, _<_}
 use native.Mathlib.Omega.{arith}
 use native.Mathlib.Decide.{decLe}
 use lib.Dec.{eqb}
@@ -12,10 +12,11 @@ use Rattle.theory.specs.Tests.{both, and, eqb-true, true-eqb}
 use Rattle.model.specs.Lists.{leastOf, filter}
 use Rattle.model.specs.Distance.{Distance, unreachable, finite, plus, agree, IsLeast}
 use Rattle.model.specs.Query.{nexts, onward, wayAfter, wayFrom}
-use Rattle.theory.specs.Least.{time-inj, meets-unique, either}
+use Rattle.theory.specs.Least.{time-inj, meets-unique}
 use Rattle.theory.specs.Members.{filter→, →filter, map→, →map}
-use Rattle.model.specs.Walk.{Arc, Walk, Walk.stay, Walk.go, Least}
+use Rattle.model.specs.Walk.{nodesAfter, nodesOf, Before, Arc, Walk, Walk.stay, Walk.go, Least}
 use Rattle.theory.specs.Walks.{one, part, Positive}
+use Rattle.theory.specs.Extremes.{leastOf-mem, leastOf-le}
 
 -- ---- the statement
 -- d is the exact time to t
@@ -30,21 +31,7 @@ exact-of arcs t d h = record {
   nones = λ u. (λ e. rw e at (h u), λ l. meets-unique (Walk arcs u t) (d u) unreachable (h u) l);
 }
 
--- the places of a walk after its first
-unfoldable pub later : {arcs : List Arc} {u t n : ℕ} → Walk arcs u t n → List ℕ
-later stay = []
-later (go a m w) = a .to ∷ later w
-
-unfoldable pub places : {arcs : List Arc} {u t n : ℕ} → Walk arcs u t n → List ℕ
-places {u = u} w = u ∷ later w
-
--- the lexicographic order of lists of places
-unfoldable pub Before : List ℕ → List ℕ → Type 0
-Before l [] = ⊥
-Before [] (y ∷ ys) = Unit {0}
-Before (x ∷ xs) (y ∷ ys) = (x < y) ⊎ ((x ≡ y) × Before xs ys)
-
--- the way from u: no place where there is no walk
+-- the way from u: no node where there is no walk
 unfoldable pub way : (ℕ → Distance) → List Arc → ℕ → List ℕ
 way d arcs u = wayFrom d arcs (d u) u
 
@@ -85,29 +72,7 @@ compared (x ∷ l) (y ∷ m) = step (ordered x y) (compared l m)
     step (lt h) c = less (inl h)
     step (gt h) c = more (inl h)
 
--- ---- the lowest of a list
-lowest-mem : (v : ℕ) (vs : List ℕ) → List·Memᴰ (leastOf v vs) (v ∷ vs)
-unfolding leastOf
-lowest-mem v [] = List·Memᴰ·head refl
-lowest-mem v (x ∷ xs) = step (either v x) (List·Memᴰ·cases-cons (lowest-mem (min v x) xs))
-  where
-    step : (min v x ≡ v) ⊎ (min v x ≡ x) → (leastOf (min v x) xs ≡ min v x) ⊎ List·Memᴰ (leastOf (min v x) xs) xs → List·Memᴰ (leastOf (min v x) xs) (v ∷ (x ∷ xs))
-    step (inl e) (inl q) = List·Memᴰ·head (q ∙ e)
-    step (inr e) (inl q) = List·Memᴰ·tail (List·Memᴰ·head (q ∙ e))
-    step c (inr m) = List·Memᴰ·tail (List·Memᴰ·tail m)
-
-lowest-le : (v : ℕ) (vs : List ℕ) {x : ℕ} → List·Memᴰ x (v ∷ vs) → leastOf v vs ≤ x
-unfolding leastOf
-lowest-le v [] (List·Memᴰ·head e) = omega arith
-lowest-le v [] (List·Memᴰ·tail m) = absurd (List·Memᴰ·not-nil m)
-lowest-le v (y ∷ ys) (List·Memᴰ·head e) = omega (arith, lowest-le (min v y) ys (List·Memᴰ·head refl))
-lowest-le v (y ∷ ys) {x} (List·Memᴰ·tail m) = step (List·Memᴰ·cases-cons m) (lowest-le (min v y) ys (List·Memᴰ·head refl)) (λ k. lowest-le (min v y) ys (List·Memᴰ·tail k))
-  where
-    step : (x ≡ y) ⊎ List·Memᴰ x ys → leastOf (min v y) ys ≤ min v y → (List·Memᴰ x ys → leastOf (min v y) ys ≤ x) → leastOf (min v y) ys ≤ x
-    step (inl e) h rest = omega arith
-    step (inr k) h rest = rest k
-
--- ---- what the next places are
+-- ---- what the next nodes are
 pub record Step (d : ℕ → Distance) (arcs : List Arc) (u v : ℕ) : Type 0 where
   pub arc : Arc
   pub listed : List·Memᴰ arc arcs
@@ -160,23 +125,23 @@ module _ (d : ℕ → Distance) where
 
 -- ---- the way is a least walk, and the first
 module _ (arcs : List Arc) (t : ℕ) (d : ℕ → Distance) (exact : Exact arcs t d) (positive : Positive arcs) where
-  -- the first arc of a least walk leads to a next place
+  -- the first arc of a least walk leads to a next node
   then-exact : (a : Arc) → List·Memᴰ a arcs → {k : ℕ} → Walk arcs (a .to) t k → d (a .from) ≡ finite (a .cost + k) → d (a .to) ≡ finite k
   then-exact a m {k} w e = exact .times (a .to) k .1 (part (exact .times (a .from) (a .cost + k) .0 e) (one a m) w stay (omega arith))
 
   first-step : (a : Arc) → List·Memᴰ a arcs → {k : ℕ} → Walk arcs (a .to) t k → d (a .from) ≡ finite (a .cost + k) → Step d arcs (a .from) (a .to)
   first-step a m {k} w e = record { arc = a; listed = m; starts = refl; ends = refl; n = a .cost + k; k = k; here = e; there = then-exact a m w e; sum = refl }
 
-  -- a next place is a positive time nearer
+  -- a next node is a positive time nearer
   nearer : {u v : ℕ} (s : Step d arcs u v) → s .k < s .n
   nearer s = omega (arith, positive (s .arc) (s .listed), s .sum)
 
-  -- the step to the lowest of the next places
+  -- the step to the lowest of the next nodes
   to-lowest : (u v : ℕ) (vs : List ℕ) → nexts d arcs u ≡ v ∷ vs → Step d arcs u (leastOf v vs)
-  to-lowest u v vs q = nexts→ d arcs u (rw q (lowest-mem v vs))
+  to-lowest u v vs q = nexts→ d arcs u (rw q (leastOf-mem v vs))
 
-  pub first-after : (f : ℕ) {u n : ℕ} → d u ≡ finite n → (w : Walk arcs u t n) → Before (later w) (wayAfter d arcs f u) → ⊥
-  unfolding Before wayAfter onward later
+  pub first-after : (f : ℕ) {u n : ℕ} → d u ≡ finite n → (w : Walk arcs u t n) → Before (nodesAfter w) (wayAfter d arcs f u) → ⊥
+  unfolding Before wayAfter onward nodesAfter
   first-after zero e w b = b
   first-after (suc f) {u} e stay b = step (nexts d arcs u) refl b
     where
@@ -188,24 +153,24 @@ module _ (arcs : List Arc) (t : ℕ) (d : ℕ → Distance) (exact : Exact arcs 
       s : Step d arcs (a .from) (a .to)
       s = first-step a m w e
 
-      step : (l : List ℕ) → nexts d arcs (a .from) ≡ l → Before (a .to ∷ later w) (onward l (λ x. x ∷ wayAfter d arcs f x)) → (Before (later w) (wayAfter d arcs f (a .to)) → ⊥) → ⊥
+      step : (l : List ℕ) → nexts d arcs (a .from) ≡ l → Before (a .to ∷ nodesAfter w) (onward l (λ x. x ∷ wayAfter d arcs f x)) → (Before (nodesAfter w) (wayAfter d arcs f (a .to)) → ⊥) → ⊥
       step [] q b rest = b
-      step (v ∷ vs) q (inl h) rest = omega (arith, lowest-le v vs (rw q at (→nexts d arcs (a .from) (a .to) s)))
-      step (v ∷ vs) q (inr h) rest = rest (subst (λ x. Before (later w) (wayAfter d arcs f x)) (sym (h .0)) (h .1))
+      step (v ∷ vs) q (inl h) rest = omega (arith, leastOf-le v vs (rw q at (→nexts d arcs (a .from) (a .to) s)))
+      step (v ∷ vs) q (inr h) rest = rest (subst (λ x. Before (nodesAfter w) (wayAfter d arcs f x)) (sym (h .0)) (h .1))
 
-  -- a walk with these places after its first
+  -- a walk with these nodes after its first
   abbrev Taking : ℕ → ℕ → List ℕ → Type 0
-  Taking u n l = (w : Walk arcs u t n) × (later w ≡ l)
+  Taking u n l = (w : Walk arcs u t n) × (nodesAfter w ≡ l)
 
   extend : (a : Arc) → List·Memᴰ a arcs → {u x k n : ℕ} {l : List ℕ} → a .from ≡ u → a .to ≡ x → a .cost + k ≡ n → Taking x k l → Taking u n (x ∷ l)
-  unfolding later
+  unfolding nodesAfter
   extend a m {k = k} {l = l} p q r z =
       let z′ : Taking (a .to) k l = rw q z in
       rw (← p, ← q, ← r) (go a m (z′ .0), ap (λ y. a .to ∷ y) (z′ .1))
 
   -- a walk with no arc to go on by
   ended : {u n : ℕ} (w : Walk arcs u t n) → ((v : ℕ) → Step d arcs u v → ⊥) → d u ≡ finite n → Taking u n []
-  unfolding later
+  unfolding nodesAfter
   ended stay stuck e = (stay, refl)
   ended (go a m w) stuck e = absurd (stuck (a .to) (first-step a m w e))
 
@@ -221,22 +186,22 @@ module _ (arcs : List Arc) (t : ℕ) (d : ℕ → Distance) (exact : Exact arcs 
           let i = time-inj (sym e ∙ s .here) in
           extend (s .arc) (s .listed) (s .starts) (s .ends) (s .sum ∙ sym i) (rest (leastOf v vs) (s .k) (omega (arith, nearer s)) (s .there))
 
-  -- the way from u is the list of places of a least walk
-  pub way-walk : {u n : ℕ} → Least arcs u t n → (w : Walk arcs u t n) × (places w ≡ way d arcs u)
-  unfolding places way wayFrom
+  -- the way from u is the list of nodes of a least walk
+  pub way-walk : {u n : ℕ} → Least arcs u t n → (w : Walk arcs u t n) × (nodesOf w ≡ way d arcs u)
+  unfolding nodesOf way wayFrom
   way-walk {u} {n} l =
       let e = exact .times u n .1 l in
       let r = walk-after n (omega arith) e in
       (r .0, rw e (ap (λ y. u ∷ y) (r .1)))
 
-  -- and no least walk's places come before it
-  pub way-first : {u n : ℕ} → Least arcs u t n → (w : Walk arcs u t n) → Before (places w) (way d arcs u) → ⊥
-  unfolding places way wayFrom Before
+  -- and no least walk's nodes come before it
+  pub way-first : {u n : ℕ} → Least arcs u t n → (w : Walk arcs u t n) → Before (nodesOf w) (way d arcs u) → ⊥
+  unfolding nodesOf way wayFrom Before
   way-first {u} {n} l w b =
       let e = exact .times u n .1 l in
       step (rw e at b)
     where
-      step : (u < u) ⊎ ((u ≡ u) × Before (later w) (wayAfter d arcs n u)) → ⊥
+      step : (u < u) ⊎ ((u ≡ u) × Before (nodesAfter w) (wayAfter d arcs n u)) → ⊥
       step (inl h) = omega arith
       step (inr h) = first-after n (exact .times u n .1 l) w (h .1)
 
@@ -252,11 +217,11 @@ module _ (arcs : List Arc) (t : ℕ) (d : ℕ → Distance) (exact : Exact arcs 
       let w′ : Walk arcs u t (b .cost + s .k) = rw (← p) (go b m w) in
       omega (arith, exact .times u (s .n) .0 (s .here) .least (b .cost + s .k) w′, s .sum)
 
-  -- each other least walk's places come after it
-  pub way-order : {u n : ℕ} → Least arcs u t n → (w : Walk arcs u t n) → (places w ≡ way d arcs u) ⊎ Before (way d arcs u) (places w)
-  way-order {u} l w = step (compared (places w) (way d arcs u))
+  -- each other least walk's nodes come after it
+  pub way-order : {u n : ℕ} → Least arcs u t n → (w : Walk arcs u t n) → (nodesOf w ≡ way d arcs u) ⊎ Before (way d arcs u) (nodesOf w)
+  way-order {u} l w = step (compared (nodesOf w) (way d arcs u))
     where
-      step : Compared (places w) (way d arcs u) → (places w ≡ way d arcs u) ⊎ Before (way d arcs u) (places w)
+      step : Compared (nodesOf w) (way d arcs u) → (nodesOf w ≡ way d arcs u) ⊎ Before (way d arcs u) (nodesOf w)
       step (same e) = inl e
       step (less b) = absurd (way-first l w b)
       step (more b) = inr b

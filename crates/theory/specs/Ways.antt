@@ -7,14 +7,14 @@ use mathlib.Core.Logic.{_⊎_}
 use mathlib.Core.Bool.{true}
 use mathlib.Core.List.{List, []}
 use Rattle.model.specs.Bytes.{Bytes}
-use Rattle.model.specs.Walk.{Arc, Walk, Least}
+use Rattle.model.specs.Walk.{nodesOf, Before, Arc, Walk, Least}
 use Rattle.theory.specs.Walks.{Within, outside}
 use Rattle.model.specs.Distance.{Distance, unreachable, finite, IsLeast}
 use Rattle.theory.specs.DistanceLaws.{Real, dist-real}
 use Rattle.model.specs.Network.{network, order, arcs, distance}
 use Rattle.model.specs.Oracle.{oracle}
 use Rattle.model.specs.Rules.{accepted}
-use Rattle.theory.specs.Way.{Exact, exact-of, places, Before, way, way-walk, way-order, way-none}
+use Rattle.theory.specs.Way.{Exact, exact-of, way, way-walk, way-order, way-none}
 use Rattle.theory.specs.FarModel.{inside, exact}
 use Rattle.theory.specs.Built.{same-network}
 use Rattle.theory.specs.Accepted.{Passed, all-passed, good, ends, positive}
@@ -50,11 +50,11 @@ module _ (f : Bytes) (g : ℕ) (ok : accepted f g ≡ true) (t : ℕ) (ht : t < 
   same u = refl
 
   -- where there is a walk, the way is the list of nodes of a least walk
-  pub way-least : {u n : ℕ} → Least net-arcs u t n → (w : Walk net-arcs u t n) × (places w ≡ query.way (network f) u t)
+  pub way-least : {u n : ℕ} → Least net-arcs u t n → (w : Walk net-arcs u t n) × (nodesOf w ≡ query.way (network f) u t)
   way-least {u} l = let r = way-walk net-arcs t (λ v. distance (network f) v t) right (positive f g p) l in (r .0, r .1 ∙ sym (same u))
 
   -- and every other least walk comes after it by node numbers
-  pub way-earliest : {u n : ℕ} → Least net-arcs u t n → (w : Walk net-arcs u t n) → (places w ≡ query.way (network f) u t) ⊎ Before (query.way (network f) u t) (places w)
+  pub way-earliest : {u n : ℕ} → Least net-arcs u t n → (w : Walk net-arcs u t n) → (nodesOf w ≡ query.way (network f) u t) ⊎ Before (query.way (network f) u t) (nodesOf w)
   way-earliest {u} l w = rw (same u) (way-order net-arcs t (λ v. distance (network f) v t) right (positive f g p) l w)
 
   -- where there is none, it is empty
