@@ -18,6 +18,7 @@ pub mod Far
 pub mod FarGrid
 pub mod FarOver
 pub mod FarModel
+pub mod Transit
 -- ---- built oracles
 pub mod Built
 pub mod Accepted
