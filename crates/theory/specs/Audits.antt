@@ -1,12 +1,11 @@
 -- A built oracle passes the audit: it is what would be built from its own bodies. Assumes nothing.
-use Prim.Native.Nat.{ℕ, _≤_, _<_}
+use Prim.Native.Nat.{ℕ, _≤_}
 use native.Mathlib.Omega.{arith}
 use mathlib.Core.Path.{_≡_, refl, sym, _∙_, ap}
-use mathlib.Core.Bool.{Bool, true, false, cond, _&&_}
-use mathlib.Core.List.{List, [], _∷_, _++_, append-nil}
+use mathlib.Core.Bool.{true}
+use mathlib.Core.List.{List, [], _∷_, append-nil}
 use lib.ListN.{length}
-use lib.Dec.{ltb}
-use borrow.Author.Tests.{le-ltb, eq-eqb, ltb-true}
+use borrow.Author.Tests.{le-ltb, eq-eqb}
 use Rattle.model.specs.Lists.{equal, concatMap}
 use Rattle.model.specs.Bytes.{Bytes, word16, bytes16}
 use Rattle.model.specs.Contents.{file, oracleEdition, nodeBody, edgeBody, closedBody, gridBody}
@@ -14,37 +13,19 @@ use Rattle.model.specs.Network.{Network, network, order, distance}
 use Rattle.model.specs.Grid.{gridOver, gridNumber}
 use Rattle.model.specs.Access.{accessLists, transitNodes}
 use Rattle.model.specs.Oracle.{oracle, accessBytes, tableBytes}
-use Rattle.model.specs.Rules.{Rule, firstBroken, networkRules, shapeRules, auditRules, workTooSmall, wordsNeeded, differsFromBuilt, accepted}
+use Rattle.model.specs.Rules.{firstBroken, shapeRules, auditRules, workTooSmall, wordsNeeded, differsFromBuilt, accepted}
 use Rattle.model.specs.Calls.{auditRefusal}
 use Rattle.theory.specs.FileLaws.{word16-read}
-use Rattle.theory.specs.Tests.{and, both}
+use Rattle.theory.specs.Tests.{and}
 use Rattle.theory.specs.Built.{Good, bodies-of, same-network}
-use Rattle.theory.specs.Accepted.{all-passed, good}
+use Rattle.theory.specs.Passed.{all-passed, first-append, shape-counted}
+use Rattle.theory.specs.Accepted.{good}
 use Rattle.theory.specs.WellShaped.{no-rule}
 
 equal-self : (l : List ℕ) → equal l l ≡ true
 unfolding equal
 equal-self [] = refl
 equal-self (x ∷ l) = and (eq-eqb x x refl) (equal-self l)
-
--- rules that are not broken, before others
-unfoldable pub counted : List Rule → Bool
-counted [] = true
-counted (r ∷ rs) = ltb 0 (r .number) && counted rs
-
-pub first-append : (xs ys : List Rule) → counted xs ≡ true → firstBroken xs ≡ 0 → firstBroken (xs ++ ys) ≡ firstBroken ys
-unfolding counted firstBroken
-first-append [] ys c h = refl
-first-append (r ∷ xs) ys c h = step (r .broken) (both {b = ltb 0 (r .number)} c) h (λ k e. first-append xs ys k e)
-  where
-    step : (b : Bool) → (ltb 0 (r .number) ≡ true) × (counted xs ≡ true) → cond b (r .number) (firstBroken xs) ≡ 0 → (counted xs ≡ true → firstBroken xs ≡ 0 → firstBroken (xs ++ ys) ≡ firstBroken ys)
-        → cond b (r .number) (firstBroken (xs ++ ys)) ≡ firstBroken ys
-    step true k e rest = let z : 0 < r .number = ltb-true 0 (r .number) (k .0) in absurd (omega arith)
-    step false k e rest = rest (k .1) e
-
-pub shape-counted : (o : Bytes) → counted (shapeRules o) ≡ true
-unfolding counted shapeRules networkRules
-shape-counted o = refl
 
 -- the oracle as a function of what it goes by
 from : Network → Bytes → Bytes → Bytes → ℕ → Bytes

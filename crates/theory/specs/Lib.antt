@@ -21,6 +21,8 @@ pub mod FarModel
 pub mod Transit
 -- ---- built oracles
 pub mod Built
+pub mod Passed
+pub mod Sound
 pub mod Accepted
 pub mod Shape
 pub mod WellShaped

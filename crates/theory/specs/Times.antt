@@ -13,7 +13,8 @@ use Rattle.model.specs.declared.Kind.{Kind}
 use Rattle.model.specs.declared.Kind.the-variants.{Far, Local}
 use Rattle.theory.specs.FarModel.{exact}
 use Rattle.theory.specs.Built.{Good, time-far, time-local}
-use Rattle.theory.specs.Accepted.{all-passed, good}
+use Rattle.theory.specs.Passed.{all-passed}
+use Rattle.theory.specs.Accepted.{good}
 
 of-answer : (k : Kind) (n : ℕ) (x : Distance) → distanceOf (answer k n x) ≡ x
 unfolding answer distanceOf

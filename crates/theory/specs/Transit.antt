@@ -1,16 +1,16 @@
 -- The transit nodes of all cells, empty ones included, are those of the nodes' cells. Assumes nothing.
 use Prim.Native.Nat.{ℕ, _≤_, _<_}
 use native.Mathlib.Omega.{arith}
-use mathlib.Core.Path.{_≡_, refl, sym, _∙_}
+use mathlib.Core.Path.{_≡_, refl, sym}
 use mathlib.Core.Logic.{_⊎_, inl, inr, ⊎-elim}
-use mathlib.Core.Bool.{Bool, true, false, xor, _&&_, cond, true≢false}
+use mathlib.Core.Bool.{Bool, true, false, xor, true≢false}
 use mathlib.Core.List.{List, [], _∷_, map, List·Memᴰ, Memᴰ·cast}
 use lib.ListN.{length, length-map}
 use lib.Dec.{leb}
 use Rattle.model.specs.Lists.{filter, any, member, upTo, concatMap}
 use Rattle.model.specs.Network.{Edge, Network, order, distance}
-use Rattle.model.specs.Grid.{Cell, gridOver, cells, cellOf, cellAt, gap, within, innerRadius, outerRadius}
-use Rattle.model.specs.Access.{crossingEnd, crosses, crossings, between, accessNodes, accessLists, transitNodes}
+use Rattle.model.specs.Grid.{Cell, gridOver, cells, cellOf, cellAt, gap, within, innerRadius}
+use Rattle.model.specs.Access.{crossingEnd, crosses, crossings, accessNodes, accessLists, transitNodes}
 use Rattle.theory.specs.Tests.{both, leb-true}
 use Rattle.theory.specs.Members.{filter→, any→, →any, map→, →map, →concatMap, getD-mem, member→, →member, →upTo}
 use Rattle.theory.specs.GridLaws.{column-below, row-below}

@@ -17,7 +17,9 @@ use Rattle.model.specs.Rules.{accepted}
 use Rattle.theory.specs.Way.{Exact, exact-of, way, way-walk, way-order, way-none}
 use Rattle.theory.specs.FarModel.{inside, exact}
 use Rattle.theory.specs.Built.{same-network}
-use Rattle.theory.specs.Accepted.{Passed, all-passed, good, ends, positive}
+use Rattle.theory.specs.Passed.{Passed, all-passed}
+use Rattle.theory.specs.Sound.{ends, positive}
+use Rattle.theory.specs.Accepted.{good}
 use Rattle.model.specs.Query as query
 
 module _ (f : Bytes) (g : ℕ) (ok : accepted f g ≡ true) (t : ℕ) (ht : t < order (network f)) where
@@ -28,7 +30,7 @@ module _ (f : Bytes) (g : ℕ) (ok : accepted f g ≡ true) (t : ℕ) (ht : t < 
   net-arcs = arcs (network f)
 
   within : Within (order (network f)) net-arcs
-  within = inside (network f) (ends f g p)
+  within = inside (network f) (ends f (p .sound))
 
   real : (u : ℕ) → Real net-arcs u t (distance (network f) u t)
   unfolding distance
@@ -38,7 +40,7 @@ module _ (f : Bytes) (g : ℕ) (ok : accepted f g ≡ true) (t : ℕ) (ht : t < 
   to u = step (decLe (order (network f)) u) (distance (network f) u t) refl
     where
       step : Dec (order (network f) ≤ u) → (x : Distance) → distance (network f) u t ≡ x → IsLeast (Walk net-arcs u t) x
-      step (no h) x e = rw e at (exact (network f) (ends f g p) u t (omega arith))
+      step (no h) x e = rw e at (exact (network f) (ends f (p .sound)) u t (omega arith))
       step (yes h) unreachable e = λ n w. outside (order (network f)) within h ht w
       step (yes h) (finite n) e = absurd (outside (order (network f)) within h ht (rw e at (real u)))
 
@@ -51,15 +53,15 @@ module _ (f : Bytes) (g : ℕ) (ok : accepted f g ≡ true) (t : ℕ) (ht : t < 
 
   -- where there is a walk, the way is the list of nodes of a least walk
   pub way-least : {u n : ℕ} → Least net-arcs u t n → (w : Walk net-arcs u t n) × (nodesOf w ≡ query.way (network f) u t)
-  way-least {u} l = let r = way-walk net-arcs t (λ v. distance (network f) v t) right (positive f g p) l in (r .0, r .1 ∙ sym (same u))
+  way-least {u} l = let r = way-walk net-arcs t (λ v. distance (network f) v t) right (positive f (p .sound)) l in (r .0, r .1 ∙ sym (same u))
 
   -- and every other least walk comes after it by node numbers
   pub way-earliest : {u n : ℕ} → Least net-arcs u t n → (w : Walk net-arcs u t n) → (nodesOf w ≡ query.way (network f) u t) ⊎ Before (query.way (network f) u t) (nodesOf w)
-  way-earliest {u} l w = rw (same u) (way-order net-arcs t (λ v. distance (network f) v t) right (positive f g p) l w)
+  way-earliest {u} l w = rw (same u) (way-order net-arcs t (λ v. distance (network f) v t) right (positive f (p .sound)) l w)
 
   -- where there is none, it is empty
   pub way-empty : {u : ℕ} → ((n : ℕ) → Walk net-arcs u t n → ⊥) → query.way (network f) u t ≡ []
-  way-empty {u} h = same u ∙ way-none net-arcs t (λ v. distance (network f) v t) right (positive f g p) h
+  way-empty {u} h = same u ∙ way-none net-arcs t (λ v. distance (network f) v t) right (positive f (p .sound)) h
 
   -- the way over the built oracle is that of the network
   pub way-built : (u : ℕ) → query.way (network (oracle f g)) u t ≡ query.way (network f) u t

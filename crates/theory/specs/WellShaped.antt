@@ -17,12 +17,14 @@ use Rattle.model.specs.Network.{network, order, arcs, distance, nodeCount, edge
 use Rattle.model.specs.Grid.{gridNumber}
 use Rattle.model.specs.Access.{accessNodes, transitNodes}
 use Rattle.model.specs.Oracle.{indexes, cellBroken, oracle, value, valueBroken, valueBytes, valueSize, entrySize, listBytes, entryBytes, accessBytes, tableBytes, transitCount, listCount, listPart, accessAt, accessEntry, accessList, gridBodyBroken, entryBroken, listBroken, accessBroken, tableBroken}
-use Rattle.model.specs.Rules.{firstBroken, networkRules, shapeRules, accepted, wellShaped}
+use Rattle.model.specs.Rules.{firstBroken, shapeRules, accepted, wellShaped}
 use Rattle.theory.specs.FileLaws.{word16-read}
 use Rattle.theory.specs.Members.{range→, filter→, map→, concatMap→, getD-mem, index-of}
 use Rattle.theory.specs.FarModel.{inside}
 use Rattle.theory.specs.Built.{Good, bodies-of, transit-of, lists-of, cells-of, access-of, count-lists, list-of, few-transit, few-access, in-transit, count-transit}
-use Rattle.theory.specs.Accepted.{Passed, all-passed, good, ends, costs, few, g-fits, count-nodes}
+use Rattle.theory.specs.Passed.{Passed, all-passed, shaped-all}
+use Rattle.theory.specs.Sound.{ends, costs, few, count-nodes}
+use Rattle.theory.specs.Accepted.{good, g-fits}
 use Rattle.theory.specs.Shape.{gapless-parts, Bounded, value-fine, rising-range, rising-filter, rising-index, any-none, contents-fine, bodies-fine}
 use Rattle.theory.specs.ReadLaws as read
 
@@ -90,7 +92,7 @@ module _ (f : Bytes) (g : ℕ) (ok : Passed f g) where
     where
       step : (x : Distance) → d u v ≡ x → Bounded x
       step unreachable e = tt
-      step (finite k) e = omega (arith, few f g ok, dist-bound (arcs (network f)) N u v (inside (network f) (ends f g ok)) h 100000 k (costs f g ok) e)
+      step (finite k) e = omega (arith, few f (ok .sound), dist-bound (arcs (network f)) N u v (inside (network f) (ends f (ok .sound))) h 100000 k (costs f (ok .sound)) e)
 
   same-count : nodeCount (nodeBody o) ≡ N
   same-count = ap nodeCount (bodies-of f g fine 0 (omega arith)) ∙ sym (count-nodes f)
@@ -104,19 +106,19 @@ module _ (f : Bytes) (g : ℕ) (ok : Passed f g) where
   rule2 = bodies-fine oracleEdition _ (unfold oracle in fine .small)
 
   rule3 : nodesBroken (nodeBody o) ≡ false
-  rule3 = ap nodesBroken (bodies-of f g fine 0 (omega arith)) ∙ ok .nodes-rule
+  rule3 = ap nodesBroken (bodies-of f g fine 0 (omega arith)) ∙ ok .sound .nodes-rule
 
   rule4 : coordinatesBroken (nodeBody o) ≡ false
-  rule4 = ap coordinatesBroken (bodies-of f g fine 0 (omega arith)) ∙ ok .coordinates
+  rule4 = ap coordinatesBroken (bodies-of f g fine 0 (omega arith)) ∙ ok .sound .coordinates
 
   rule5 : edgesBroken (edgeBody o) ≡ false
-  rule5 = ap edgesBroken (bodies-of f g fine 1 (omega arith)) ∙ ok .edges-rule
+  rule5 = ap edgesBroken (bodies-of f g fine 1 (omega arith)) ∙ ok .sound .edges-rule
 
   rule6 : someEdgeBroken (nodeCount (nodeBody o)) (edgeBody o) ≡ false
-  rule6 = rw (bodies-of f g fine 0 (omega arith), bodies-of f g fine 1 (omega arith)) (ok .some-edge)
+  rule6 = rw (bodies-of f g fine 0 (omega arith), bodies-of f g fine 1 (omega arith)) (ok .sound .some-edge)
 
   rule7 : numbersBroken (edgeCount (edgeBody o)) (closedBody o) ≡ false
-  rule7 = rw (bodies-of f g fine 1 (omega arith), bodies-of f g fine 2 (omega arith)) (ok .closed)
+  rule7 = rw (bodies-of f g fine 1 (omega arith), bodies-of f g fine 2 (omega arith)) (ok .sound .closed)
 
   rule8 : gridBodyBroken (gridBody o) ≡ false
   unfolding gridBodyBroken gridNumber
@@ -262,8 +264,15 @@ module _ (f : Bytes) (g : ℕ) (ok : Passed f g) where
       (any-none (cellBroken (tableBytes d t)) (upTo (length t * length t)) (λ i m. square-fine i (omega (arith, range→ 0 (length t * length t) i m))))
 
   pub no-rule : firstBroken (shapeRules o) ≡ 0
-  unfolding firstBroken shapeRules networkRules
-  no-rule = rw (rule1, rule2, rule3, rule4, rule5, rule6, rule7, rule8, rule9, rule10, rule11)
+  no-rule = shaped-all o (record {
+    contents = rule1;
+    bodies = rule2;
+    sound = record { nodes-rule = rule3; coordinates = rule4; edges-rule = rule5; some-edge = rule6; closed = rule7 };
+    grid = rule8;
+    transit = rule9;
+    access = rule10;
+    table = rule11;
+  })
 
 -- The theorem.
 pub built-well-shaped : (f : Bytes) (g : ℕ) → accepted f g ≡ true → wellShaped (oracle f g) ≡ true

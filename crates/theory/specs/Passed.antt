@@ -1,0 +1,125 @@
+-- What a call that refuses nothing knows: each rule that it checked is not broken. Assumes nothing.
+use Prim.Native.Nat.{ℕ, _<_}
+use native.Mathlib.Omega.{arith}
+use mathlib.Core.Path.{_≡_, refl}
+use mathlib.Core.Bool.{Bool, true, false, not, _||_, true≢false, cond, _&&_, cond}
+use mathlib.Core.List.{List, [], _∷_, _++_}
+use lib.Dec.{ltb}
+use borrow.Author.Tests.{ltb-true, eqb-true}
+use Rattle.model.specs.Bytes.{Bytes}
+use Rattle.model.specs.Contents.{nodeBody, edgeBody, closedBody, networkEdition, networkEntries, oracleEdition, contentsBroken, bodiesBroken, gridBody, transitBody, accessBody, tableBody, oracleEntries}
+use Rattle.model.specs.Network.{nodeCount, edgeCount, nodesBroken, someEdgeBroken, edgesBroken, numbersBroken, coordinatesBroken}
+use Rattle.model.specs.Grid.{gridBroken}
+use Rattle.model.specs.Oracle.{gridBodyBroken, accessBroken, tableBroken, transitCount}
+use Rattle.model.specs.Rules.{Rule, rule, firstBroken, networkRules, acceptRules, accepted, shapeRules, wellShaped}
+use Rattle.theory.specs.Tests.{both}
+
+pub or-false : (b c : Bool) → b || c ≡ false → (b ≡ false) × (c ≡ false)
+or-false true c h = absurd (true≢false h)
+or-false false c h = (refl, h)
+
+pub not-false : {b : Bool} → not b ≡ false → b ≡ true
+not-false {b = true} h = refl
+not-false {b = false} h = absurd (true≢false h)
+
+-- ---- one rule after another
+pub passed : (n : ℕ) (b : Bool) (rs : List Rule) → 0 < n → firstBroken (rule n b ∷ rs) ≡ 0 → (b ≡ false) × (firstBroken rs ≡ 0)
+unfolding firstBroken
+passed n true rs h e = absurd (omega arith)
+passed n false rs h e = (refl, e)
+
+-- Rules that are not broken, before others.
+unfoldable pub counted : List Rule → Bool
+counted [] = true
+counted (r ∷ rs) = ltb 0 (r .number) && counted rs
+
+pub first-append : (xs ys : List Rule) → counted xs ≡ true → firstBroken xs ≡ 0 → firstBroken (xs ++ ys) ≡ firstBroken ys
+unfolding counted firstBroken
+first-append [] ys c h = refl
+first-append (r ∷ xs) ys c h = step (r .broken) (both {b = ltb 0 (r .number)} c) h (λ k e. first-append xs ys k e)
+  where
+    step : (b : Bool) → (ltb 0 (r .number) ≡ true) × (counted xs ≡ true) → cond b (r .number) (firstBroken xs) ≡ 0 → (counted xs ≡ true → firstBroken xs ≡ 0 → firstBroken (xs ++ ys) ≡ firstBroken ys)
+        → cond b (r .number) (firstBroken (xs ++ ys)) ≡ firstBroken ys
+    step true k e rest = let z : 0 < r .number = ltb-true 0 (r .number) (k .0) in absurd (omega arith)
+    step false k e rest = rest (k .1) e
+
+pub shape-counted : (o : Bytes) → counted (shapeRules o) ≡ true
+unfolding counted shapeRules networkRules
+shape-counted o = refl
+
+-- ---- rules 3 to 7, which a network and an oracle keep alike
+pub record Sound (f : Bytes) : Type 0 where
+  pub nodes-rule : nodesBroken (nodeBody f) ≡ false
+  pub coordinates : coordinatesBroken (nodeBody f) ≡ false
+  pub edges-rule : edgesBroken (edgeBody f) ≡ false
+  pub some-edge : someEdgeBroken (nodeCount (nodeBody f)) (edgeBody f) ≡ false
+  pub closed : numbersBroken (edgeCount (edgeBody f)) (closedBody f) ≡ false
+
+-- Rules 1 to 7, and what is left of a longer list of rules.
+record Rest (edition entries : ℕ) (f : Bytes) (rs : List Rule) : Type 0 where
+  contents : contentsBroken edition entries f ≡ false
+  bodies : bodiesBroken entries f ≡ false
+  sound : Sound f
+  rest : firstBroken rs ≡ 0
+
+network-passed : (edition entries : ℕ) (f : Bytes) (rs : List Rule) → firstBroken (networkRules edition entries f ++ rs) ≡ 0 → Rest edition entries f rs
+unfolding networkRules
+network-passed edition entries f rs e0 =
+    let p1 = passed 1 (contentsBroken edition entries f) _ (omega arith) e0 in
+    let p2 = passed 2 (bodiesBroken entries f) _ (omega arith) (p1 .1) in
+    let p3 = passed 3 (nodesBroken (nodeBody f)) _ (omega arith) (p2 .1) in
+    let p4 = passed 4 (coordinatesBroken (nodeBody f)) _ (omega arith) (p3 .1) in
+    let p5 = passed 5 (edgesBroken (edgeBody f)) _ (omega arith) (p4 .1) in
+    let p6 = passed 6 (someEdgeBroken (nodeCount (nodeBody f)) (edgeBody f)) _ (omega arith) (p5 .1) in
+    let p7 = passed 7 (numbersBroken (edgeCount (edgeBody f)) (closedBody f)) _ (omega arith) (p6 .1) in
+    record {
+      contents = p1 .0;
+      bodies = p2 .0;
+      sound = record { nodes-rule = p3 .0; coordinates = p4 .0; edges-rule = p5 .0; some-edge = p6 .0; closed = p7 .0 };
+      rest = p7 .1;
+    }
+
+-- ---- an accepted network: the rules that building checks before 14
+pub record Passed (f : Bytes) (g : ℕ) : Type 0 where
+  pub contents : contentsBroken networkEdition networkEntries f ≡ false
+  pub bodies : bodiesBroken networkEntries f ≡ false
+  pub sound : Sound f
+  pub grid : gridBroken g ≡ false
+
+pub all-passed : (f : Bytes) (g : ℕ) → accepted f g ≡ true → Passed f g
+unfolding accepted acceptRules
+all-passed f g h =
+    let r = network-passed networkEdition networkEntries f (rule 8 (gridBroken g) ∷ []) (eqb-true _ _ h) in
+    record { contents = r .contents; bodies = r .bodies; sound = r .sound; grid = passed 8 (gridBroken g) [] (omega arith) (r .rest) .0 }
+
+pub passed-all : (f : Bytes) (g : ℕ) → Passed f g → accepted f g ≡ true
+unfolding accepted acceptRules networkRules firstBroken
+passed-all f g p =
+    let s = p .sound in
+    rw (p .contents, p .bodies, s .nodes-rule, s .coordinates, s .edges-rule, s .some-edge, s .closed, p .grid)
+
+-- ---- a well-shaped oracle: rules 1 to 11
+pub record Shaped (o : Bytes) : Type 0 where
+  pub contents : contentsBroken oracleEdition oracleEntries o ≡ false
+  pub bodies : bodiesBroken oracleEntries o ≡ false
+  pub sound : Sound o
+  pub grid : gridBodyBroken (gridBody o) ≡ false
+  pub transit : numbersBroken (nodeCount (nodeBody o)) (transitBody o) ≡ false
+  pub access : accessBroken (nodeCount (nodeBody o)) (transitCount (transitBody o)) (accessBody o) ≡ false
+  pub table : tableBroken (transitCount (transitBody o)) (tableBody o) ≡ false
+
+pub all-shaped : (o : Bytes) → wellShaped o ≡ true → Shaped o
+unfolding wellShaped shapeRules
+all-shaped o h =
+    let r = network-passed oracleEdition oracleEntries o _ (eqb-true _ _ h) in
+    let p8 = passed 8 (gridBodyBroken (gridBody o)) _ (omega arith) (r .rest) in
+    let p9 = passed 9 (numbersBroken (nodeCount (nodeBody o)) (transitBody o)) _ (omega arith) (p8 .1) in
+    let p10 = passed 10 (accessBroken (nodeCount (nodeBody o)) (transitCount (transitBody o)) (accessBody o)) _ (omega arith) (p9 .1) in
+    let p11 = passed 11 (tableBroken (transitCount (transitBody o)) (tableBody o)) _ (omega arith) (p10 .1) in
+    record { contents = r .contents; bodies = r .bodies; sound = r .sound; grid = p8 .0; transit = p9 .0; access = p10 .0; table = p11 .0 }
+
+pub shaped-all : (o : Bytes) → Shaped o → firstBroken (shapeRules o) ≡ 0
+unfolding shapeRules networkRules firstBroken
+shaped-all o p =
+    let s = p .sound in
+    rw (p .contents, p .bodies, s .nodes-rule, s .coordinates, s .edges-rule, s .some-edge, s .closed, p .grid, p .transit, p .access, p .table)

@@ -1,0 +1,155 @@
+-- What rules 3 to 7 give of nodes, open edges and arcs. Assumes nothing.
+use Prim.Native.Nat.{ℕ, _+_, _/_, _%_, _≤_, _<_}
+use native.Mathlib.Omega.{arith}
+use mathlib.Core.Path.{_≡_, refl, _∙_, subst, sym}
+use mathlib.Core.Logic.{_⊎_, inl, inr}
+use mathlib.Core.Bool.{true, false, not, _||_}
+use mathlib.Core.List.{List, [], _∷_, map, List·Memᴰ, List·Memᴰ·cases-cons, List·Memᴰ·eq-of-singleton}
+use lib.ListN.{length, length-map}
+use lib.Dec.{eqb, ltb, leb}
+use borrow.Author.Tests.{leb-false, ltb-false, ltb-true, eqb-true}
+use Rattle.model.specs.Lists.{any, rising, upTo, concatMap}
+use Rattle.model.specs.Bytes.{Bytes, words16}
+use Rattle.model.specs.Contents.{nodeBody, edgeBody, closedBody}
+use Rattle.model.specs.Walk.{Arc, Mem}
+use Rattle.theory.specs.Walks.{Costs, Within, Positive}
+use Rattle.model.specs.Distance.{Distance, unreachable, finite}
+use Rattle.theory.specs.Exact.{dist-bound}
+use Rattle.model.specs.Network.{Edge, network, nodes, edges, edge, openEdges, order, nodeCount, edgeCount, arcs, arcsOf, distance, nodesBroken, edgeBroken, someEdgeBroken, edgesBroken, numbersBroken, maxNodes, maxSeconds, minSeconds, nodeSize}
+use Rattle.theory.specs.RangeLaws.{length-range}
+use Rattle.theory.specs.ReadLaws.{Small}
+use Rattle.theory.specs.Tests.{both}
+use Rattle.theory.specs.Members.{none-any, filter→, map→, →map, concatMap→}
+use Rattle.theory.specs.Passed.{or-false, not-false, Sound}
+
+-- ---- a rising list of numbers below m has at most m
+rising-few : (m x : ℕ) (l : List ℕ) → rising (x ∷ l) ≡ true → any (leb m) (x ∷ l) ≡ false → x + length (x ∷ l) ≤ m
+unfolding rising any
+rising-few m x [] h a = let z : x < m = leb-false m x (or-false (leb m x) false a .0) in omega arith
+rising-few m x (y ∷ l) h a =
+    let p = both {b = ltb x y} h in
+    let z : x < y = ltb-true x y (p .0) in
+    let r = rising-few m y l (p .1) (or-false (leb m x) (any (leb m) (y ∷ l)) a .1) in
+    omega arith
+
+few-rising : (m : ℕ) (l : List ℕ) → rising l ≡ true → any (leb m) l ≡ false → length l ≤ m
+few-rising m [] h a = omega arith
+few-rising m (x ∷ l) h a = omega (arith, rising-few m x l h a)
+
+-- ---- open edges
+-- An edge that keeps rule 6.
+pub record Fine (n : ℕ) (e : Edge) : Type 0 where
+  pub first-in : e .first < n
+  pub second-in : e .second < n
+  pub at-most : e .seconds ≤ maxSeconds
+  pub at-least : minSeconds ≤ e .seconds
+
+edge-fine : (n : ℕ) (e : Edge) → edgeBroken n e ≡ false → Fine n e
+unfolding edgeBroken
+edge-fine n e a =
+    let p = or-false (leb n (e .first) || leb n (e .second) || eqb (e .first) (e .second) || ltb (e .seconds) minSeconds) (ltb maxSeconds (e .seconds)) a in
+    let q = or-false (leb n (e .first) || leb n (e .second) || eqb (e .first) (e .second)) (ltb (e .seconds) minSeconds) (p .0) in
+    let r = or-false (leb n (e .first) || leb n (e .second)) (eqb (e .first) (e .second)) (q .0) in
+    let s = or-false (leb n (e .first)) (leb n (e .second)) (r .0) in
+    record { first-in = leb-false n (e .first) (s .0); second-in = leb-false n (e .second) (s .1); at-most = ltb-false maxSeconds (e .seconds) (p .1); at-least = ltb-false (e .seconds) minSeconds (q .1) }
+
+-- Each open edge is one of the edges, so it keeps rule 6.
+pub open-fine : (n : ℕ) (b : Bytes) (closed : List ℕ) → someEdgeBroken n b ≡ false → (e : Edge) → List·Memᴰ e (openEdges b closed) → Fine n e
+unfolding openEdges someEdgeBroken edges
+open-fine n b closed ok e m =
+    let r = map→ (edge b) _ m in
+    let i = filter→ _ (upTo (edgeCount b)) (r .1) in
+    edge-fine n e (none-any (edgeBroken n) (map (edge b) (upTo (edgeCount b))) ok (rw (r .2) (→map (edge b) (upTo (edgeCount b)) (i .0))))
+
+-- ---- arcs
+-- What holds of each edge's ends and seconds, in either order of the ends, holds of each arc.
+pub arc-of : (P : ℕ → ℕ → ℕ → Type 0) (es : List Edge) → ((e : Edge) → List·Memᴰ e es → P (e .first) (e .second) (e .seconds)) → ((e : Edge) → List·Memᴰ e es → P (e .second) (e .first) (e .seconds))
+    → (a : Arc) → Mem a (concatMap arcsOf es) → P (a .from) (a .to) (a .cost)
+unfolding arcsOf
+arc-of P es there back a m = let r = concatMap→ arcsOf es m in step (r .0) (r .1) (List·Memᴰ·cases-cons (r .2))
+  where
+    step : (e : Edge) → List·Memᴰ e es
+        → (a ≡ record { from = e .first; to = e .second; cost = e .seconds }) ⊎ Mem a (record { from = e .second; to = e .first; cost = e .seconds } ∷ [])
+        → P (a .from) (a .to) (a .cost)
+    step e h (inl q) = subst (λ (a : Arc). P (a .from) (a .to) (a .cost)) (sym q) (there e h)
+    step e h (inr k) = subst (λ (a : Arc). P (a .from) (a .to) (a .cost)) (sym (List·Memᴰ·eq-of-singleton k)) (back e h)
+
+module _ (n : ℕ) (es : List Edge) (fine : (e : Edge) → List·Memᴰ e es → Fine n e) where
+  pub arcs-within : Within n (concatMap arcsOf es)
+  arcs-within = arc-of (λ u v c. (u < n) × (v < n)) es (λ e m. (fine e m .first-in, fine e m .second-in)) (λ e m. (fine e m .second-in, fine e m .first-in))
+
+  pub arcs-cost : Costs maxSeconds (concatMap arcsOf es)
+  arcs-cost = arc-of (λ u v c. c ≤ maxSeconds) es (λ e m. fine e m .at-most) (λ e m. fine e m .at-most)
+
+  pub arcs-positive : Positive (concatMap arcsOf es)
+  arcs-positive = arc-of (λ u v c. 0 < c) es (λ e m. fine e m .at-least) (λ e m. fine e m .at-least)
+
+-- ---- the network of a file
+pub count-nodes : (f : Bytes) → order (network f) ≡ nodeCount (nodeBody f)
+unfolding order network nodes
+count-nodes f = length-map (upTo (nodeCount (nodeBody f))) _ ∙ length-range 0 (nodeCount (nodeBody f))
+
+module _ (f : Bytes) (ok : Sound f) where
+  abbrev n : ℕ
+  n = nodeCount (nodeBody f)
+
+  fine : (e : Edge) → List·Memᴰ e (network f .edges) → Fine (order (network f)) e
+  unfolding network
+  fine e m = rw (count-nodes f) (open-fine n (edgeBody f) (words16 (closedBody f)) (ok .some-edge) e m)
+
+  pub ends : (e : Edge) → List·Memᴰ e (network f .edges) → (e .first < order (network f)) × (e .second < order (network f))
+  ends e m = (fine e m .first-in, fine e m .second-in)
+
+  pub within : Within (order (network f)) (arcs (network f))
+  unfolding arcs
+  within = arcs-within (order (network f)) (network f .edges) fine
+
+  pub costs : Costs maxSeconds (arcs (network f))
+  unfolding arcs
+  costs = arcs-cost (order (network f)) (network f .edges) fine
+
+  pub positive : Positive (arcs (network f))
+  unfolding arcs
+  positive = arcs-positive (order (network f)) (network f .edges) fine
+
+  pub node-bytes : (n ≤ maxNodes) × (0 < n) × (length (nodeBody f) ≤ 32768)
+  unfolding nodesBroken nodeCount
+  node-bytes =
+      let p = or-false (not (eqb (length (nodeBody f) % nodeSize) 0) || ltb n 1) (ltb maxNodes n) (ok .nodes-rule) in
+      let q = or-false (not (eqb (length (nodeBody f) % nodeSize) 0)) (ltb n 1) (p .0) in
+      let a : n ≤ maxNodes = ltb-false maxNodes n (p .1) in
+      let l : 1 ≤ n = ltb-false n 1 (q .1) in
+      let b : length (nodeBody f) % nodeSize ≡ 0 = eqb-true _ _ (not-false (q .0)) in
+      (a, l, omega arith)
+
+  pub few : order (network f) ≤ maxNodes
+  few = rw (count-nodes f) (node-bytes .0)
+
+  pub near : (u t : ℕ) → u < order (network f) → Small (distance (network f) u t)
+  unfolding distance
+  near u t h = step (distance (network f) u t) refl
+    where
+      step : (x : Distance) → distance (network f) u t ≡ x → Small x
+      step unreachable e = tt
+      step (finite k) e = omega (arith, few, dist-bound (arcs (network f)) (order (network f)) u t within h maxSeconds k costs e)
+
+  pub edge-bytes : (edgeCount (edgeBody f) ≤ 16384) × (length (edgeBody f) ≤ 131072)
+  unfolding edgesBroken edgeCount
+  edge-bytes =
+      let p = or-false (not (eqb (length (edgeBody f) % 8) 0)) (ltb 16384 (length (edgeBody f) / 8)) (ok .edges-rule) in
+      let a : length (edgeBody f) / 8 ≤ 16384 = ltb-false 16384 _ (p .1) in
+      let b : length (edgeBody f) % 8 ≡ 0 = eqb-true _ _ (not-false (p .0)) in
+      (a, omega arith)
+
+  pub closed-bytes : length (closedBody f) ≤ 32768
+  unfolding numbersBroken words16
+  closed-bytes =
+      let ws = words16 (closedBody f) in
+      let m = edgeCount (edgeBody f) in
+      let p = or-false (not (eqb (length (closedBody f) % 2) 0) || not (rising ws)) (any (leb m) ws) (ok .closed) in
+      let q = or-false (not (eqb (length (closedBody f) % 2) 0)) (not (rising ws)) (p .0) in
+      let even : length (closedBody f) % 2 ≡ 0 = eqb-true _ _ (not-false (q .0)) in
+      let count : length ws ≡ length (closedBody f) / 2 = length-map (upTo (length (closedBody f) / 2)) _ ∙ length-range 0 (length (closedBody f) / 2) in
+      let most : length ws ≤ m = few-rising m ws (not-false (q .1)) (p .1) in
+      omega (arith, edge-bytes .0)
+
