@@ -1,33 +1,53 @@
--- A built oracle passes the audit: it is what would be built from its own bodies. Assumes nothing.
-use Prim.Native.Nat.{ℕ, _≤_}
+-- The audit accepts a well-shaped oracle just when it is the one that building gives. Assumes nothing.
+use Prim.Native.Nat.{ℕ, _≤_, _<_}
 use native.Mathlib.Omega.{arith}
 use mathlib.Core.Path.{_≡_, refl, sym, _∙_, ap}
-use mathlib.Core.Bool.{true}
-use mathlib.Core.List.{List, [], _∷_, append-nil}
-use lib.ListN.{length}
-use borrow.Author.Tests.{le-ltb, eq-eqb}
-use Rattle.model.specs.Lists.{equal, concatMap}
+use mathlib.Core.Logic.{_↔_}
+use mathlib.Core.Bool.{true, not, true≢false, cond, Bool, false}
+use mathlib.Core.List.{List, [], _∷_, append-nil, _++_}
+use lib.ListN.{length, getD, length-append}
+use borrow.Author.Tests.{le-ltb, eq-eqb, eqb-true}
+use Rattle.model.specs.Lists.{equal, concatMap, concat}
 use Rattle.model.specs.Bytes.{Bytes, word16, bytes16}
-use Rattle.model.specs.Contents.{file, oracleEdition, nodeBody, edgeBody, closedBody, gridBody}
+use Rattle.model.specs.Contents.{file, oracleEdition, nodeBody, edgeBody, closedBody, gridBody, networkEdition, body, entryAt}
 use Rattle.model.specs.Network.{Network, network, order, distance}
-use Rattle.model.specs.Grid.{gridOver, gridNumber}
+use Rattle.model.specs.Grid.{gridOver, gridNumber, gridBroken}
 use Rattle.model.specs.Access.{accessLists, transitNodes}
-use Rattle.model.specs.Oracle.{oracle, accessBytes, tableBytes}
-use Rattle.model.specs.Rules.{firstBroken, shapeRules, auditRules, workTooSmall, wordsNeeded, differsFromBuilt, accepted}
+use Rattle.model.specs.Oracle.{oracle, accessBytes, tableBytes, gridBodyBroken}
+use Rattle.model.specs.Rules.{firstBroken, shapeRules, auditRules, workTooSmall, wordsNeeded, differsFromBuilt, accepted, wellShaped}
 use Rattle.model.specs.Calls.{auditRefusal}
-use Rattle.theory.specs.FileLaws.{word16-read}
-use Rattle.theory.specs.Tests.{and}
+use Rattle.theory.specs.FileLaws.{word16-read, length-file, body-file}
+use Rattle.theory.specs.Tests.{and, both}
 use Rattle.theory.specs.Built.{Good, bodies-of, same-network}
-use Rattle.theory.specs.Passed.{all-passed, first-append, shape-counted}
+use Rattle.theory.specs.Passed.{all-passed, first-append, shape-counted, or-false, not-false, Shaped, all-shaped, passed-all}
 use Rattle.theory.specs.Accepted.{good}
-use Rattle.theory.specs.WellShaped.{no-rule}
+use Rattle.theory.specs.WellShaped.{built-well-shaped}
+use Rattle.theory.specs.Sound.{node-bytes, edge-bytes, closed-bytes}
+use Rattle.theory.specs.Shape.{contents-fine, bodies-fine}
+use lib.Dec.{eqb}
 
 equal-self : (l : List ℕ) → equal l l ≡ true
 unfolding equal
 equal-self [] = refl
 equal-self (x ∷ l) = and (eq-eqb x x refl) (equal-self l)
 
--- the oracle as a function of what it goes by
+equal→ : (l m : List ℕ) → equal l m ≡ true → l ≡ m
+unfolding equal
+equal→ [] [] h = refl
+equal→ [] (y ∷ m) h = absurd (true≢false (sym h))
+equal→ (x ∷ l) [] h = absurd (true≢false (sym h))
+equal→ (x ∷ l) (y ∷ m) h =
+    let b = both {b = eqb x y} h in
+    let head : x ≡ y = eqb-true x y (b .0) in
+    let tail : l ≡ m = equal→ l m (b .1) in
+    λ i. head i ∷ tail i
+
+-- Rule 16 is kept just when the oracle is the one built from its own bodies 1 to 4.
+pub rule16 : (o : Bytes) → (differsFromBuilt o ≡ false) ↔ (o ≡ oracle o (gridNumber (gridBody o)))
+unfolding differsFromBuilt
+rule16 o = (λ h. equal→ o (oracle o (gridNumber (gridBody o))) (not-false h), λ e. ap (λ (m : Bytes). not (equal o m)) (sym e) ∙ ap not (equal-self o))
+
+-- The oracle as a function of what it goes by.
 from : Network → Bytes → Bytes → Bytes → ℕ → Bytes
 from net a b c g =
     let lists = accessLists net (gridOver g (net .nodes)) in
@@ -51,8 +71,77 @@ module _ (f : Bytes) (g : ℕ) (ok : accepted f g ≡ true) where
       oracle-from (oracle f g) _ ∙
       (rw (same-network f g fine, bodies-of f g fine 0 (omega arith), bodies-of f g fine 1 (omega arith), bodies-of f g fine 2 (omega arith), number) (sym (oracle-from f g)))
 
-  pub audit-passes : (work : List ℕ) → wordsNeeded (oracle f g) ≤ length work → auditRefusal (oracle f g) work ≡ 0
-  unfolding auditRefusal auditRules
-  audit-passes work h =
-      first-append (shapeRules (oracle f g)) _ (shape-counted (oracle f g)) (no-rule f g (all-passed f g ok)) ∙
-      (unfold firstBroken workTooSmall differsFromBuilt in rw (le-ltb (length work) (wordsNeeded (oracle f g)) h, built-again, equal-self (oracle f g)))
+-- ---- the network in an oracle
+-- Bodies 1 to 3, as a file.
+unfoldable pub networkIn : Bytes → Bytes
+networkIn o = file networkEdition (nodeBody o ∷ edgeBody o ∷ closedBody o ∷ [])
+
+module _ (o : Bytes) (shaped : wellShaped o ≡ true) where
+  abbrev g : ℕ
+  g = gridNumber (gridBody o)
+
+  p : Shaped o
+  p = all-shaped o shaped
+
+  abbrev three : List Bytes
+  three = nodeBody o ∷ edgeBody o ∷ closedBody o ∷ []
+
+  small : length (file networkEdition three) < 4294967296
+  unfolding entryAt concat
+  small =
+      omega (arith, length-file networkEdition three, node-bytes o (p .sound), edge-bytes o (p .sound), closed-bytes o (p .sound),
+      length-append (nodeBody o) (edgeBody o ++ (closedBody o ++ [])), length-append (edgeBody o) (closedBody o ++ []), length-append (closedBody o) [])
+
+  body-in : (j : ℕ) → j < 3 → body (networkIn o) j ≡ getD three j []
+  unfolding networkIn
+  body-in j h = body-file networkEdition three j h small
+
+  network-in : network (networkIn o) ≡ network o
+  unfolding network
+  network-in = rw (body-in 0 (omega arith), body-in 1 (omega arith), body-in 2 (omega arith))
+
+  pub accepted-in : accepted (networkIn o) g ≡ true
+  accepted-in = passed-all (networkIn o) g (record {
+    contents = unfold networkIn in contents-fine networkEdition three small;
+    bodies = unfold networkIn in bodies-fine networkEdition three small;
+    sound = record {
+      nodes-rule = rw (body-in 0 (omega arith)) (p .sound .nodes-rule);
+      coordinates = rw (body-in 0 (omega arith)) (p .sound .coordinates);
+      edges-rule = rw (body-in 1 (omega arith)) (p .sound .edges-rule);
+      some-edge = rw (body-in 0 (omega arith), body-in 1 (omega arith)) (p .sound .some-edge);
+      closed = rw (body-in 1 (omega arith), body-in 2 (omega arith)) (p .sound .closed);
+    };
+    grid = unfold gridBodyBroken in or-false (not (eqb (length (gridBody o)) 2)) (gridBroken g) (p .grid) .1;
+  })
+
+  pub oracle-in : oracle (networkIn o) g ≡ oracle o g
+  oracle-in = oracle-from (networkIn o) g ∙ (rw (network-in, body-in 0 (omega arith), body-in 1 (omega arith), body-in 2 (omega arith)) (sym (oracle-from o g)))
+
+  -- ---- the audit, both ways
+  module _ (work : List ℕ) (enough : wordsNeeded o ≤ length work) where
+    refusal : auditRefusal o work ≡ cond (differsFromBuilt o) 16 0
+    unfolding auditRefusal auditRules wellShaped
+    refusal =
+        first-append (shapeRules o) _ (shape-counted o) (eqb-true _ _ shaped) ∙
+        (unfold firstBroken workTooSmall in rw (le-ltb (length work) (wordsNeeded o) enough))
+
+    pub audit-own : (auditRefusal o work ≡ 0) ↔ (o ≡ oracle o g)
+    audit-own = (λ h. rule16 o .0 (kept (differsFromBuilt o) (sym refusal ∙ h)), λ e. refusal ∙ rw (rule16 o .1 e))
+      where
+        kept : (b : Bool) → _≡_ {A = ℕ} (cond b 16 0) 0 → b ≡ false
+        kept true h = absurd (omega arith)
+        kept false h = refl
+
+-- A built oracle passes the audit, and an oracle that passes was built.
+pub audit-built : (o : Bytes) → wellShaped o ≡ true → (work : List ℕ) → wordsNeeded o ≤ length work
+    → (auditRefusal o work ≡ 0) ↔ ((f : Bytes) × (g : ℕ) × (accepted f g ≡ true) × (o ≡ oracle f g))
+audit-built o shaped work enough = (
+  λ h. (networkIn o, gridNumber (gridBody o), accepted-in o shaped, audit-own o shaped work enough .0 h ∙ sym (oracle-in o shaped)),
+  λ (f, g, ok, e). audit-own o shaped work enough .1 (again f g ok e),
+)
+  where
+    again : (f : Bytes) (g : ℕ) → accepted f g ≡ true → o ≡ oracle f g → o ≡ oracle o (gridNumber (gridBody o))
+    again f g ok e = e ∙ (sym (built-again f g ok) ∙ ap (λ (x : Bytes). oracle x (gridNumber (gridBody x))) (sym e))
+
+pub audit-passes : (f : Bytes) (g : ℕ) → accepted f g ≡ true → (work : List ℕ) → wordsNeeded (oracle f g) ≤ length work → auditRefusal (oracle f g) work ≡ 0
+audit-passes f g ok work enough = audit-built (oracle f g) (built-well-shaped f g ok) work enough .1 (f, g, ok, refl)

@@ -28,6 +28,7 @@ pub mod Shape
 pub mod WellShaped
 pub mod Audits
 pub mod FarBodies
+pub mod FarSums
 pub mod Times
 -- ---- the way
 pub mod Way

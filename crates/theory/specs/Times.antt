@@ -4,10 +4,10 @@ use mathlib.Core.Path.{_≡_, refl, _∙_, ap}
 use mathlib.Core.Bool.{true}
 use Rattle.model.specs.Bytes.{Bytes}
 use Rattle.model.specs.Walk.{Walk}
-use Rattle.model.specs.Distance.{Distance, unreachable, finite, IsLeast}
+use Rattle.model.specs.Distance.{IsLeast}
 use Rattle.model.specs.Network.{network, order, arcs, distance}
 use Rattle.model.specs.Oracle.{oracle}
-use Rattle.model.specs.Query.{answer, distanceOf, kindBetween, timeAnswer}
+use Rattle.model.specs.Query.{distanceOf, kindBetween, timeAnswer}
 use Rattle.model.specs.Rules.{accepted}
 use Rattle.model.specs.declared.Kind.{Kind}
 use Rattle.model.specs.declared.Kind.the-variants.{Far, Local}
@@ -15,11 +15,7 @@ use Rattle.theory.specs.FarModel.{exact}
 use Rattle.theory.specs.Built.{Good, time-far, time-local}
 use Rattle.theory.specs.Passed.{all-passed}
 use Rattle.theory.specs.Accepted.{good}
-
-of-answer : (k : Kind) (n : ℕ) (x : Distance) → distanceOf (answer k n x) ≡ x
-unfolding answer distanceOf
-of-answer k n unreachable = refl
-of-answer k n (finite m) = refl
+use Rattle.theory.specs.FarSums.{distance-of}
 
 module _ (f : Bytes) (g : ℕ) (ok : accepted f g ≡ true) (s t : ℕ) (hs : s < order (network f)) (ht : t < order (network f)) where
   sound : Good f g
@@ -29,8 +25,8 @@ module _ (f : Bytes) (g : ℕ) (ok : accepted f g ≡ true) (s t : ℕ) (hs : s 
   time-exact = step (kindBetween (oracle f g) s t) refl
     where
       step : (k : Kind) → kindBetween (oracle f g) s t ≡ k → distanceOf (timeAnswer (oracle f g) s t) ≡ distance (network f) s t
-      step Far e = ap distanceOf (time-far f g sound s t hs ht e) ∙ of-answer Far _ _
-      step Local e = ap distanceOf (time-local f g sound s t e) ∙ of-answer Local _ _
+      step Far e = ap distanceOf (time-far f g sound s t hs ht e) ∙ distance-of Far _ _
+      step Local e = ap distanceOf (time-local f g sound s t e) ∙ distance-of Local _ _
 
   -- In walks: a time is the least total of all walks from s to t, and with no time there is no walk.
   pub time-least : IsLeast (Walk (arcs (network f)) s t) (distanceOf (timeAnswer (oracle f g) s t))
