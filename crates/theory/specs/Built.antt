@@ -14,7 +14,7 @@ use Rattle.model.specs.Bytes.{Bytes, word16, bytes16}
 use Rattle.model.specs.Contents.{body, file, oracleEdition, nodeBody, edgeBody, closedBody, transitBody, accessBody, tableBody}
 use Rattle.model.specs.Distance.{Distance, plus, sooner, soonest}
 use Rattle.model.specs.Network.{Edge, Network, network, nodes, order, distance}
-use Rattle.model.specs.Grid.{Cell, cells, cellAt, cellOf, gridOver, gridNumber, kindOf, within, gap}
+use Rattle.model.specs.Grid.{Cell, cells, cellAt, cellOf, gridOver, gridNumber, kindOf, within, gap, outerRadius}
 use Rattle.model.specs.Access.{accessNodes, accessLists, transitNodes}
 use Rattle.model.specs.Oracle.{oracle, accessList, accessBytes, tableBytes, transitCount}
 use Rattle.model.specs.Query.{sumBy, farDistance, farAnswer, localAnswer, kindBetween, answer, answerOf, timeAnswer}
@@ -175,20 +175,20 @@ module _ (f : Bytes) (g : ℕ) (good : Good f g) where
       soonest-same _ _ (access-of f g s) (λ a ma. soonest-map _ (entryOf d (transit-of f g) t) (access-of f g t) ∙
       soonest-same _ _ (access-of f g t) (λ b mb. sum-built s t hs ht a b ma mb)))
 
-  pub far-distance : (s t : ℕ) → s < N → t < N → Apart (col (network f) (good .ends) (cells-of f g) (count-cells f g)) (row (network f) (good .ends) (cells-of f g) (count-cells f g)) 4 s t →
+  pub far-distance : (s t : ℕ) → s < N → t < N → Apart (col (network f) (good .ends) (cells-of f g) (count-cells f g)) (row (network f) (good .ends) (cells-of f g) (count-cells f g)) outerRadius s t →
       farDistance (tableBody o) (transitCount (transitBody o)) (accessList (accessBody o) s) (accessList (accessBody o) t) ≡ d s t
   far-distance s t hs ht apart = far-sum s t hs ht ∙ far-model (network f) (good .ends) (cells-of f g) (count-cells f g) s t hs ht apart
 
   -- ---- the time
 
-  apart : (s t : ℕ) → kindOf (cellAt (cells-of f g) s) (cellAt (cells-of f g) t) ≡ Far → Apart (col (network f) (good .ends) (cells-of f g) (count-cells f g)) (row (network f) (good .ends) (cells-of f g) (count-cells f g)) 4 s t
+  apart : (s t : ℕ) → kindOf (cellAt (cells-of f g) s) (cellAt (cells-of f g) t) ≡ Far → Apart (col (network f) (good .ends) (cells-of f g) (count-cells f g)) (row (network f) (good .ends) (cells-of f g) (count-cells f g)) outerRadius s t
   unfolding kindOf within gap
-  apart s t e = step (cellAt (cells-of f g) s) (cellAt (cells-of f g) t) (leb (gap (cellAt (cells-of f g) t .column) (cellAt (cells-of f g) s .column)) 4) (leb (gap (cellAt (cells-of f g) t .row) (cellAt (cells-of f g) s .row)) 4) refl refl e
+  apart s t e = step (cellAt (cells-of f g) s) (cellAt (cells-of f g) t) (leb (gap (cellAt (cells-of f g) t .column) (cellAt (cells-of f g) s .column)) outerRadius) (leb (gap (cellAt (cells-of f g) t .row) (cellAt (cells-of f g) s .row)) outerRadius) refl refl e
     where
-      step : (c e : Cell) (p q : Bool) → leb (gap (e .column) (c .column)) 4 ≡ p → leb (gap (e .row) (c .row)) 4 ≡ q → cond (p && q) Local Far ≡ Far → (4 < gap (c .column) (e .column)) ⊎ (4 < gap (c .row) (e .row))
+      step : (c e : Cell) (p q : Bool) → leb (gap (e .column) (c .column)) outerRadius ≡ p → leb (gap (e .row) (c .row)) outerRadius ≡ q → cond (p && q) Local Far ≡ Far → (outerRadius < gap (c .column) (e .column)) ⊎ (outerRadius < gap (c .row) (e .row))
       step c e true true a b h = absurd (local-far h)
-      step c e true false a b h = inr (let z : 4 < gap (e .row) (c .row) = leb-false _ _ b in omega arith)
-      step c e false q a b h = inl (let z : 4 < gap (e .column) (c .column) = leb-false _ _ a in omega arith)
+      step c e true false a b h = inr (let z : outerRadius < gap (e .row) (c .row) = leb-false _ _ b in omega arith)
+      step c e false q a b h = inl (let z : outerRadius < gap (e .column) (c .column) = leb-false _ _ a in omega arith)
 
   pub time-far : (s t : ℕ) → s < N → t < N → kindBetween o s t ≡ Far → timeAnswer o s t ≡ answer Far (length (access-of f g s) * length (access-of f g t)) (d s t)
   unfolding timeAnswer farAnswer answerOf

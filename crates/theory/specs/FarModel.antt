@@ -18,7 +18,7 @@ use Rattle.model.specs.Grid.{Cell, cellAt, within, innerRadius, outerRadius}
 use Rattle.model.specs.Access.{crossingEnd, crosses, crossings, between, accessNodes}
 use Rattle.theory.specs.Tests.{true-eqb, and}
 use Rattle.theory.specs.Least.{meets-unique}
-use Rattle.theory.specs.Far.{Square, Crossing, Through, through-back}
+use Rattle.theory.specs.Far.{Square, Crossing, Through, Nest, through-back}
 use Rattle.theory.specs.FarGrid.{square, Apart, nest, disjoint, swap}
 use Rattle.theory.specs.FarOver.{over, far-over}
 use Rattle.theory.specs.Members.{filter→, →filter, →any, →map, concatMap→, →concatMap, →member, →upTo, range→}
@@ -159,10 +159,10 @@ module _ (net : Network) (ends : (e : Edge) → List·Memᴰ e (net .edges) → 
         wide : 2 * innerRadius ≤ outerRadius
         wide = omega arith
 
-        ns : Rattle.theory.specs.Far.Nest (sq 0 s) (sq innerRadius s) (sq outerRadius s) s t
+        ns : Nest (sq 0 s) (sq innerRadius s) (sq outerRadius s) s t
         ns = nest col row innerRadius outerRadius s t wide apart
 
-        nt : Rattle.theory.specs.Far.Nest (sq 0 t) (sq innerRadius t) (sq outerRadius t) t s
+        nt : Nest (sq 0 t) (sq innerRadius t) (sq outerRadius t) t s
         nt = nest col row innerRadius outerRadius t s wide (swap col row outerRadius s t apart)
 
         away : (x : ℕ) → sq innerRadius s x ≡ true → sq innerRadius t x ≡ false

@@ -5,6 +5,7 @@ pub mod Members
 pub mod Extremes
 pub mod FileLaws
 pub mod ReadLaws
+pub mod Numbers
 pub mod Signed
 pub mod GridLaws
 -- ---- walks and distances
@@ -18,6 +19,7 @@ pub mod Far
 pub mod FarGrid
 pub mod FarOver
 pub mod FarModel
+pub mod AccessLaws
 pub mod Transit
 -- ---- built oracles
 pub mod Built

@@ -1,5 +1,5 @@
 -- Every oracle built from an accepted network is well-shaped. Assumes nothing.
-use Prim.Native.Nat.{ℕ, _+_, _*_, _/_, _%_, _<_}
+use Prim.Native.Nat.{ℕ, _+_, _*_, _%_, _<_}
 use native.Mathlib.Omega.{arith}
 use native.Mathlib.Nat.{zero-add, mul-assoc}
 use mathlib.Core.Path.{_≡_, refl, sym, _∙_, ap, subst}
@@ -27,14 +27,11 @@ use Rattle.theory.specs.Sound.{ends, costs, few, count-nodes}
 use Rattle.theory.specs.Accepted.{good, g-fits}
 use Rattle.theory.specs.Shape.{gapless-parts, Bounded, value-fine, rising-range, rising-filter, rising-index, any-none, contents-fine, bodies-fine}
 use Rattle.theory.specs.ReadLaws as read
+use Rattle.theory.specs.Numbers.{words-read}
 
 -- ---- lists
 abbrev pair : ℕ → ℕ → ℕ × ℕ
 pair a c = (a, c)
-
-map-id : {A : Type 0} (l : List A) → map (λ x. x) l ≡ l
-map-id [] = refl
-map-id (x ∷ l) = ap (λ r. x ∷ r) (map-id l)
 
 map-map : {A B C : Type 0} (f : B → C) (g : A → B) (l : List A) → map f (map g l) ≡ map (λ x. f (g x)) l
 map-map f g [] = refl
@@ -56,20 +53,6 @@ unfolding concatMap
 flat f t [] = refl
 flat f t (a ∷ l) = rw (concatMap-append (λ p. f (p .0) (p .1)) (map (pair a) t) (concatMap (λ a. map (pair a) t) l), concatMap-map (λ p. f (p .0) (p .1)) (pair a) t, flat f t l)
 
--- 16-bit numbers that were written are read
-words-read : (l : List ℕ) → ((i : ℕ) → i < length l → getD l i 0 < 65536) → words16 (concatMap bytes16 l) ≡ l
-unfolding words16
-words-read l h =
-    let size : (n : ℕ) → length (bytes16 n) ≡ 2 = λ n. unfold bytes16 in refl in
-    let count : length (concatMap bytes16 l) / 2 ≡ length l = omega (arith, read.length-concatMap bytes16 2 size l) in
-    rw count (read.map-range (λ i. word16 (concatMap bytes16 l) (2 * i)) (λ x. x) 0 0 l (λ i q. each i q) ∙ map-id l)
-  where
-    each : (i : ℕ) → i < length l → word16 (concatMap bytes16 l) (2 * (0 + i)) ≡ getD l i 0
-    each i q =
-        let e : 2 * (0 + i) ≡ 2 * i + 0 = omega arith in
-        rw e (read.word16-drop (concatMap bytes16 l) (2 * i) 0 ∙ rw (read.drop-concatMap bytes16 2 (λ n. unfold bytes16 in refl) i l 0 q) (word16-read (getD l i 0) _ (h i q)))
-
--- ---- the rules
 module _ (f : Bytes) (g : ℕ) (ok : Passed f g) where
   abbrev o : Bytes
   o = oracle f g
