@@ -62,7 +62,7 @@ module _ (f : Bytes) (g : ℕ) (ok : accepted f g ≡ true) where
   fine : Good f g
   fine = good f g (all-passed f g ok)
 
-  number : gridNumber (gridBody (oracle f g)) ≡ g
+  pub number : gridNumber (gridBody (oracle f g)) ≡ g
   unfolding gridNumber
   number = rw (bodies-of f g fine 3 (omega arith)) (ap (λ (b : Bytes). word16 b 0) (sym (append-nil (bytes16 g))) ∙ word16-read g [] (fine .g-fits))
 

@@ -35,3 +35,4 @@ pub mod Times
 -- ---- the way
 pub mod Way
 pub mod Ways
+pub mod Demands

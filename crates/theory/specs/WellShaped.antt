@@ -16,7 +16,7 @@ use Rattle.theory.specs.Exact.{dist-bound}
 use Rattle.model.specs.Network.{network, order, arcs, distance, nodeCount, edgeCount, nodesBroken, coordinatesBroken, edgesBroken, someEdgeBroken, numbersBroken}
 use Rattle.model.specs.Grid.{gridNumber}
 use Rattle.model.specs.Access.{accessNodes, transitNodes}
-use Rattle.model.specs.Oracle.{indexes, cellBroken, oracle, value, valueBroken, valueBytes, valueSize, entrySize, listBytes, entryBytes, accessBytes, tableBytes, transitCount, listCount, listPart, accessAt, accessEntry, accessList, gridBodyBroken, entryBroken, listBroken, accessBroken, tableBroken}
+use Rattle.model.specs.Oracle.{indexes, cellBroken, oracle, value, valueBroken, valueBytes, valueSize, entrySize, listBytes, entryBytes, accessBytes, tableBytes, transitCount, listCount, listPart, accessAt, accessEntry, accessList, gridBodyBroken, entryBroken, listBroken, accessBroken, tableBroken, tableEntry}
 use Rattle.model.specs.Rules.{firstBroken, shapeRules, accepted, wellShaped}
 use Rattle.theory.specs.FileLaws.{word16-read}
 use Rattle.theory.specs.Members.{range→, filter→, map→, concatMap→, getD-mem, index-of}
@@ -256,6 +256,17 @@ module _ (f : Bytes) (g : ℕ) (ok : Passed f g) where
     access = rule10;
     table = rule11;
   })
+
+-- ---- what a reader of the oracle finds
+module _ (f : Bytes) (g : ℕ) (ok : Passed f g) where
+  pub transit-read : words16 (transitBody (oracle f g)) ≡ transit-of f g
+  transit-read = ap words16 (bodies-of f g (good f g ok) 4 (omega arith)) ∙ words-read (transit-of f g) (λ i q. omega (arith, transit-node f g ok (getD-mem (transit-of f g) i 0 q), few f (ok .sound)))
+
+  pub table-built : (i j : ℕ) → i < length (transit-of f g) → j < length (transit-of f g)
+      → tableEntry (tableBody (oracle f g)) (transitCount (transitBody (oracle f g))) i j ≡ distance (network f) (getD (transit-of f g) i 0) (getD (transit-of f g) j 0)
+  table-built i j p q =
+      rw (bodies-of f g (good f g ok) 6 (omega arith), count-transit f g (good f g ok))
+      (read.table-read (distance (network f)) (transit-of f g) i j p q (good f g ok .near _ _ (transit-node f g ok (getD-mem (transit-of f g) i 0 p))))
 
 -- The theorem.
 pub built-well-shaped : (f : Bytes) (g : ℕ) → accepted f g ≡ true → wellShaped (oracle f g) ≡ true
