@@ -1,3 +1,8 @@
+-- ---- Dijkstra's method
 pub mod Dijkstra
 pub mod Settle
 pub mod Rounds
+-- ---- the backward marks
+pub mod Marks
+pub mod Pass
+pub mod Searches

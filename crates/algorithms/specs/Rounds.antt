@@ -5,7 +5,7 @@ use native.Mathlib.Nat.{not-suc-le-zero, zero-add}
 use native.Mathlib.Omega.{arith}
 use mathlib.Core.Path.{_≡_, refl, sym, ap, _∙_}
 use mathlib.Core.List.{List, [], _∷_, map, List·Memᴰ}
-use lib.ListN.{length, getD, set, replicate, length-map}
+use lib.ListN.{length, set, replicate, length-map}
 use lib.Seq.{ext-getD}
 use Rattle.model.specs.Lists.{upTo}
 use Rattle.model.specs.Walk.{Arc}

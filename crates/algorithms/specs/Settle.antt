@@ -1,5 +1,5 @@
 -- The order in which Dijkstra's method settles the nodes. Assumes nothing.
-use Prim.Native.Nat.{ℕ, zero, suc, _+_, _≤_, _<_}
+use Prim.Native.Nat.{ℕ, zero, suc, _≤_, _<_}
 use native.Mathlib.Decide.{ℕ-discrete}
 use native.Mathlib.Omega.{arith}
 use mathlib.Core.Path.{_≡_, refl}
@@ -23,7 +23,7 @@ pub record Kept (N : ℕ) (d done order : List ℕ) : Type 0 where
   pub every : (v : ℕ) → v < N → 0 < at done v → List·Memᴰ v order
   pub falls : Falling d order
 
-blank : (n v : ℕ) → at (replicate n 0) v ≤ 0
+pub blank : (n v : ℕ) → at (replicate n 0) v ≤ 0
 blank zero v = omega arith
 blank (suc n) zero = omega arith
 blank (suc n) (suc v) = blank n v
