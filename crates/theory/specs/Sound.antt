@@ -82,7 +82,7 @@ module _ (n : ℕ) (es : List Edge) (fine : (e : Edge) → List·Memᴰ e es →
   arcs-cost = arc-of (λ u v c. c ≤ maxSeconds) es (λ e m. fine e m .at-most) (λ e m. fine e m .at-most)
 
   pub arcs-positive : Positive (concatMap arcsOf es)
-  arcs-positive = arc-of (λ u v c. 0 < c) es (λ e m. fine e m .at-least) (λ e m. fine e m .at-least)
+  arcs-positive = arc-of (λ u v c. 0 < c) es (λ e m. omega (arith, fine e m .at-least)) (λ e m. omega (arith, fine e m .at-least))
 
 -- ---- the network of a file
 pub count-nodes : (f : Bytes) → order (network f) ≡ nodeCount (nodeBody f)
