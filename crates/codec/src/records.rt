@@ -11,11 +11,16 @@ pub const NODE_SIZE: usize = 8;
 
 pub const EDGE_SIZE: usize = 8;
 
+pub const NUMBER_SIZE: usize = 2;
+
+// The farthest a node may lie from the origin, to either side.
+pub const MAX_METRES: u32 = 1000000;
+
 // A coordinate as it stands in the file, with 1,000,000 added.
 fn shifted(raw: u32) -> u32
     ensures { λ r. ⌜ r ≡ coordinate raw ⌝ }
 {
-    std::num::wrapping_add_u32(raw, 1000000)
+    std::num::wrapping_add_u32(raw, MAX_METRES)
 }
 
 pub fn node_x(b: &[u8], i: usize) -> u32
@@ -58,5 +63,5 @@ pub fn number(b: &[u8], i: usize) -> usize
     requires { ⌜ 2 * i + 2 ≤ length (now b) ⌝ }
     ensures { λ r. ⌜ (r ≡ word16 (now (b .entry)) (2 * i)) × (r < 65536) ⌝ }
 {
-    read16(b, 2 * i) as usize
+    read16(b, NUMBER_SIZE * i) as usize
 }

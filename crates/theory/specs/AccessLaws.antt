@@ -61,7 +61,7 @@ module _ (net : Network) (ends : (e : Edge) → List·Memᴰ e (net .edges) → 
   unfolding between
   between-walks p q a hp ha = (
     λ h. let s = adds (distance net p a) (distance net a q) (distance net p q) h in
-    record { i = s .i; j = s .j; before = least-of hp (s .first); after = least-of ha (s .second); whole = least-of hp (s .whole) },
+        record { i = s .i; j = s .j; before = least-of hp (s .first); after = least-of ha (s .second); whole = least-of hp (s .whole) },
     λ o. unfold agree plus in rw (of-least hp (o .before), of-least ha (o .after), of-least hp (o .whole)) (true-eqb {m = o .i + o .j} refl),
   )
 

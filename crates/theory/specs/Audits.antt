@@ -89,8 +89,16 @@ module _ (o : Bytes) (shaped : wellShaped o ≡ true) where
   small : length (file networkEdition three) < 4294967296
   unfolding entryAt concat
   small =
-      omega (arith, length-file networkEdition three, node-bytes o (p .sound), edge-bytes o (p .sound), closed-bytes o (p .sound),
-      length-append (nodeBody o) (edgeBody o ++ (closedBody o ++ [])), length-append (edgeBody o) (closedBody o ++ []), length-append (closedBody o) [])
+      omega (
+        arith,
+        length-file networkEdition three,
+        node-bytes o (p .sound),
+        edge-bytes o (p .sound),
+        closed-bytes o (p .sound),
+        length-append (nodeBody o) (edgeBody o ++ (closedBody o ++ [])),
+        length-append (edgeBody o) (closedBody o ++ []),
+        length-append (closedBody o) [],
+      )
 
   body-in : (j : ℕ) → j < 3 → body (networkIn o) j ≡ getD three j []
   unfolding networkIn

@@ -152,4 +152,3 @@ module _ (f : Bytes) (ok : Sound f) where
       let count : length ws ≡ length (closedBody f) / 2 = length-map (upTo (length (closedBody f) / 2)) _ ∙ length-range 0 (length (closedBody f) / 2) in
       let most : length ws ≤ m = few-rising m ws (not-false (q .1)) (p .1) in
       omega (arith, edge-bytes .0)
-
