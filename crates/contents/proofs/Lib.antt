@@ -1,0 +1,4 @@
+mod Head
+mod Steps
+mod Joins
+mod Bodies

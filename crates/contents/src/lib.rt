@@ -1,0 +1,151 @@
+// The contents of a file, held as one record: reading it entry by entry, rules 1 and 2, and the bodies as parts of the file.
+ghost use mathlib.Core.Path.{_≡_};
+ghost use Prim.Native.Nat.{_+_, _<_, _≤_};
+ghost use lib.ListN.{length};
+ghost use Rattle.model.specs.Contents.{entryAt, contentsBroken, bodiesBroken, body, oracleEntries};
+ghost use Rattle.contents.specs.Reading.{held, noContents, readNext, contentsOf, InRange, HasBody};
+use codec::bytes::byte;
+use codec::bytes::read32;
+
+pub const NETWORK_EDITION: u32 = 1;
+
+pub const NETWORK_ENTRIES: usize = 3;
+
+pub const ORACLE_EDITION: u32 = 1;
+
+pub const ORACLE_ENTRIES: usize = 7;
+
+// The edition and the number of entries stand before the entries.
+pub const HEAD_SIZE: usize = 2;
+
+pub const ENTRY_SIZE: usize = 9;
+
+// "Kind (1 byte), offset from the file's start (4), length (4)."
+pub struct Entry {
+    pub kind: u8,
+    pub offset: u32,
+    pub size: u32,
+}
+
+// The entries read so far, and where their bodies end, so where the next body is to start.
+pub struct Contents {
+    pub entries: [Entry; ORACLE_ENTRIES],
+    pub count: usize,
+    pub end: usize,
+}
+
+// Where entry k stands.
+pub fn entry_at(k: usize) -> usize
+    requires { ⌜ k ≤ oracleEntries ⌝ }
+    ensures { λ r. ⌜ r ≡ entryAt k ⌝ }
+{
+    HEAD_SIZE + ENTRY_SIZE * k
+}
+
+fn read_entry(f: &[u8], k: usize) -> Entry
+    requires { ⌜ (k < oracleEntries) × (entryAt (k + 1) ≤ length (now f)) ⌝ }
+    ensures { λ r. ⌜ r ≡ held (now (f .entry)) k ⌝ }
+{
+    let at = entry_at(k);
+    let offset = read32(f, at + 1);
+    let size = read32(f, at + 5);
+    Entry {
+        kind: f[at],
+        offset,
+        size,
+    }
+}
+
+// Rule 1.
+pub fn contents_broken(edition: u32, entries: usize, f: &[u8]) -> bool
+    requires { ⌜ entries ≤ oracleEntries ⌝ }
+    ensures { λ r. ⌜ r ≡ contentsBroken edition entries (now (f .entry)) ⌝ }
+{
+    if f.len() < HEAD_SIZE {
+        return true;
+    }
+    if byte(f, 0) != edition {
+        return true;
+    }
+    if byte(f, 1) as usize != entries {
+        return true;
+    }
+    f.len() < entry_at(entries)
+}
+
+impl Contents {
+    // No entry yet. The first body is to follow the contents directly.
+    pub fn new(entries: usize) -> Contents
+        requires { ⌜ entries ≤ oracleEntries ⌝ }
+        ensures { λ r. ⌜ r ≡ noContents entries ⌝ }
+    {
+        let none = Entry {
+            kind: 0,
+            offset: 0,
+            size: 0,
+        };
+        let slots = [none; ORACLE_ENTRIES];
+        let end = entry_at(entries);
+        Contents {
+            entries: slots,
+            count: 0,
+            end,
+        }
+    }
+
+    // With one entry more, where that is of its kind and its body follows the one before; else as it was, so that
+    // the count tells where reading stopped.
+    pub fn next(mut self, f: &[u8]) -> Contents
+        requires { ⌜ (self .count < oracleEntries) × (entryAt (self .count + 1) ≤ length (now f)) × InRange self ⌝ }
+        ensures { λ r. ⌜ (r ≡ readNext (now (f .entry)) self) × InRange r ⌝ }
+    {
+        let k = self.count;
+        let e = read_entry(f, k);
+        if e.kind as usize != k + 1 {
+            return self;
+        }
+        if e.offset as usize != self.end {
+            return self;
+        }
+        self.entries[k] = e;
+        self.count = k + 1;
+        self.end += e.size as usize;
+        self
+    }
+
+    // Rule 2.
+    pub fn bodies_broken(self, entries: usize, f: &[u8]) -> bool
+        requires { ⌜ self ≡ contentsOf entries (now f) ⌝ }
+        ensures { λ r. ⌜ r ≡ bodiesBroken entries (now (f .entry)) ⌝ }
+    {
+        if self.count != entries {
+            return true;
+        }
+        self.end != f.len()
+    }
+
+    // Body k, from 0, of a file that keeps rule 2: the part from its offset to its end.
+    pub fn body(self, f: &[u8], k: usize) -> &[u8]
+        requires { ⌜ HasBody (now f) self k ⌝ }
+        ensures { λ r. ⌜ now r ≡ body (now (f .entry)) k ⌝ }
+    {
+        let e = self.entries[k];
+        let start = e.offset as usize;
+        let end = start + e.size as usize;
+        &f[start..end]
+    }
+}
+
+// The contents of a file that keeps rule 1, read up to the first entry that breaks rule 2.
+pub fn read(entries: usize, f: &[u8]) -> Contents
+    requires { ⌜ (entries ≤ oracleEntries) × (entryAt entries ≤ length (now f)) ⌝ }
+    ensures { λ r. ⌜ r ≡ contentsOf entries (now (f .entry)) ⌝ }
+{
+    let mut c = Contents::new(entries);
+    let mut i = 0;
+    while i < entries {
+        c = c.next(f);
+        i += 1;
+    }
+    c
+}
