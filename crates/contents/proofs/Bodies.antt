@@ -11,7 +11,7 @@ use Rattle.model.specs.Bytes.{Bytes, cut}
 use Rattle.model.specs.Contents.{bodyPart, body, oracleEntries}
 use Rattle.theory.specs.Tests.{both}
 use Rattle.contents.specs.Reading.{noEntry, held, noContents, extended, readNext, readSteps, contentsOf, HasBody}
-use Rattle.contents.specs.Joined.{body-within}
+use Rattle.theory.specs.Joined.{body-within}
 use Rattle.contents.specs.declared.Entry.{Entry}
 use Rattle.contents.specs.declared.Contents.{Contents}
 use Rattle.contents.proofs.Steps.{either, count-next}

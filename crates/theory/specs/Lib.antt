@@ -6,6 +6,7 @@ pub mod Extremes
 pub mod FileLaws
 pub mod ReadLaws
 pub mod Numbers
+pub mod Joined
 pub mod Signed
 pub mod GridLaws
 -- ---- walks and distances
