@@ -13,6 +13,20 @@ pub const EDGE_SIZE: usize = 8;
 
 pub const NUMBER_SIZE: usize = 2;
 
+// A distance in the lists and in the table: its size, the value that means 'no walk', and the greatest of the others.
+pub const VALUE_SIZE: usize = 4;
+
+pub const NO_WALK: u32 = 4294967295;
+
+pub const MAX_VALUE: u32 = 409500000;
+
+// Where a list starts, its count, and an entry of it: an index and a distance.
+pub const START_SIZE: usize = 4;
+
+pub const COUNT_SIZE: usize = 2;
+
+pub const LIST_ENTRY_SIZE: usize = NUMBER_SIZE + VALUE_SIZE;
+
 // The farthest a node may lie from the origin, to either side.
 pub const MAX_METRES: u32 = 1000000;
 

@@ -1,3 +1,7 @@
+-- The laws that the proofs cite.
 mod Flags
 mod Scan
 mod Climb
+mod TableLaws
+mod AccessLayout
+mod AccessEntries

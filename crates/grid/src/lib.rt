@@ -1,0 +1,127 @@
+// The grid over the nodes: the cell of each node, the squares about a cell, and which cells are far.
+ghost use mathlib.Core.Path.{_≡_};
+ghost use mathlib.Core.Bool.{not, false};
+ghost use Prim.Native.Nat.{_<_};
+ghost use Rattle.model.specs.Network.{node, nodes, nodeCount, nodesBroken};
+ghost use Rattle.model.specs.Grid.{gridOver, cellIndex, cellOf, gap, within, kindOf, innerRadius, outerRadius};
+ghost use Rattle.grid.specs.Stored.{gridOf, modelCell, Over, Holds};
+use crate::span::Span;
+use crate::span::larger;
+use codec::records::node_x;
+use codec::records::node_y;
+use model::Kind;
+
+mod span;
+
+// g × g cells from the least x and the least y on, which the larger of the two spreads is divided into.
+pub struct Grid {
+    pub g: u32,
+    pub left: u32,
+    pub bottom: u32,
+    pub spread: u32,
+}
+
+pub struct Cell {
+    pub column: u32,
+    pub row: u32,
+}
+
+// By how much two columns or two rows differ.
+fn difference(x: u32, y: u32) -> u32
+    ensures { λ r. ⌜ r ≡ gap x y ⌝ }
+{
+    if x < y { y - x } else { x - y }
+}
+
+impl Grid {
+    // The radii of the squares of 5 × 5 and of 9 × 9 cells about a cell.
+    pub const INNER: u32 = 2;
+
+    pub const OUTER: u32 = 4;
+
+    pub fn inner_radius() -> u32
+        ensures { λ r. ⌜ r ≡ innerRadius ⌝ }
+    {
+        Grid::INNER
+    }
+
+    pub fn outer_radius() -> u32
+        ensures { λ r. ⌜ r ≡ outerRadius ⌝ }
+    {
+        Grid::OUTER
+    }
+
+    pub fn over(b: &[u8], g: u32) -> Grid
+        requires { ⌜ nodesBroken (now b) ≡ false ⌝ }
+        ensures { λ r. ⌜ gridOf r ≡ gridOver g (nodes (now (b .entry))) ⌝ }
+    {
+        let across = Span::over(b, false);
+        let up = Span::over(b, true);
+        let left = across.low;
+        let bottom = up.low;
+        let spread = larger(across.high - left, up.high - bottom);
+        Grid {
+            g,
+            left,
+            bottom,
+            spread,
+        }
+    }
+
+    // The column or the row of a coordinate, in the direction that begins at `from`.
+    fn index(self, from: u32, x: u32) -> u32
+        requires { ⌜ Holds self from x ⌝ }
+        ensures { λ r. ⌜ (r ≡ cellIndex (gridOf self) from x) × (r < self .g) ⌝ }
+    {
+        (x - from) * self.g / (self.spread + 1)
+    }
+
+    pub fn column(self, x: u32) -> u32
+        requires { ⌜ Holds self (self .left) x ⌝ }
+        ensures { λ r. ⌜ (r ≡ cellIndex (gridOf self) (gridOf self .left) x) × (r < self .g) ⌝ }
+    {
+        self.index(self.left, x)
+    }
+
+    pub fn row(self, y: u32) -> u32
+        requires { ⌜ Holds self (self .bottom) y ⌝ }
+        ensures { λ r. ⌜ (r ≡ cellIndex (gridOf self) (gridOf self .bottom) y) × (r < self .g) ⌝ }
+    {
+        self.index(self.bottom, y)
+    }
+
+    pub fn cell(self, b: &[u8], i: usize) -> Cell
+        requires { ⌜ Over self (now b) × (i < nodeCount (now b)) ⌝ }
+        ensures { λ r. ⌜ modelCell r ≡ cellOf (gridOf self) (node (now (b .entry)) i) ⌝ }
+    {
+        let x = node_x(b, i);
+        let y = node_y(b, i);
+        Cell {
+            column: self.column(x),
+            row: self.row(y),
+        }
+    }
+
+    // The cell e is in the square of radius r about the cell c.
+    pub fn within(r: u32, c: Cell, e: Cell) -> bool
+        ensures { λ w. ⌜ w ≡ within r (modelCell c) (modelCell e) ⌝ }
+    {
+        difference(e.column, c.column) <= r && difference(e.row, c.row) <= r
+    }
+
+    pub fn is_far(c: Cell, e: Cell) -> bool
+        ensures { λ r. ⌜ r ≡ not (within outerRadius (modelCell c) (modelCell e)) ⌝ }
+    {
+        !Grid::within(Grid::OUTER, c, e)
+    }
+
+    pub fn kind(c: Cell, e: Cell) -> Kind
+        ensures { λ r. ⌜ r ≡ kindOf (modelCell c) (modelCell e) ⌝ }
+    {
+        if Grid::is_far(c, e) {
+            Kind::Far
+        } else {
+            Kind::Local
+        }
+    }
+}

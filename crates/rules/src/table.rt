@@ -1,0 +1,38 @@
+// Rule 11, and the range of a value, which rule 10 asks for too.
+ghost use mathlib.Core.Path.{_≡_};
+ghost use Prim.Native.Nat.{_+_, _≤_};
+ghost use lib.ListN.{length};
+ghost use Rattle.model.specs.Network.{maxNodes};
+ghost use Rattle.model.specs.Oracle.{valueSize, valueBroken, tableBroken};
+use codec::bytes::read32;
+use codec::records::MAX_VALUE;
+use codec::records::NO_WALK;
+use codec::records::VALUE_SIZE;
+
+// The value at i is out of range.
+pub fn value_broken(b: &[u8], i: usize) -> bool
+    requires { ⌜ i + valueSize ≤ length (now b) ⌝ }
+    ensures { λ r. ⌜ r ≡ valueBroken (now (b .entry)) i ⌝ }
+{
+    let v = read32(b, i);
+    v != NO_WALK && MAX_VALUE < v
+}
+
+// "A table not of 4 × T × T bytes, or a value out of range."
+pub fn table_broken(transit: usize, b: &[u8]) -> bool
+    requires { ⌜ transit ≤ maxNodes ⌝ }
+    ensures { λ r. ⌜ r ≡ tableBroken transit (now (b .entry)) ⌝ }
+{
+    let values = transit * transit;
+    if b.len() != VALUE_SIZE * values {
+        return true;
+    }
+    let mut i = 0;
+    while i < values {
+        if value_broken(b, VALUE_SIZE * i) {
+            return true;
+        }
+        i += 1;
+    }
+    false
+}
