@@ -43,6 +43,20 @@ first-append (r ∷ xs) ys c h = step (r .broken) (both {b = ltb 0 (r .number)} 
     step true k e rest = let z : 0 < r .number = ltb-true 0 (r .number) (k .0) in absurd (omega arith)
     step false k e rest = rest (k .1) e
 
+-- A broken rule is the first broken one of a longer list too.
+pub first-stays : (xs ys : List Rule) → (firstBroken xs ≡ 0 → ⊥) → firstBroken (xs ++ ys) ≡ firstBroken xs
+unfolding firstBroken
+first-stays [] ys h = absurd (h refl)
+first-stays (r ∷ xs) ys h = step (r .broken) h (λ k. first-stays xs ys k)
+  where
+    step : (b : Bool) → (cond b (r .number) (firstBroken xs) ≡ 0 → ⊥) → ((firstBroken xs ≡ 0 → ⊥) → firstBroken (xs ++ ys) ≡ firstBroken xs) → cond b (r .number) (firstBroken (xs ++ ys)) ≡ cond b (r .number) (firstBroken xs)
+    step true h rest = refl
+    step false h rest = rest h
+
+pub network-counted : (edition entries : ℕ) (f : Bytes) → counted (networkRules edition entries f) ≡ true
+unfolding counted networkRules
+network-counted edition entries f = refl
+
 pub shape-counted : (o : Bytes) → counted (shapeRules o) ≡ true
 unfolding counted shapeRules networkRules
 shape-counted o = refl
@@ -56,13 +70,13 @@ pub record Sound (f : Bytes) : Type 0 where
   pub closed : numbersBroken (edgeCount (edgeBody f)) (closedBody f) ≡ false
 
 -- Rules 1 to 7, and what is left of a longer list of rules.
-record Rest (edition entries : ℕ) (f : Bytes) (rs : List Rule) : Type 0 where
-  contents : contentsBroken edition entries f ≡ false
-  bodies : bodiesBroken entries f ≡ false
-  sound : Sound f
-  rest : firstBroken rs ≡ 0
+pub record Rest (edition entries : ℕ) (f : Bytes) (rs : List Rule) : Type 0 where
+  pub contents : contentsBroken edition entries f ≡ false
+  pub bodies : bodiesBroken entries f ≡ false
+  pub sound : Sound f
+  pub rest : firstBroken rs ≡ 0
 
-network-passed : (edition entries : ℕ) (f : Bytes) (rs : List Rule) → firstBroken (networkRules edition entries f ++ rs) ≡ 0 → Rest edition entries f rs
+pub network-passed : (edition entries : ℕ) (f : Bytes) (rs : List Rule) → firstBroken (networkRules edition entries f ++ rs) ≡ 0 → Rest edition entries f rs
 unfolding networkRules
 network-passed edition entries f rs e0 =
     let p1 = passed 1 (contentsBroken edition entries f) _ (omega arith) e0 in

@@ -36,6 +36,16 @@ few-rising : (m : ℕ) (l : List ℕ) → rising l ≡ true → any (leb m) l �
 few-rising m [] h a = omega arith
 few-rising m (x ∷ l) h a = omega (arith, rising-few m x l h a)
 
+-- Numbers that keep rule 7 or 9 are no more than what they may name.
+pub few-numbers : (m : ℕ) (b : Bytes) → numbersBroken m b ≡ false → length b / 2 ≤ m
+unfolding numbersBroken words16
+few-numbers m b h =
+    let ws : List ℕ = words16 b in
+    let p = or-false (not (eqb (length b % 2) 0) || not (rising ws)) (any (leb m) ws) h in
+    let q = or-false (not (eqb (length b % 2) 0)) (not (rising ws)) (p .0) in
+    let count : length ws ≡ length b / 2 = length-map (upTo (length b / 2)) _ ∙ length-range 0 (length b / 2) in
+    omega (arith, few-rising m ws (not-false (q .1)) (p .1))
+
 -- ---- open edges
 -- An edge that keeps rule 6.
 pub record Fine (n : ℕ) (e : Edge) : Type 0 where
@@ -142,13 +152,8 @@ module _ (f : Bytes) (ok : Sound f) where
       (a, omega arith)
 
   pub closed-bytes : length (closedBody f) ≤ 32768
-  unfolding numbersBroken words16
+  unfolding numbersBroken
   closed-bytes =
-      let ws = words16 (closedBody f) in
-      let m = edgeCount (edgeBody f) in
-      let p = or-false (not (eqb (length (closedBody f) % 2) 0) || not (rising ws)) (any (leb m) ws) (ok .closed) in
-      let q = or-false (not (eqb (length (closedBody f) % 2) 0)) (not (rising ws)) (p .0) in
-      let even : length (closedBody f) % 2 ≡ 0 = eqb-true _ _ (not-false (q .0)) in
-      let count : length ws ≡ length (closedBody f) / 2 = length-map (upTo (length (closedBody f) / 2)) _ ∙ length-range 0 (length (closedBody f) / 2) in
-      let most : length ws ≤ m = few-rising m ws (not-false (q .1)) (p .1) in
-      omega (arith, edge-bytes .0)
+      let even = or-false (not (eqb (length (closedBody f) % 2) 0) || not (rising (words16 (closedBody f)))) (any (leb (edgeCount (edgeBody f))) (words16 (closedBody f))) (ok .closed) .0 in
+      let e : length (closedBody f) % 2 ≡ 0 = eqb-true _ _ (not-false (or-false (not (eqb (length (closedBody f) % 2) 0)) (not (rising (words16 (closedBody f)))) even .0)) in
+      omega (arith, few-numbers (edgeCount (edgeBody f)) (closedBody f) (ok .closed), edge-bytes .0)

@@ -1,0 +1,65 @@
+// The rules of whole files.
+ghost use mathlib.Core.Path.{_≡_};
+ghost use Prim.Native.Nat.{_≤_};
+ghost use Rattle.model.specs.Contents.{networkEntries, oracleEdition, oracleEntries};
+ghost use Rattle.model.specs.Rules.{firstBroken, networkRules, acceptRules, shapeRules};
+use crate::bodies::network_bodies;
+use crate::bodies::oracle_bodies;
+use codec::records::NODE_SIZE;
+use contents::NETWORK_EDITION;
+use contents::NETWORK_ENTRIES;
+use contents::ORACLE_EDITION;
+use contents::ORACLE_ENTRIES;
+use contents::contents_broken;
+use contents::read;
+use rules::grid::grid_broken;
+
+// Rules 1 to 7, of a network or an oracle.
+fn network_refusal(edition: u32, entries: usize, f: &[u8]) -> u32
+    requires { ⌜ (networkEntries ≤ entries) × (entries ≤ oracleEntries) ⌝ }
+    ensures { λ r. ⌜ r ≡ firstBroken (networkRules edition entries (now (f .entry))) ⌝ }
+{
+    if contents_broken(edition, entries, f) {
+        return 1;
+    }
+    let c = read(entries, f);
+    if c.bodies_broken(entries, f) {
+        return 2;
+    }
+    network_bodies(c.body(f, 0), c.body(f, 1), c.body(f, 2))
+}
+
+// The rules that building checks before 14.
+pub fn accept_refusal(f: &[u8], g: u32) -> u32
+    ensures { λ r. ⌜ r ≡ firstBroken (acceptRules (now (f .entry)) g) ⌝ }
+{
+    let r = network_refusal(NETWORK_EDITION, NETWORK_ENTRIES, f);
+    if r != 0 {
+        return r;
+    }
+    if grid_broken(g) {
+        return 8;
+    }
+    0
+}
+
+// Rules 8 to 11 of an oracle that keeps 1 to 7.
+fn oracle_refusal(o: &[u8]) -> u32
+    requires { ⌜ firstBroken (networkRules oracleEdition oracleEntries (now o)) ≡ 0 ⌝ }
+    ensures { λ r. ⌜ r ≡ firstBroken (shapeRules (now (o .entry))) ⌝ }
+{
+    let c = read(ORACLE_ENTRIES, o);
+    let n = c.body(o, 0).len() / NODE_SIZE;
+    oracle_bodies(n, c.body(o, 3), c.body(o, 4), c.body(o, 5), c.body(o, 6))
+}
+
+// The rules of an oracle that every call over it checks first.
+pub fn shape_refusal(o: &[u8]) -> u32
+    ensures { λ r. ⌜ r ≡ firstBroken (shapeRules (now (o .entry))) ⌝ }
+{
+    let r = network_refusal(ORACLE_EDITION, ORACLE_ENTRIES, o);
+    if r != 0 {
+        return r;
+    }
+    oracle_refusal(o)
+}
