@@ -1,0 +1,39 @@
+-- What the rules say of the bodies that a search goes by. Assumes nothing.
+use Prim.Native.Nat.{ℕ, _%_, _<_}
+use native.Mathlib.Omega.{arith}
+use mathlib.Core.Path.{_≡_, refl}
+use mathlib.Core.Bool.{false, not, _||_}
+use mathlib.Core.List.{[]}
+use lib.Dec.{eqb, leb}
+use lib.ListN.{length}
+use Rattle.model.specs.Lists.{any, rising, member, upTo}
+use Rattle.model.specs.Bytes.{Bytes, words16}
+use Rattle.model.specs.Network.{edge, edgeCount, isOpen, openEdges, maxSeconds, someEdgeBroken, numbersBroken}
+use Rattle.theory.specs.Members.{→map, →filter, →upTo}
+use Rattle.theory.specs.Passed.{or-false, not-false}
+use Rattle.theory.specs.Sound as sound
+use Rattle.theory.specs.Walks.{Within, Costs}
+use Rattle.arcs.specs.Arcs.{arcsIn}
+use Rattle.arcs.proofs.Ahead.{Ahead}
+
+module _ (n : ℕ) (b : Bytes) (h : someEdgeBroken n b ≡ false) where
+  pub edge-fine : (i : ℕ) → i < edgeCount b → sound.Fine n (edge b i)
+  unfolding openEdges isOpen member
+  edge-fine i l = sound.open-fine n b [] h (edge b i) (→map (edge b) _ (→filter (isOpen []) (upTo (edgeCount b)) (→upTo (edgeCount b) i l) refl))
+
+  module _ (closed : Bytes) where
+    pub arcs-within : Within n (arcsIn b closed)
+    unfolding arcsIn
+    arcs-within = sound.arcs-within n (openEdges b (words16 closed)) (sound.open-fine n b (words16 closed) h)
+
+    pub arcs-cost : Costs maxSeconds (arcsIn b closed)
+    unfolding arcsIn
+    arcs-cost = sound.arcs-cost n (openEdges b (words16 closed)) (sound.open-fine n b (words16 closed) h)
+
+-- The closed edges rise, and none of them is passed.
+pub all-ahead : (limit : ℕ) (b : Bytes) → numbersBroken limit b ≡ false → Ahead 0 (words16 b)
+unfolding numbersBroken
+all-ahead limit b h =
+    let p = or-false (not (eqb (length b % 2) 0) || not (rising (words16 b))) (any (leb limit) (words16 b)) h in
+    let q = or-false (not (eqb (length b % 2) 0)) (not (rising (words16 b))) (p .0) in
+    record { rises = not-false (q .1); from = λ x m. omega arith }

@@ -1,0 +1,4 @@
+-- The laws that the proofs cite, and that callers cite too.
+pub mod Leaving
+pub mod Ahead
+pub mod Bodies

@@ -1,0 +1,2 @@
+-- The laws that the proofs cite; `Members` has those for callers.
+pub mod Members

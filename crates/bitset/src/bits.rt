@@ -1,0 +1,25 @@
+// The settled set: one bit for each node, in 32-bit words.
+ghost use mathlib.Core.Path.{_≡_};
+ghost use mathlib.Core.Bool.{_||_};
+ghost use Prim.Native.Nat.{ℕ, _/_, _<_};
+ghost use lib.Dec.{eqb};
+ghost use lib.ListN.{length};
+ghost use Rattle.bitset.specs.Bits.{wordBits, isIn, insertIn};
+
+const WORD_BITS: usize = 32;
+
+pub fn contains(s: &[u32], v: usize) -> bool
+    requires { ⌜ v / wordBits < length (now s) ⌝ }
+    ensures { λ r. ⌜ r ≡ isIn (now (s .entry)) v ⌝ }
+{
+    (s[v / WORD_BITS] >> (v % WORD_BITS)) & 1 == 1
+}
+
+// The set then has v, and of the others those that it had.
+pub fn insert(s: &mut [u32], v: usize)
+    requires { ⌜ v / wordBits < length (now s) ⌝ }
+    ensures words { λ _. ⌜ now (s .exit) ≡ insertIn (now (s .entry)) v ⌝ }
+    ensures members { λ _. ⌜ ((w : ℕ) → isIn (now (s .exit)) w ≡ (eqb w v || isIn (now (s .entry)) w)) ⌝ }
+{
+    s[v / WORD_BITS] = s[v / WORD_BITS] | (1u32 << (v % WORD_BITS));
+}

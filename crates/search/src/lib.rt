@@ -1,0 +1,4 @@
+// The search from one node inside lent words.
+pub mod nearest;
+pub mod regions;
+pub mod search;
