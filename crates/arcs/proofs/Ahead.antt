@@ -7,40 +7,24 @@ use native.Mathlib.Omega.{arith}
 use mathlib.Core.Path.{_≡_, refl, sym, _∙_}
 use mathlib.Core.Logic.{⊎-elim}
 use mathlib.Core.Bool.{Bool, true, false}
-use mathlib.Core.List.{List, [], _∷_, map, List·Memᴰ, List·Memᴰ·head, List·Memᴰ·not-nil, List·Memᴰ·cases-cons}
+use mathlib.Core.List.{List, _∷_, map, List·Memᴰ, List·Memᴰ·head, List·Memᴰ·not-nil, List·Memᴰ·cases-cons}
 use borrow.Author.Tests.{lt-ltb, ltb-true, eqb-true, eqb-false, ne-eqb, eq-eqb}
 use lib.Dec.{ltb, eqb}
 use lib.ListN.{length, drop, length-map, drop-of-length-le}
 use lib.Seq.{drop-cons}
-use Rattle.model.specs.Lists.{range, filter, concatMap, member, rising, upTo}
+use Rattle.model.specs.Lists.{range, filter, member, rising, upTo}
 use Rattle.model.specs.Bytes.{Bytes, word16, words16}
-use Rattle.model.specs.Walk.{Arc}
-use Rattle.model.specs.Network.{edge, edgeCount, isOpen, openEdges, arcsOf}
+use Rattle.model.specs.Network.{Edge, edge, edgeCount, isOpen, openEdges}
 use Rattle.theory.specs.Tests.{both, refuted}
 use Rattle.theory.specs.Members.{member→}
+use Rattle.theory.specs.Shape.{rising-tail, rising-above}
 use Rattle.theory.specs.RangeLaws.{rest, rest-step, rest-end, rest-all, length-range, getD-map-range}
-use Rattle.algorithms.specs.Dijkstra.{relax-all}
-use Rattle.arcs.specs.Arcs.{arcsIn, leaving, closedAt}
-use Rattle.arcs.proofs.Leaving.{relax-leaving}
+use Rattle.arcs.specs.Arcs.{overEdges, closedAt}
 
 -- What is left of the closed edges when the edges below i are passed.
 pub record Ahead (i : ℕ) (l : List ℕ) : Type 0 where
   pub rises : rising l ≡ true
   pub from : (x : ℕ) → List·Memᴰ x l → i ≤ x
-
--- ---- a rising list
-rising-tail : (x : ℕ) (l : List ℕ) → rising (x ∷ l) ≡ true → rising l ≡ true
-unfolding rising
-rising-tail x [] h = refl
-rising-tail x (y ∷ l) h = both {b = ltb x y} h .1
-
-rising-above : (x : ℕ) (l : List ℕ) → rising (x ∷ l) ≡ true → (z : ℕ) → List·Memᴰ z l → x < z
-unfolding rising
-rising-above x [] h z m = absurd (List·Memᴰ·not-nil m)
-rising-above x (y ∷ l) h z m =
-    let p = both {b = ltb x y} h in
-    let lt : x < y = ltb-true x y (p .0) in
-    ⊎-elim (λ e. omega arith) (λ k. omega (arith, rising-above y l (p .1) z k)) (List·Memᴰ·cases-cons m)
 
 -- ---- one edge passed, closed or open
 filter-from : (p q : ℕ → Bool) (s k : ℕ) → ((x : ℕ) → s ≤ x → p x ≡ q x) → filter p (range s k) ≡ filter q (range s k)
@@ -66,26 +50,25 @@ module _ (i : ℕ) (l : List ℕ) where
         let e : member i l ≡ false = refuted (λ e. omega (arith, g i (member→ i l e))) in
         rw (rest-step i n h, e)
 
--- ---- the arcs of the open edges from i on
-abbrev pub arcsFrom : Bytes → List ℕ → ℕ → List Arc
-arcsFrom b l i = concatMap arcsOf (map (edge b) (filter (isOpen l) (rest i (edgeCount b))))
+-- ---- the open edges from i on
+abbrev pub edgesFrom : Bytes → List ℕ → ℕ → List Edge
+edgesFrom b l i = map (edge b) (filter (isOpen l) (rest i (edgeCount b)))
 
-module _ (b : Bytes) (l : List ℕ) (i : ℕ) (u d : ℕ) (t : List ℕ) where
-  turn-closed : i < edgeCount b → relax-all d (leaving u (arcsFrom b (i ∷ l) i)) t ≡ relax-all d (leaving u (arcsFrom b l (i + 1))) t
+module _ {S : Type 0} (f : Edge → S → S) (b : Bytes) (l : List ℕ) (i : ℕ) (s : S) where
+  turn-closed : i < edgeCount b → overEdges f (edgesFrom b (i ∷ l) i) s ≡ overEdges f (edgesFrom b l (i + 1)) s
   turn-closed h = rw (filter-closed i l (edgeCount b) h)
 
-  turn-open : i < edgeCount b → ((x : ℕ) → List·Memᴰ x l → i < x)
-      → relax-all d (leaving u (arcsFrom b l i)) t ≡ relax-all d (leaving u (arcsFrom b l (i + 1))) (relax-all d (leaving u (arcsOf (edge b i))) t)
-  unfolding concatMap
-  turn-open h g = rw (filter-open i l (edgeCount b) h g) (relax-leaving u d (arcsOf (edge b i)) (arcsFrom b l (i + 1)) t)
+  turn-open : i < edgeCount b → ((x : ℕ) → List·Memᴰ x l → i < x) → overEdges f (edgesFrom b l i) s ≡ overEdges f (edgesFrom b l (i + 1)) (f (edge b i) s)
+  unfolding overEdges
+  turn-open h g = rw (filter-open i l (edgeCount b) h g)
 
-  turn-last : edgeCount b ≤ i → relax-all d (leaving u (arcsFrom b l i)) t ≡ t
-  unfolding filter concatMap leaving relax-all
+  turn-last : edgeCount b ≤ i → overEdges f (edgesFrom b l i) s ≡ s
+  unfolding filter overEdges
   turn-last h = rw (rest-end i (edgeCount b) h)
 
-arcs-first : (b closed : Bytes) → arcsIn b closed ≡ arcsFrom b (words16 closed) 0
-unfolding arcsIn openEdges
-arcs-first b closed = rw (← rest-all (edgeCount b))
+edges-first : (b closed : Bytes) → openEdges b (words16 closed) ≡ edgesFrom b (words16 closed) 0
+unfolding openEdges
+edges-first b closed = rw (← rest-all (edgeCount b))
 
 -- ---- the closed edge at a position
 module _ (closed : Bytes) (i j : ℕ) where
@@ -118,34 +101,34 @@ module _ (closed : Bytes) (i j : ℕ) where
           let ne : ¬ (y ≡ i) = eqb-false y i q in
           ⊎-elim (λ z. omega arith) (λ z. omega (arith, rising-above y (drop (j + 1) (words16 closed)) (r .rises) x z)) (List·Memᴰ·cases-cons (rw k at m))
 
--- ---- the loop: what is left to relax from edge i on, with the closed edges from position j on, gives the whole
-pub record Partway (b closed : Bytes) (u d : ℕ) (t₀ : List ℕ) (i j : ℕ) (t : List ℕ) : Type 0 where
+-- ---- a loop over the open edges: what is left from edge i on, with the closed edges from position j on, gives the whole
+pub record Partway {S : Type 0} (f : Edge → S → S) (b closed : Bytes) (s₀ : S) (i j : ℕ) (s : S) : Type 0 where
   pub behind : j ≤ i
   pub ahead : Ahead i (drop j (words16 closed))
-  pub whole : relax-all d (leaving u (arcsFrom b (drop j (words16 closed)) i)) t ≡ relax-all d (leaving u (arcsIn b closed)) t₀
+  pub whole : overEdges f (edgesFrom b (drop j (words16 closed)) i) s ≡ overEdges f (openEdges b (words16 closed)) s₀
 
-module _ (b closed : Bytes) (u d : ℕ) (t₀ : List ℕ) where
-  pub partway-first : Ahead 0 (words16 closed) → Partway b closed u d t₀ 0 0 t₀
-  partway-first a = record { behind = omega arith; ahead = a; whole = rw (arcs-first b closed) }
+module _ {S : Type 0} (f : Edge → S → S) (b closed : Bytes) (s₀ : S) where
+  pub partway-first : Ahead 0 (words16 closed) → Partway f b closed s₀ 0 0 s₀
+  partway-first a = record { behind = omega arith; ahead = a; whole = rw (edges-first b closed) }
 
-  module _ (i j : ℕ) (t : List ℕ) (p : Partway b closed u d t₀ i j t) where
-    pub partway-closed : i < edgeCount b → closedAt closed j i ≡ true → Partway b closed u d t₀ (i + 1) (j + 1) t
+  module _ (i j : ℕ) (s : S) (p : Partway f b closed s₀ i j s) where
+    pub partway-closed : i < edgeCount b → closedAt closed j i ≡ true → Partway f b closed s₀ (i + 1) (j + 1) s
     partway-closed h e =
         let k = here closed i j e in
         record {
           behind = omega (arith, p .behind);
           ahead = ahead-closed i (drop (j + 1) (words16 closed)) (rw k at (p .ahead));
-          whole = sym (turn-closed b (drop (j + 1) (words16 closed)) i u d t h) ∙ rw k at (p .whole);
+          whole = sym (turn-closed f b (drop (j + 1) (words16 closed)) i s h) ∙ rw k at (p .whole);
         }
 
-    pub partway-open : i < edgeCount b → closedAt closed j i ≡ false → Partway b closed u d t₀ (i + 1) j (relax-all d (leaving u (arcsOf (edge b i))) t)
+    pub partway-open : i < edgeCount b → closedAt closed j i ≡ false → Partway f b closed s₀ (i + 1) j (f (edge b i) s)
     partway-open h e =
         let g = not-here closed i j e (p .ahead) in
         record {
           behind = omega (arith, p .behind);
           ahead = ahead-open i (drop j (words16 closed)) (p .ahead) g;
-          whole = sym (turn-open b (drop j (words16 closed)) i u d t h g) ∙ p .whole;
+          whole = sym (turn-open f b (drop j (words16 closed)) i s h g) ∙ p .whole;
         }
 
-    pub partway-last : edgeCount b ≤ i → t ≡ relax-all d (leaving u (arcsIn b closed)) t₀
-    partway-last h = sym (turn-last b (drop j (words16 closed)) i u d t h) ∙ p .whole
+    pub partway-last : edgeCount b ≤ i → s ≡ overEdges f (openEdges b (words16 closed)) s₀
+    partway-last h = sym (turn-last f b (drop j (words16 closed)) i s h) ∙ p .whole

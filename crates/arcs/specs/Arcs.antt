@@ -2,14 +2,14 @@
 use Prim.Native.Nat.{ℕ, _*_, _/_}
 use mathlib.Core.Path.{_≡_, refl}
 use mathlib.Core.Bool.{Bool, _&&_}
-use mathlib.Core.List.{List}
+use mathlib.Core.List.{List, [], _∷_}
 use lib.ListN.{length}
 use lib.Dec.{eqb, ltb}
 use Rattle.model.specs.Lists.{filter, concatMap}
 use Rattle.model.specs.Bytes.{Bytes, word16, words16}
 use Rattle.model.specs.Contents.{edgeBody, closedBody}
 use Rattle.model.specs.Walk.{Arc}
-use Rattle.model.specs.Network.{network, openEdges, arcsOf, arcs}
+use Rattle.model.specs.Network.{Edge, network, openEdges, arcsOf, arcs}
 
 -- The arcs of the open edges, of the bodies of the edges and of the closed edges.
 unfoldable pub arcsIn : Bytes → Bytes → List Arc
@@ -30,3 +30,8 @@ leaving u arcs = filter (leaves u) arcs
 -- Position j of the closed edges is within their list, and edge i stands there.
 unfoldable pub closedAt : Bytes → ℕ → ℕ → Bool
 closedAt closed j i = ltb j (length closed / 2) && eqb (word16 closed (2 * j)) i
+
+-- What passing the edges one after another makes of s, where each edge e makes f e s of it.
+unfoldable pub overEdges : {S : Type 0} → (Edge → S → S) → List Edge → S → S
+overEdges f [] s = s
+overEdges f (e ∷ es) s = overEdges f es (f e s)

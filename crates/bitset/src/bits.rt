@@ -1,4 +1,4 @@
-// The settled set: one bit for each node, in 32-bit words.
+// A set of nodes, one bit a node, in 32-bit words: the settled set of a search ("places already settled take one bit each"), and the sets of building.
 ghost use mathlib.Core.Path.{_≡_};
 ghost use mathlib.Core.Bool.{_||_};
 ghost use Prim.Native.Nat.{ℕ, _/_, _<_};

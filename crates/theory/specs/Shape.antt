@@ -74,7 +74,7 @@ rising-cons x [] h r = refl
 rising-cons x (y ∷ l) h r = and (lt-ltb x y (h y (List·Memᴰ·head refl))) r
 
 -- each number of a rising list is above the first
-rising-above : (x : ℕ) (l : List ℕ) → rising (x ∷ l) ≡ true → (y : ℕ) → List·Memᴰ y l → x < y
+pub rising-above : (x : ℕ) (l : List ℕ) → rising (x ∷ l) ≡ true → (y : ℕ) → List·Memᴰ y l → x < y
 unfolding rising
 rising-above x [] h y m = absurd (List·Memᴰ·not-nil m)
 rising-above x (z ∷ l) h y m = step (List·Memᴰ·cases-cons m) (λ k. rising-above z l (p .1) y k)
@@ -89,7 +89,7 @@ rising-above x (z ∷ l) h y m = step (List·Memᴰ·cases-cons m) (λ k. rising
     step (inl e) rest = omega (arith, q)
     step (inr k) rest = omega (arith, q, rest k)
 
-rising-tail : (x : ℕ) (l : List ℕ) → rising (x ∷ l) ≡ true → rising l ≡ true
+pub rising-tail : (x : ℕ) (l : List ℕ) → rising (x ∷ l) ≡ true → rising l ≡ true
 unfolding rising
 rising-tail x [] h = refl
 rising-tail x (y ∷ l) h = both {b = ltb x y} h .1

@@ -5,14 +5,17 @@ use mathlib.Core.Logic.{⊎-elim}
 use mathlib.Core.Path.{_≡_, refl, sym, ap, _∙_}
 use borrow.Author.Needs.{needs}
 use lib.ListN.{length, getD}
-use Rattle.model.specs.Network.{edgeCount}
+use Rattle.model.specs.Bytes.{words16}
+use Rattle.model.specs.Network.{edgeCount, openEdges}
+use Rattle.arcs.specs.Arcs.{arcsIn}
+use Rattle.arcs.proofs.Leaving.{relaxing, relax-over}
 use Rattle.arcs.proofs.Ahead.{Partway, partway-first, partway-closed, partway-open, partway-last}
 use Rattle.arcs.proofs.Bodies.{edge-fine, all-ahead}
 use Rattle.arcs.proofs.relax.relax.Statement.{statement}
 use Rattle.arcs.proofs.relax.relax.Tie as tie
 
 abbrev Inv-loop : tie.InvT-loop
-Inv-loop edges closed t₀ u d m i₀ j₀ t i j = (i ≤ m) × (m ≡ edgeCount edges) × (length t ≡ length t₀) × Partway edges closed u d t₀ i j t
+Inv-loop edges closed t₀ u d m i₀ j₀ t i j = (i ≤ m) × (m ≡ edgeCount edges) × (length t ≡ length t₀) × Partway (relaxing u d) edges closed t₀ i j t
 
 abbrev μ-loop : tie.MeasureT-loop
 μ-loop edges closed t₀ u d m i₀ j₀ t i j = m - i
@@ -25,7 +28,7 @@ slice-read-d c = search needs
 
 loop-holds : tie.Need-loop-holds Inv-loop μ-loop
 unfolding edgeCount
-loop-holds c = (search needs, refl, refl, partway-first _ _ _ _ _ (all-ahead _ _ (c .before .before .before .before .pre .2)))
+loop-holds c = (search needs, refl, refl, partway-first _ _ _ _ (all-ahead _ _ (c .before .before .before .before .pre .2)))
 
 closed-at-requires : tie.Need-closed-at-requires Inv-loop μ-loop
 closed-at-requires c κs = search needs
@@ -58,8 +61,8 @@ loop-again c =
       search needs,
       ⊎-elim (λ w. ap length (w .1) ∙ l .inv .2) (λ w. ap length (w .5) ∙ (w .2 .kept .1 .1 .0 ∙ l .inv .2)) (c .if1 .came),
       ⊎-elim
-          (λ w. rw (w .1, w .2) (partway-closed b closed (a .u) d (a .t .now) (l .i) (l .j) (l .t) (l .inv .3) h (sym (c .before .closed-at .ensures) ∙ w .0 .taken)))
-          (λ w. rw (w .5, w .6, w .2 .ensures) (partway-open b closed (a .u) d (a .t .now) (l .i) (l .j) (l .t) (l .inv .3) h (sym (c .before .closed-at .ensures) ∙ w .0 .left)))
+          (λ w. rw (w .1, w .2) (partway-closed (relaxing (a .u) d) b closed (a .t .now) (l .i) (l .j) (l .t) (l .inv .3) h (sym (c .before .closed-at .ensures) ∙ w .0 .taken)))
+          (λ w. rw (w .5, w .6, w .2 .ensures) (partway-open (relaxing (a .u) d) b closed (a .t .now) (l .i) (l .j) (l .t) (l .inv .3) h (sym (c .before .closed-at .ensures) ∙ w .0 .left)))
           (c .if1 .came),
     )
 
@@ -67,10 +70,13 @@ same-length : tie.Need-same-length Inv-loop μ-loop
 same-length c = search needs
 
 returns : tie.Need-returns Inv-loop μ-loop
+unfolding arcsIn
 returns c =
     let a = c .before .before .before .before .before .before .args in
     let l = c .before .loop in
-    partway-last (a .edges .now) (a .closed .now) (a .u) (getD (a .t .now) (a .u) 0) (a .t .now) (l .i) (l .j) (l .t) (l .inv .3) (omega arith)
+    let d = getD (a .t .now) (a .u) 0 in
+    partway-last (relaxing (a .u) d) (a .edges .now) (a .closed .now) (a .t .now) (l .i) (l .j) (l .t) (l .inv .3) (omega arith)
+    ∙ relax-over (a .u) d (openEdges (a .edges .now) (words16 (a .closed .now))) (a .t .now)
 
 pub relax-spec : {M : Type 1} → statement M
 relax-spec =
