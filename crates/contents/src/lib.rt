@@ -1,5 +1,6 @@
 // The contents of a file, held as one record: reading it entry by entry, rules 1 and 2, and the bodies as parts of the file.
 ghost use mathlib.Core.Path.{_≡_};
+ghost use mathlib.Core.Bool.{false};
 ghost use Prim.Native.Nat.{_+_, _<_, _≤_};
 ghost use lib.ListN.{length};
 ghost use Rattle.model.specs.Contents.{entryAt, contentsBroken, bodiesBroken, body, oracleEntries};
@@ -148,4 +149,13 @@ pub fn read(entries: usize, f: &[u8]) -> Contents
         i += 1;
     }
     c
+}
+
+// Body k of a file that keeps rules 1 and 2, as the part that it is.
+pub fn body_of(entries: usize, f: &[u8], k: usize) -> &[u8]
+    requires { ⌜ (entries ≤ oracleEntries) × (k < entries) × (entryAt entries ≤ length (now f)) × (bodiesBroken entries (now f) ≡ false) ⌝ }
+    ensures { λ r. ⌜ now r ≡ body (now (f .entry)) k ⌝ }
+{
+    let c = read(entries, f);
+    c.body(f, k)
 }

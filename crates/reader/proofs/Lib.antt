@@ -1,1 +1,1 @@
-mod Firsts
+mod Kept

@@ -19,7 +19,8 @@ use Rattle.model.specs.Calls.{auditRefusal}
 use Rattle.theory.specs.FileLaws.{word16-read, length-file, body-file}
 use Rattle.theory.specs.Tests.{and, both}
 use Rattle.theory.specs.Built.{Good, bodies-of, same-network}
-use Rattle.theory.specs.Passed.{all-passed, first-append, shape-counted, or-false, not-false, Shaped, all-shaped, passed-all}
+use Rattle.theory.specs.Passed.{all-passed, shape-counted, or-false, not-false, Shaped, all-shaped, passed-all}
+use Rattle.theory.specs.Firsts.{first-append}
 use Rattle.theory.specs.Accepted.{good}
 use Rattle.theory.specs.WellShaped.{built-well-shaped}
 use Rattle.theory.specs.Sound.{node-bytes, edge-bytes, closed-bytes}

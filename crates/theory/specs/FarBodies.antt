@@ -8,7 +8,8 @@ use Rattle.model.specs.Contents.{nodeBody, gridBody, transitBody, accessBody, t
 use Rattle.model.specs.Query.{farAnswer, kindBetween}
 use Rattle.model.specs.Rules.{Rule, rule, firstBroken, shapeRules, pairRules, farRules, noSuchNode, localPair}
 use Rattle.model.specs.Calls.{farResult}
-use Rattle.theory.specs.Passed.{first-append, shape-counted}
+use Rattle.theory.specs.Firsts.{first-append}
+use Rattle.theory.specs.Passed.{shape-counted}
 
 -- the rules of the far question past 11
 abbrev own : Bytes → ℕ → ℕ → List Rule

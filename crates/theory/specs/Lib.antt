@@ -24,6 +24,7 @@ pub mod AccessLaws
 pub mod Transit
 -- ---- built oracles
 pub mod Built
+pub mod Firsts
 pub mod Passed
 pub mod Sound
 pub mod Accepted

@@ -1,18 +1,17 @@
 -- What a call that refuses nothing knows: each rule that it checked is not broken. Assumes nothing.
-use Prim.Native.Nat.{ℕ, _<_}
+use Prim.Native.Nat.{ℕ}
 use native.Mathlib.Omega.{arith}
 use mathlib.Core.Path.{_≡_, refl}
-use mathlib.Core.Bool.{Bool, true, false, not, _||_, true≢false, cond, _&&_, cond}
+use mathlib.Core.Bool.{Bool, true, false, not, _||_, true≢false}
 use mathlib.Core.List.{List, [], _∷_, _++_}
-use lib.Dec.{ltb}
-use borrow.Author.Tests.{ltb-true, eqb-true}
+use borrow.Author.Tests.{eqb-true}
 use Rattle.model.specs.Bytes.{Bytes}
 use Rattle.model.specs.Contents.{nodeBody, edgeBody, closedBody, networkEdition, networkEntries, oracleEdition, contentsBroken, bodiesBroken, gridBody, transitBody, accessBody, tableBody, oracleEntries}
 use Rattle.model.specs.Network.{nodeCount, edgeCount, nodesBroken, someEdgeBroken, edgesBroken, numbersBroken, coordinatesBroken}
 use Rattle.model.specs.Grid.{gridBroken}
 use Rattle.model.specs.Oracle.{gridBodyBroken, accessBroken, tableBroken, transitCount}
 use Rattle.model.specs.Rules.{Rule, rule, firstBroken, networkRules, acceptRules, accepted, shapeRules, wellShaped}
-use Rattle.theory.specs.Tests.{both}
+use Rattle.theory.specs.Firsts.{passed, counted}
 
 pub or-false : (b c : Bool) → b || c ≡ false → (b ≡ false) × (c ≡ false)
 or-false true c h = absurd (true≢false h)
@@ -22,37 +21,7 @@ pub not-false : {b : Bool} → not b ≡ false → b ≡ true
 not-false {b = true} h = refl
 not-false {b = false} h = absurd (true≢false h)
 
--- ---- one rule after another
-pub passed : (n : ℕ) (b : Bool) (rs : List Rule) → 0 < n → firstBroken (rule n b ∷ rs) ≡ 0 → (b ≡ false) × (firstBroken rs ≡ 0)
-unfolding firstBroken
-passed n true rs h e = absurd (omega arith)
-passed n false rs h e = (refl, e)
-
--- Rules that are not broken, before others.
-unfoldable pub counted : List Rule → Bool
-counted [] = true
-counted (r ∷ rs) = ltb 0 (r .number) && counted rs
-
-pub first-append : (xs ys : List Rule) → counted xs ≡ true → firstBroken xs ≡ 0 → firstBroken (xs ++ ys) ≡ firstBroken ys
-unfolding counted firstBroken
-first-append [] ys c h = refl
-first-append (r ∷ xs) ys c h = step (r .broken) (both {b = ltb 0 (r .number)} c) h (λ k e. first-append xs ys k e)
-  where
-    step : (b : Bool) → (ltb 0 (r .number) ≡ true) × (counted xs ≡ true) → cond b (r .number) (firstBroken xs) ≡ 0 → (counted xs ≡ true → firstBroken xs ≡ 0 → firstBroken (xs ++ ys) ≡ firstBroken ys)
-        → cond b (r .number) (firstBroken (xs ++ ys)) ≡ firstBroken ys
-    step true k e rest = let z : 0 < r .number = ltb-true 0 (r .number) (k .0) in absurd (omega arith)
-    step false k e rest = rest (k .1) e
-
--- A broken rule is the first broken one of a longer list too.
-pub first-stays : (xs ys : List Rule) → (firstBroken xs ≡ 0 → ⊥) → firstBroken (xs ++ ys) ≡ firstBroken xs
-unfolding firstBroken
-first-stays [] ys h = absurd (h refl)
-first-stays (r ∷ xs) ys h = step (r .broken) h (λ k. first-stays xs ys k)
-  where
-    step : (b : Bool) → (cond b (r .number) (firstBroken xs) ≡ 0 → ⊥) → ((firstBroken xs ≡ 0 → ⊥) → firstBroken (xs ++ ys) ≡ firstBroken xs) → cond b (r .number) (firstBroken (xs ++ ys)) ≡ cond b (r .number) (firstBroken xs)
-    step true h rest = refl
-    step false h rest = rest h
-
+-- ---- the rules of files all have numbers above 0
 pub network-counted : (edition entries : ℕ) (f : Bytes) → counted (networkRules edition entries f) ≡ true
 unfolding counted networkRules
 network-counted edition entries f = refl

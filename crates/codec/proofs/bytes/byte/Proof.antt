@@ -2,18 +2,13 @@ use native.Mathlib.Omega.{arith}
 use borrow.Author.Needs.{needs}
 use Rattle.codec.proofs.bytes.byte.Statement.{statement}
 use Rattle.codec.proofs.bytes.byte.Tie as tie
-use Rattle.codec.proofs.bytes.byte.Reads as reads
-use Rattle.codec.proofs.bytes.byte.Lts as lts
 
--- src/bytes.rt:11:5
 shared-slice-read-result : tie.Need-shared-slice-read-result
 shared-slice-read-result c = search needs
 
--- src/bytes.rt:11:5
 cast-result : tie.Need-cast-result
 cast-result c = omega (arith, c .shared-slice-known .given (c .before .args .i))
 
--- src/bytes.rt:7:1
 returns : tie.Need-returns
 returns c = omega (arith, c .shared-slice-known .given (c .before .args .i))
 

@@ -3,31 +3,22 @@ use native.Mathlib.Omega.{arith}
 use borrow.Author.Needs.{needs}
 use Rattle.codec.proofs.bytes.read32.Statement.{statement}
 use Rattle.codec.proofs.bytes.read32.Tie as tie
-use Rattle.codec.proofs.bytes.read32.Reads as reads
-use Rattle.codec.proofs.bytes.read32.Lts as lts
-use Rattle.codec.proofs.bytes.read16.Reads as read16-reads
 
--- src/bytes.rt:25:5
 read16-requires : tie.Need-read16-requires
 read16-requires c κs = search needs
 
--- src/bytes.rt:25:38
 add-read16 : tie.Need-add-read16
 add-read16 c = search needs
 
--- src/bytes.rt:25:28
 read16-requires-2 : tie.Need-read16-requires-2
 read16-requires-2 c κs = search needs
 
--- src/bytes.rt:25:20
 mul-result : tie.Need-mul-result
 mul-result c = search needs
 
--- src/bytes.rt:25:5
 add-result : tie.Need-add-result
 add-result c = search needs
 
--- src/bytes.rt:21:1
 returns : tie.Need-returns
 unfolding word32
 returns c = omega arith

@@ -4,34 +4,25 @@ use native.Mathlib.Omega.{arith}
 use borrow.Author.Needs.{needs}
 use Rattle.codec.proofs.bytes.write16.Statement.{statement}
 use Rattle.codec.proofs.bytes.write16.Tie as tie
-use Rattle.codec.proofs.bytes.write16.Reads as reads
-use Rattle.codec.proofs.bytes.write16.Lts as lts
 
--- src/bytes.rt:33:12
 cast-b : tie.Need-cast-b
 cast-b c = search needs
 
--- src/bytes.rt:33:5
 slice-write-b : tie.Need-slice-write-b
 slice-write-b c = search needs
 
--- src/bytes.rt:34:16
 cast-b-2 : tie.Need-cast-b-2
 cast-b-2 c = search needs
 
--- src/bytes.rt:34:7
 add-b : tie.Need-add-b
 add-b c = search needs
 
--- src/bytes.rt:34:5
 slice-write-b-2 : tie.Need-slice-write-b-2
 slice-write-b-2 c = simp length-set (omega arith)
 
--- src/bytes.rt:29:1
 same-length : tie.Need-same-length
 same-length c = search needs
 
--- src/bytes.rt:29:1
 returns : tie.Need-returns
 returns c = write-2 (c .args .b .now) (c .args .i) (c .args .x) (omega arith)
 

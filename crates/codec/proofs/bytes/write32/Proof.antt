@@ -4,58 +4,43 @@ use native.Mathlib.Omega.{arith}
 use borrow.Author.Needs.{needs}
 use Rattle.codec.proofs.bytes.write32.Statement.{statement}
 use Rattle.codec.proofs.bytes.write32.Tie as tie
-use Rattle.codec.proofs.bytes.write32.Reads as reads
-use Rattle.codec.proofs.bytes.write32.Lts as lts
 
--- src/bytes.rt:41:12
 cast-b : tie.Need-cast-b
 cast-b c = search needs
 
--- src/bytes.rt:41:5
 slice-write-b : tie.Need-slice-write-b
 slice-write-b c = search needs
 
--- src/bytes.rt:42:16
 cast-b-2 : tie.Need-cast-b-2
 cast-b-2 c = search needs
 
--- src/bytes.rt:42:7
 add-b : tie.Need-add-b
 add-b c = search needs
 
--- src/bytes.rt:42:5
 slice-write-b-2 : tie.Need-slice-write-b-2
 slice-write-b-2 c = simp length-set (omega arith)
 
--- src/bytes.rt:43:16
 cast-b-3 : tie.Need-cast-b-3
 cast-b-3 c = search needs
 
--- src/bytes.rt:43:7
 add-b-2 : tie.Need-add-b-2
 add-b-2 c = search needs
 
--- src/bytes.rt:43:5
 slice-write-b-3 : tie.Need-slice-write-b-3
 slice-write-b-3 c = simp length-set (omega arith)
 
--- src/bytes.rt:44:16
 cast-b-4 : tie.Need-cast-b-4
 cast-b-4 c = search needs
 
--- src/bytes.rt:44:7
 add-b-3 : tie.Need-add-b-3
 add-b-3 c = search needs
 
--- src/bytes.rt:44:5
 slice-write-b-4 : tie.Need-slice-write-b-4
 slice-write-b-4 c = simp length-set (omega arith)
 
--- src/bytes.rt:37:1
 same-length : tie.Need-same-length
 same-length c = search needs
 
--- src/bytes.rt:37:1
 returns : tie.Need-returns
 returns c = write-4 (c .args .b .now) (c .args .i) (c .args .x) (omega arith)
 

@@ -2,23 +2,16 @@ use Rattle.model.specs.Network.{edge}
 use borrow.Author.Needs.{needs}
 use Rattle.codec.proofs.records.edge_first.Statement.{statement}
 use Rattle.codec.proofs.records.edge_first.Tie as tie
-use Rattle.codec.proofs.records.edge_first.Reads as reads
-use Rattle.codec.proofs.records.edge_first.Lts as lts
-use Rattle.codec.proofs.bytes.read16.Reads as read16-reads
 
--- src/records.rt:39:15
 mul-read16 : tie.Need-mul-read16
 mul-read16 c = search needs
 
--- src/records.rt:39:5
 read16-requires : tie.Need-read16-requires
 read16-requires c κs = search needs
 
--- src/records.rt:39:5
 cast-result : tie.Need-cast-result
 cast-result c = search needs
 
--- src/records.rt:35:1
 returns : tie.Need-returns
 unfolding edge
 returns c = c .read16 .ensures

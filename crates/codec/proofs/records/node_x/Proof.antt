@@ -3,24 +3,16 @@ use mathlib.Core.Path.{_∙_, ap}
 use borrow.Author.Needs.{needs}
 use Rattle.codec.proofs.records.node_x.Statement.{statement}
 use Rattle.codec.proofs.records.node_x.Tie as tie
-use Rattle.codec.proofs.records.node_x.Reads as reads
-use Rattle.codec.proofs.records.node_x.Lts as lts
-use Rattle.codec.proofs.bytes.read32.Reads as read32-reads
-use Rattle.codec.proofs.records.shifted.Reads as shifted-reads
 
--- src/records.rt:25:23
 mul-read32 : tie.Need-mul-read32
 mul-read32 c = search needs
 
--- src/records.rt:25:13
 read32-requires : tie.Need-read32-requires
 read32-requires c κs = search needs
 
--- src/records.rt:25:5
 shifted-requires : tie.Need-shifted-requires
 shifted-requires c κs = search needs
 
--- src/records.rt:21:1
 returns : tie.Need-returns
 unfolding node
 returns c = c .shifted .ensures ∙ ap coordinate (c .before .read32 .ensures)

@@ -1,55 +1,40 @@
 use Rattle.theory.specs.Sound.{few-numbers}
 use native.Mathlib.Omega.{arith}
-use Rattle.reader.proofs.Firsts.{stops, goes, none}
+use Rattle.theory.specs.Firsts.{stops, goes, none}
 use Rattle.model.specs.Oracle.{transitCount}
 use mathlib.Core.Path.{sym, _∙_}
 use borrow.Author.Needs.{needs}
 use Rattle.reader.proofs.bodies.oracle_bodies.Statement.{statement}
 use Rattle.reader.proofs.bodies.oracle_bodies.Tie as tie
-use Rattle.reader.proofs.bodies.oracle_bodies.Reads as reads
-use Rattle.reader.proofs.bodies.oracle_bodies.Lts as lts
-use Rattle.rules.proofs.access.access_broken.Reads as access-broken-reads
-use Rattle.rules.proofs.grid.grid_body_broken.Reads as grid-body-broken-reads
-use Rattle.rules.proofs.numbers.numbers_broken.Reads as numbers-broken-reads
-use Rattle.rules.proofs.table.table_broken.Reads as table-broken-reads
 
--- src/bodies.rt:46:8
 grid-body-broken-requires : tie.Need-grid-body-broken-requires
 grid-body-broken-requires c κs = search needs
 
--- src/bodies.rt:47:9
 returns : tie.Need-returns
 unfolding transitCount
 returns c = stops 8 _ (sym (c .before .grid-body-broken .ensures) ∙ c .if1 .taken)
 
--- src/bodies.rt:49:8
 numbers-broken-requires : tie.Need-numbers-broken-requires
 numbers-broken-requires c κs = search needs
 
--- src/bodies.rt:50:9
 returns-2 : tie.Need-returns-2
 unfolding transitCount
 returns-2 c = goes 8 _ (sym (c .before .before .before .grid-body-broken .ensures) ∙ c .before .before .if1 .left) (stops 9 _ (sym (c .before .numbers-broken .ensures) ∙ c .if2 .taken))
 
--- src/bodies.rt:53:8
 access-broken-requires : tie.Need-access-broken-requires
 access-broken-requires c κs = search needs
 
--- src/bodies.rt:54:9
 returns-3 : tie.Need-returns-3
 unfolding transitCount
 returns-3 c = goes 8 _ (sym (c .before .before .before .before .before .grid-body-broken .ensures) ∙ c .before .before .before .before .if1 .left) (goes 9 _ (sym (c .before .before .before .numbers-broken .ensures) ∙ c .before .before .if2 .left) (stops 10 _ (sym (c .before .access-broken .ensures) ∙ c .if3 .taken)))
 
--- src/bodies.rt:56:8
 table-broken-requires : tie.Need-table-broken-requires
 table-broken-requires c κs = omega (arith, few-numbers (c .before .before .before .before .before .before .before .before .before .before .args .n) (c .before .before .before .before .before .before .before .before .before .before .args .transit .now) (sym (c .before .before .before .numbers-broken .ensures) ∙ c .before .before .if2 .left))
 
--- src/bodies.rt:57:9
 returns-4 : tie.Need-returns-4
 unfolding transitCount
 returns-4 c = goes 8 _ (sym (c .before .before .before .before .before .before .before .grid-body-broken .ensures) ∙ c .before .before .before .before .before .before .if1 .left) (goes 9 _ (sym (c .before .before .before .before .before .numbers-broken .ensures) ∙ c .before .before .before .before .if2 .left) (goes 10 _ (sym (c .before .before .before .access-broken .ensures) ∙ c .before .before .if3 .left) (stops 11 _ (sym (c .before .table-broken .ensures) ∙ c .if4 .taken))))
 
--- src/bodies.rt:42:1
 returns-5 : tie.Need-returns-5
 unfolding transitCount
 returns-5 c = goes 8 _ (sym (c .before .before .before .before .before .before .before .grid-body-broken .ensures) ∙ c .before .before .before .before .before .before .if1 .left) (goes 9 _ (sym (c .before .before .before .before .before .numbers-broken .ensures) ∙ c .before .before .before .before .if2 .left) (goes 10 _ (sym (c .before .before .before .access-broken .ensures) ∙ c .before .before .if3 .left) (goes 11 _ (sym (c .before .table-broken .ensures) ∙ c .if4 .left) none)))

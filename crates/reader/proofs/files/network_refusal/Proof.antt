@@ -1,4 +1,4 @@
-use Rattle.reader.proofs.Firsts.{stops, goes}
+use Rattle.theory.specs.Firsts.{stops, goes}
 use Rattle.theory.specs.Joined.{whole-contents}
 use Rattle.model.specs.Rules.{networkRules}
 use mathlib.Core.Path.{sym, _∙_}
@@ -6,53 +6,36 @@ use native.Mathlib.Omega.{arith}
 use borrow.Author.Needs.{needs}
 use Rattle.reader.proofs.files.network_refusal.Statement.{statement}
 use Rattle.reader.proofs.files.network_refusal.Tie as tie
-use Rattle.reader.proofs.files.network_refusal.Reads as reads
-use Rattle.reader.proofs.files.network_refusal.Lts as lts
-use Rattle.contents.proofs.Contents.bodies_broken.Reads as bodies-broken-reads
-use Rattle.contents.proofs.Contents.body.Reads as body-reads
-use Rattle.contents.proofs.contents_broken.Reads as contents-broken-reads
-use Rattle.contents.proofs.read.Reads as read-reads
-use Rattle.reader.proofs.bodies.network_bodies.Reads as network-bodies-reads
 
--- src/files.rt:22:8
 contents-broken-requires : tie.Need-contents-broken-requires
 contents-broken-requires c κs = search needs
 
--- src/files.rt:23:9
 returns : tie.Need-returns
 unfolding networkRules
 returns c = stops 1 _ (sym (c .before .contents-broken .ensures) ∙ c .if1 .taken)
 
--- src/files.rt:25:9
 read-requires : tie.Need-read-requires
 read-requires c κs = (omega arith, whole-contents (c .before .before .before .args .edition) (c .before .before .before .args .entries) (c .before .before .before .args .f .now) (sym (c .before .contents-broken .ensures) ∙ c .if1 .left))
 
--- src/files.rt:26:8
 bodies-broken-requires : tie.Need-bodies-broken-requires
 bodies-broken-requires c κs = search needs
 
--- src/files.rt:27:9
 returns-2 : tie.Need-returns-2
 unfolding networkRules
 returns-2 c = goes 1 _ (sym (c .before .before .before .before .contents-broken .ensures) ∙ c .before .before .before .if1 .left) (stops 2 _ (sym (c .before .bodies-broken .ensures) ∙ c .if2 .taken))
 
--- src/files.rt:29:20
 body-requires : tie.Need-body-requires
 body-requires c κs = record { entries = c .before .before .before .before .before .before .args .entries; few = omega arith; below = omega arith; read = c .before .before .read .ensures; joined = sym (c .before .bodies-broken .ensures) ∙ c .if2 .left }
 
--- src/files.rt:29:34
 body-requires-2 : tie.Need-body-requires-2
 body-requires-2 c κs = record { entries = c .before .before .before .before .before .before .before .args .entries; few = omega arith; below = omega arith; read = c .before .before .before .read .ensures; joined = sym (c .before .before .bodies-broken .ensures) ∙ c .before .if2 .left }
 
--- src/files.rt:29:48
 body-requires-3 : tie.Need-body-requires-3
 body-requires-3 c κs = record { entries = c .before .before .before .before .before .before .before .before .args .entries; few = omega arith; below = omega arith; read = c .before .before .before .before .read .ensures; joined = sym (c .before .before .before .bodies-broken .ensures) ∙ c .before .before .if2 .left }
 
--- src/files.rt:29:5
 network-bodies-requires : tie.Need-network-bodies-requires
 network-bodies-requires c κs = search needs
 
--- src/files.rt:18:1
 returns-3 : tie.Need-returns-3
 unfolding networkRules
 returns-3 c = goes 1 _ (sym (c .before .before .before .before .before .before .before .before .contents-broken .ensures) ∙ c .before .before .before .before .before .before .before .if1 .left) (goes 2 _ (sym (c .before .before .before .before .before .bodies-broken .ensures) ∙ c .before .before .before .before .if2 .left) (rw (← c .before .before .before .body .ensures, ← c .before .before .body2 .ensures, ← c .before .body3 .ensures) (c .network-bodies .ensures)))

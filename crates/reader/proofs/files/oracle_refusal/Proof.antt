@@ -1,53 +1,39 @@
-use Rattle.reader.proofs.Firsts.{kept}
+use Rattle.reader.proofs.Kept.{kept}
 use Rattle.theory.specs.Sound.{node-bytes}
-use Rattle.theory.specs.Passed.{first-append, network-counted}
+use Rattle.theory.specs.Firsts.{first-append}
+use Rattle.theory.specs.Passed.{network-counted}
 use Rattle.theory.specs.Joined.{whole-contents}
 use Rattle.model.specs.Rules.{shapeRules}
 use Rattle.model.specs.Network.{nodeCount}
 use Rattle.model.specs.Bytes.{Bytes}
 use lib.ListN.{length}
-use mathlib.Core.List.{[]}
 use mathlib.Core.Path.{sym, _∙_, ap}
 use native.Mathlib.Omega.{arith}
-use borrow.Author.Needs.{needs}
 use Rattle.reader.proofs.files.oracle_refusal.Statement.{statement}
 use Rattle.reader.proofs.files.oracle_refusal.Tie as tie
-use Rattle.reader.proofs.files.oracle_refusal.Reads as reads
-use Rattle.reader.proofs.files.oracle_refusal.Lts as lts
-use Rattle.contents.proofs.Contents.body.Reads as body-reads
-use Rattle.contents.proofs.read.Reads as read-reads
-use Rattle.reader.proofs.bodies.oracle_bodies.Reads as oracle-bodies-reads
 
--- src/files.rt:51:9
 read-requires : tie.Need-read-requires
 read-requires c κs = (omega arith, whole-contents 1 7 (c .before .args .o .now) (kept (c .before .args .o .now) (c .before .pre) .contents))
 
--- src/files.rt:52:13
 body-requires : tie.Need-body-requires
 body-requires c κs = record { entries = 7; few = omega arith; below = omega arith; read = c .read .ensures; joined = kept (c .before .before .args .o .now) (c .before .before .pre) .bodies }
 
--- src/files.rt:53:22
 body-requires-2 : tie.Need-body-requires-2
 body-requires-2 c κs = record { entries = 7; few = omega arith; below = omega arith; read = c .before .read .ensures; joined = kept (c .before .before .before .args .o .now) (c .before .before .before .pre) .bodies }
 
--- src/files.rt:53:36
 body-requires-3 : tie.Need-body-requires-3
 body-requires-3 c κs = record { entries = 7; few = omega arith; below = omega arith; read = c .before .before .read .ensures; joined = kept (c .before .before .before .before .args .o .now) (c .before .before .before .before .pre) .bodies }
 
--- src/files.rt:53:50
 body-requires-4 : tie.Need-body-requires-4
 body-requires-4 c κs = record { entries = 7; few = omega arith; below = omega arith; read = c .before .before .before .read .ensures; joined = kept (c .before .before .before .before .before .args .o .now) (c .before .before .before .before .before .pre) .bodies }
 
--- src/files.rt:53:64
 body-requires-5 : tie.Need-body-requires-5
 body-requires-5 c κs = record { entries = 7; few = omega arith; below = omega arith; read = c .before .before .before .before .read .ensures; joined = kept (c .before .before .before .before .before .before .args .o .now) (c .before .before .before .before .before .before .pre) .bodies }
 
--- src/files.rt:53:5
 oracle-bodies-requires : tie.Need-oracle-bodies-requires
 unfolding nodeCount
 oracle-bodies-requires c κs = omega (arith, node-bytes (c .before .before .before .before .before .before .before .args .o .now) (kept (c .before .before .before .before .before .before .before .args .o .now) (c .before .before .before .before .before .before .before .pre) .sound), ap (λ (b : Bytes). length b) (c .before .before .before .before .body .ensures))
 
--- src/files.rt:47:1
 returns : tie.Need-returns
 unfolding shapeRules nodeCount
 returns c = rw (← c .before .before .before .before .before .body .ensures, ← c .before .before .before .before .body2 .ensures, ← c .before .before .before .body3 .ensures, ← c .before .before .body4 .ensures, ← c .before .body5 .ensures) (c .oracle-bodies .ensures) ∙ sym (first-append _ _ (network-counted 1 7 (c .before .before .before .before .before .before .before .before .args .o .now)) (c .before .before .before .before .before .before .before .before .pre))
