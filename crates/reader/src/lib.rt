@@ -2,3 +2,4 @@
 // that it is.
 pub mod bodies;
 pub mod files;
+pub mod oracle;

@@ -1,0 +1,38 @@
+-- The kind of a pair, from the cells that the code works out. Assumes nothing.
+use Prim.Native.Nat.{ℕ, _≤_, _<_}
+use native.Mathlib.Omega.{arith}
+use mathlib.Core.Path.{_≡_, refl, sym, _∙_, ap}
+use mathlib.Core.Bool.{Bool, true, false, not}
+use lib.ListN.{length}
+use lib.Dec.{eqb}
+use borrow.Author.Tests.{eqb-true}
+use Rattle.model.specs.Bytes.{Bytes}
+use Rattle.model.specs.Contents.{nodeBody, gridBody}
+use Rattle.model.specs.Network.{node, nodes, nodeCount}
+use Rattle.model.specs.Grid.{gridOver, gridNumber, gridBroken, cellOf, cells, cellAt, kindOf}
+use Rattle.model.specs.Oracle.{gridBodyBroken}
+use Rattle.model.specs.Query.{kindBetween}
+use Rattle.theory.specs.Passed.{or-false, not-false}
+use Rattle.grid.specs.Stored.{gridOf, modelCell}
+use Rattle.grid.specs.declared.Grid.{Grid}
+use Rattle.grid.specs.declared.Cell.{Cell}
+use Rattle.grid.proofs.Cells.{cell-at}
+
+-- A grid body that keeps rule 8 has 2 bytes, and a g that keeps it.
+pub grid-size : (b : Bytes) → gridBodyBroken b ≡ false → length b ≡ 2
+unfolding gridBodyBroken
+grid-size b h = eqb-true (length b) 2 (not-false (or-false (not (eqb (length b) 2)) (gridBroken (gridNumber b)) h .0))
+
+pub grid-kept : (b : Bytes) → gridBodyBroken b ≡ false → gridBroken (gridNumber b) ≡ false
+unfolding gridBodyBroken
+grid-kept b h = or-false (not (eqb (length b) 2)) (gridBroken (gridNumber b)) h .1
+
+module _ (o nb gb : Bytes) (p : nb ≡ nodeBody o) (q : gb ≡ gridBody o) (r : Grid) (g : ℕ) (k : g ≡ gridNumber gb) (made : gridOf r ≡ gridOver g (nodes nb)) where
+  cell-is : (c : Cell) (s : ℕ) → s < nodeCount nb → modelCell c ≡ cellOf (gridOf r) (node nb s)
+      → modelCell c ≡ cellAt (cells (gridOver (gridNumber (gridBody o)) (nodes (nodeBody o))) (nodes (nodeBody o))) s
+  cell-is c s h e = e ∙ (sym (cell-at (gridOf r) nb s h) ∙ rw (made, k, p, q))
+
+  pub kind-is : (c e : Cell) (s t : ℕ) → s < nodeCount nb → t < nodeCount nb → modelCell c ≡ cellOf (gridOf r) (node nb s) → modelCell e ≡ cellOf (gridOf r) (node nb t)
+      → kindOf (modelCell c) (modelCell e) ≡ kindBetween o s t
+  unfolding kindBetween
+  kind-is c e s t hs ht x y = rw (cell-is c s hs x, cell-is e t ht y)

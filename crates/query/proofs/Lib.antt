@@ -1,0 +1,3 @@
+-- The laws that the proofs cite; `Kept` has those for callers.
+pub mod Kept
+mod Cells

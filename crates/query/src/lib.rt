@@ -1,0 +1,3 @@
+// The questions over an oracle: what sends them back, and their answers.
+pub mod kinds;
+pub mod refusals;

@@ -1,0 +1,79 @@
+// The rules that each question checks, in checking order: the number of the first that is broken, or 0.
+ghost use mathlib.Core.Path.{_≡_};
+ghost use mathlib.Core.Bool.{true};
+ghost use Rattle.model.specs.Rules.{firstBroken, pairRules, timeRules, farRules, listRules, wellShaped, workTooSmall};
+use crate::kinds::is_local;
+use crate::kinds::kind_between;
+use reader::files::shape_refusal;
+use reader::oracle::node_count;
+
+// Working words for each node.
+pub const WORDS: usize = 8;
+
+// Rules 1 to 12, for one node.
+pub fn list_refusal(o: &[u8], u: u32) -> u32
+    ensures { λ r. ⌜ r ≡ firstBroken (listRules (now (o .entry)) u) ⌝ }
+{
+    let r = shape_refusal(o);
+    if r != 0 {
+        return r;
+    }
+    if node_count(o) <= u as usize {
+        return 12;
+    }
+    0
+}
+
+// Rules 1 to 12, for two nodes.
+pub fn pair_refusal(o: &[u8], s: u32, t: u32) -> u32
+    ensures { λ r. ⌜ r ≡ firstBroken (pairRules (now (o .entry)) s t) ⌝ }
+{
+    let r = shape_refusal(o);
+    if r != 0 {
+        return r;
+    }
+    let n = node_count(o);
+    if n <= s as usize {
+        return 12;
+    }
+    if n <= t as usize {
+        return 12;
+    }
+    0
+}
+
+// Rule 14, of an oracle that keeps 1 to 11.
+fn work_too_small(o: &[u8], words: usize) -> bool
+    requires { ⌜ wellShaped (now o) ≡ true ⌝ }
+    ensures { λ r. ⌜ r ≡ workTooSmall (now (o .entry)) words ⌝ }
+{
+    words < WORDS * node_count(o)
+}
+
+// Rules 1 to 12, and 14.
+pub fn time_refusal(o: &[u8], s: u32, t: u32, words: usize) -> u32
+    ensures { λ r. ⌜ r ≡ firstBroken (timeRules (now (o .entry)) s t words) ⌝ }
+{
+    let r = pair_refusal(o, s, t);
+    if r != 0 {
+        return r;
+    }
+    if work_too_small(o, words) {
+        return 14;
+    }
+    0
+}
+
+// Rules 1 to 13.
+pub fn far_refusal(o: &[u8], s: u32, t: u32) -> u32
+    ensures { λ r. ⌜ r ≡ firstBroken (farRules (now (o .entry)) s t) ⌝ }
+{
+    let r = pair_refusal(o, s, t);
+    if r != 0 {
+        return r;
+    }
+    if is_local(kind_between(o, s as usize, t as usize)) {
+        return 13;
+    }
+    0
+}
