@@ -1,3 +1,4 @@
 -- The laws that the proofs cite; `Kept` has those for callers.
 pub mod Kept
 mod Cells
+mod Words

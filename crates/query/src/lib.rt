@@ -1,3 +1,4 @@
 // The questions over an oracle: what sends them back, and their answers.
 pub mod kinds;
+pub mod local;
 pub mod refusals;

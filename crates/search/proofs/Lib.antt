@@ -1,4 +1,4 @@
 -- The laws that the proofs cite.
 mod Scans
-mod Parts
+pub mod Parts
 mod Turns

@@ -1,0 +1,44 @@
+-- The working words when their front was lent on. Assumes nothing.
+use Prim.Native.Nat.{ℕ, _+_, _-_, _≤_, _<_}
+use native.Mathlib.Nat.{zero-add}
+use native.Mathlib.Omega.{arith}
+use mathlib.Core.Path.{_≡_, sym, _∙_, ap}
+use mathlib.Core.List.{List, _++_}
+use lib.ListN.{length, getD, take, drop, replicate, List·getD-append}
+use lib.Seq.{length-take-le, getD-take, drop-drop}
+use Rattle.model.specs.Bytes.{Bytes}
+use Rattle.model.specs.Contents.{nodeBody, edgeBody, closedBody}
+use Rattle.model.specs.Distance.{dist}
+use Rattle.model.specs.Network.{network, nodeCount, distance}
+use Rattle.model.specs.Oracle.{coded}
+use Rattle.model.specs.Calls.{cleared}
+use Rattle.model.specs.Walk.{Arc}
+use Rattle.theory.specs.RangeLaws.{getD-map-range}
+use Rattle.theory.specs.Sound.{count-nodes}
+use Rattle.algorithms.specs.Rounds.{Found, distanceWords}
+use Rattle.arcs.specs.Arcs.{arcsIn, arcs-in}
+
+-- A word of the front, after it came back as ys.
+pub front-word : (w ys : List ℕ) (m t : ℕ) → m ≤ length w → length ys ≡ length (take m w) → t < m → getD (ys ++ drop m w) t 0 ≡ getD ys t 0
+front-word w ys m t h e l = List·getD-append ys (drop m w) 0 t (omega (arith, e, length-take-le m w h))
+
+-- The word of t that a search from s has left.
+pub found-word : (arcs : List Arc) (n s t : ℕ) (ys order : List ℕ) → Found arcs n s (take n ys) order → t < n → getD ys t 0 ≡ coded (dist arcs n s t)
+unfolding distanceWords
+found-word arcs n s t ys order found h =
+    sym (getD-take n ys t 0 h) ∙ (ap (λ (l : List ℕ). getD l t 0) (found .times) ∙ (getD-map-range (λ v. coded (dist arcs n s v)) 0 0 n t h ∙ rw zero-add))
+
+pub cleared-front : (w ys : List ℕ) (k : ℕ) → k ≤ length w → ys ≡ replicate (length (take k w)) 0 → ys ++ drop k w ≡ cleared k w
+unfolding cleared
+cleared-front w ys k h e = rw (e, length-take-le k w h)
+
+-- What is behind more words, where it is the same behind fewer.
+pub behind : (a b : ℕ) (w v : List ℕ) → a ≤ b → drop a w ≡ drop a v → drop b w ≡ drop b v
+behind a b w v h e =
+    let q : b ≡ a + (b - a) = omega arith in
+    rw q (sym (drop-drop (b - a) a w) ∙ (ap (drop (b - a)) e ∙ drop-drop (b - a) a v))
+
+-- The distance in the oracle's network, over its bodies.
+pub distance-in : (o : Bytes) (s t : ℕ) → distance (network o) s t ≡ dist (arcsIn (edgeBody o) (closedBody o)) (nodeCount (nodeBody o)) s t
+unfolding distance
+distance-in o s t = rw (arcs-in o, count-nodes o)

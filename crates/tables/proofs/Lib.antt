@@ -1,0 +1,3 @@
+mod Values
+mod Leasts
+mod Counts

@@ -1,0 +1,4 @@
+pub mod Premises
+pub mod Entries
+pub mod Codes
+pub mod Oracles
