@@ -85,3 +85,7 @@ unfolding timeRules workTooSmall
 time-kept o s t words h =
     let p = split (pairRules o s t) 14 (workTooSmall o words) (pair-counted o s t) (omega arith) h in
     record { pair = pair-kept o s t (p .0); enough = ltb-false words (wordsNeeded o) (p .1) }
+
+pub far-kept : (o : Bytes) (s t : ℕ) → firstBroken (farRules o s t) ≡ 0 → PairKept o s t
+unfolding farRules
+far-kept o s t h = pair-kept o s t (split (pairRules o s t) 13 (localPair o s t) (pair-counted o s t) (omega arith) h .0)

@@ -2,3 +2,4 @@
 pub mod Kept
 mod Cells
 mod Words
+mod Answers

@@ -1,4 +1,5 @@
 // The questions over an oracle: what sends them back, and their answers.
+pub mod calls;
 pub mod kinds;
 pub mod local;
 pub mod refusals;

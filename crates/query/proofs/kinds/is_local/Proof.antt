@@ -3,23 +3,17 @@ use mathlib.Core.Path.{refl}
 use borrow.Author.Needs.{needs}
 use Rattle.query.proofs.kinds.is_local.Statement.{statement}
 use Rattle.query.proofs.kinds.is_local.Tie as tie
-use Rattle.query.proofs.kinds.is_local.Reads as reads
-use Rattle.query.proofs.kinds.is_local.Lts as lts
 
--- src/kinds.rt:31:22
 enum-told : tie.Need-enum-told
 enum-told c = search needs
 
--- src/kinds.rt:32:24
 enum-told-2 : tie.Need-enum-told-2
 enum-told-2 c = search needs
 
--- src/kinds.rt:27:1
 returns : tie.Need-returns
 unfolding isLocal
 returns c = search needs
 
--- src/kinds.rt:27:1
 returns-2 : tie.Need-returns-2
 unfolding isLocal
 returns-2 c = search needs

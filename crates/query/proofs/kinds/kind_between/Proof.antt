@@ -9,43 +9,28 @@ use native.Mathlib.Omega.{arith}
 use borrow.Author.Needs.{needs}
 use Rattle.query.proofs.kinds.kind_between.Statement.{statement}
 use Rattle.query.proofs.kinds.kind_between.Tie as tie
-use Rattle.query.proofs.kinds.kind_between.Reads as reads
-use Rattle.query.proofs.kinds.kind_between.Lts as lts
-use Rattle.grid.proofs.Grid.cell.Reads as cell-reads
-use Rattle.grid.proofs.Grid.kind.Reads as kind-reads
-use Rattle.grid.proofs.Grid.over.Reads as over-reads
-use Rattle.reader.proofs.oracle.oracle_body.Reads as oracle-body-reads
-use Rattle.rules.proofs.grid.grid_number.Reads as grid-number-reads
 
--- src/kinds.rt:21:9
 oracle-body-requires : tie.Need-oracle-body-requires
 oracle-body-requires c κs = search needs
 
--- src/kinds.rt:22:25
 oracle-body-requires-2 : tie.Need-oracle-body-requires-2
 oracle-body-requires-2 c κs = search needs
 
--- src/kinds.rt:22:9
 grid-number-requires : tie.Need-grid-number-requires
 grid-number-requires c κs = omega (arith, ap (λ (b : Bytes). length b) (c .oracle-body2 .ensures), grid-size _ (all-shaped _ (c .before .before .before .pre .0) .grid))
 
--- src/kinds.rt:23:9
 over-requires : tie.Need-over-requires
 over-requires c κs = rw (c .before .before .oracle-body .ensures) (all-shaped _ (c .before .before .before .before .pre .0) .sound .nodes-rule)
 
--- src/kinds.rt:24:16
 cell-requires : tie.Need-cell-requires
 cell-requires c κs = (over-made (c .over .result) _ _ (c .over .ensures) (rw (c .before .before .before .oracle-body .ensures) (all-shaped _ (c .before .before .before .before .before .pre .0) .sound .nodes-rule)) (rw (c .before .before .before .oracle-body .ensures) (all-shaped _ (c .before .before .before .before .before .pre .0) .sound .coordinates)) (rw (c .before .grid-number .ensures, c .before .before .oracle-body2 .ensures) (grid-kept _ (all-shaped _ (c .before .before .before .before .before .pre .0) .grid))), rw (c .before .before .before .oracle-body .ensures) (c .before .before .before .before .before .pre .1))
 
--- src/kinds.rt:24:37
 cell-requires-2 : tie.Need-cell-requires-2
 cell-requires-2 c κs = (over-made (c .before .over .result) _ _ (c .before .over .ensures) (rw (c .before .before .before .before .oracle-body .ensures) (all-shaped _ (c .before .before .before .before .before .before .pre .0) .sound .nodes-rule)) (rw (c .before .before .before .before .oracle-body .ensures) (all-shaped _ (c .before .before .before .before .before .before .pre .0) .sound .coordinates)) (rw (c .before .before .grid-number .ensures, c .before .before .before .oracle-body2 .ensures) (grid-kept _ (all-shaped _ (c .before .before .before .before .before .before .pre .0) .grid))), rw (c .before .before .before .before .oracle-body .ensures) (c .before .before .before .before .before .before .pre .2))
 
--- src/kinds.rt:24:5
 kind-requires : tie.Need-kind-requires
 kind-requires c κs = search needs
 
--- src/kinds.rt:17:1
 returns : tie.Need-returns
 returns c = c .kind .ensures ∙ kind-is _ _ _ (c .before .before .before .before .before .before .oracle-body .ensures) (c .before .before .before .before .before .oracle-body2 .ensures) (c .before .before .before .over .result) _ (c .before .before .before .before .grid-number .ensures) (c .before .before .before .over .ensures) (c .before .before .cell .result) (c .before .cell2 .result) _ _ (rw (c .before .before .before .before .before .before .oracle-body .ensures) (c .before .before .before .before .before .before .before .before .pre .1)) (rw (c .before .before .before .before .before .before .oracle-body .ensures) (c .before .before .before .before .before .before .before .before .pre .2)) (c .before .before .cell .ensures) (c .before .cell2 .ensures)
 

@@ -8,34 +8,23 @@ use native.Mathlib.Omega.{arith}
 use borrow.Author.Needs.{needs}
 use Rattle.query.proofs.local.local_seconds.Statement.{statement}
 use Rattle.query.proofs.local.local_seconds.Tie as tie
-use Rattle.query.proofs.local.local_seconds.Reads as reads
-use Rattle.query.proofs.local.local_seconds.Lts as lts
-use Rattle.query.proofs.local.search_seconds.Reads as search-seconds-reads
-use Rattle.reader.proofs.oracle.node_count.Reads as node-count-reads
-use Rattle.reader.proofs.oracle.oracle_body.Reads as oracle-body-reads
 
--- src/local.rt:38:20
 oracle-body-requires : tie.Need-oracle-body-requires
 oracle-body-requires c κs = search needs
 
--- src/local.rt:38:43
 oracle-body-requires-2 : tie.Need-oracle-body-requires-2
 oracle-body-requires-2 c κs = search needs
 
--- src/local.rt:38:67
 node-count-requires : tie.Need-node-count-requires
 node-count-requires c κs = search needs
 
--- src/local.rt:38:5
 search-seconds-requires : tie.Need-search-seconds-requires
 unfolding wordsNeeded
 search-seconds-requires c κs = let k = all-shaped _ (c .before .before .before .before .before .before .pre .0) .sound in ((omega (arith, c .before .node-count .ensures, node-bytes _ k .0), omega (arith, c .before .node-count .ensures), omega (arith, c .before .node-count .ensures), omega (arith, c .before .node-count .ensures)), (rw (c .before .node-count .ensures, c .before .before .before .oracle-body .ensures) (k .some-edge), rw (c .before .before .before .oracle-body .ensures, c .before .before .oracle-body2 .ensures) (k .closed)))
 
--- src/local.rt:33:1
 same-length : tie.Need-same-length
 same-length c = search needs
 
--- src/local.rt:33:1
 returns : tie.Need-returns
 unfolding wordsNeeded
 returns c = let a = c .before .before .before .before .before .before .before .before .before .args in (rw (distance-in (a .o .now) (a .s) (a .t), ← c .before .before .before .before .before .before .oracle-body .ensures, ← c .before .before .before .before .before .oracle-body2 .ensures, ← c .before .before .before .before .node-count .ensures) (c .before .before .search-seconds .ensures .0), behind (3 * c .before .before .before .before .node-count .result) (wordsNeeded (a .o .now)) _ _ (omega (arith, c .before .before .before .before .node-count .ensures)) (c .before .before .search-seconds .ensures .1))

@@ -8,39 +8,28 @@ use native.Mathlib.Omega.{arith}
 use borrow.Author.Needs.{needs}
 use Rattle.query.proofs.local.search_seconds.Statement.{statement}
 use Rattle.query.proofs.local.search_seconds.Tie as tie
-use Rattle.query.proofs.local.search_seconds.Reads as reads
-use Rattle.query.proofs.local.search_seconds.Lts as lts
-use Rattle.search.proofs.search.search.Reads as search-reads
 
--- src/local.rt:27:13
 mul-m : tie.Need-mul-m
 mul-m c = search needs
 
--- src/local.rt:28:33
 slice-relend-prefix-search : tie.Need-slice-relend-prefix-search
 slice-relend-prefix-search c = search needs
 
--- src/local.rt:28:33
 slice-aggregate-search : tie.Need-slice-aggregate-search
 slice-aggregate-search c = sym (length-take-le (3 * c .before .before .before .before .args .n) (c .before .before .before .before .args .work .now) (omega arith))
 
--- src/local.rt:28:5
 search-requires : tie.Need-search-requires
 search-requires c κs = ((omega arith, omega arith, length-take-le (3 * c .before .before .before .before .args .n) (c .before .before .before .before .args .work .now) (omega arith)), search needs)
 
--- src/local.rt:29:5
 mul-result : tie.Need-mul-result
 mul-result c = search needs
 
--- src/local.rt:29:5
 slice-read-result : tie.Need-slice-read-result
 slice-read-result c = search needs
 
--- src/local.rt:21:1
 same-length : tie.Need-same-length
 same-length c = search needs
 
--- src/local.rt:21:1
 returns : tie.Need-returns
 returns c = let a = c .before .before .before .before .before .before .before .before .args in let ys = c .before .before .before .search .last .1 .1 .1 .1 .0 in let k = c .before .before .before .search .kept .1 .1 .1 .1 .0 in (front-word (a .work .now) ys (3 * a .n) (a .t) (omega arith) k (omega arith) ∙ found-word (arcsIn (a .edges .now) (a .closed .now)) (a .n) (a .s) (a .t) ys _ (c .before .before .before .search .ensures .0) (omega arith), front-others (a .work .now) ys (3 * a .n) (omega arith) k)
 

@@ -5,27 +5,19 @@ use native.Mathlib.Omega.{arith}
 use borrow.Author.Needs.{needs}
 use Rattle.query.proofs.local.zero_front.Statement.{statement}
 use Rattle.query.proofs.local.zero_front.Tie as tie
-use Rattle.query.proofs.local.zero_front.Reads as reads
-use Rattle.query.proofs.local.zero_front.Lts as lts
-use Rattle.bitset.proofs.words.fill.Reads as fill-reads
 
--- src/local.rt:46:10
 slice-relend-prefix-fill : tie.Need-slice-relend-prefix-fill
 slice-relend-prefix-fill c = search needs
 
--- src/local.rt:46:10
 slice-aggregate-fill : tie.Need-slice-aggregate-fill
 slice-aggregate-fill c = sym (length-take-le (c .before .before .args .k) (c .before .before .args .work .now) (omega arith))
 
--- src/local.rt:46:5
 fill-requires : tie.Need-fill-requires
 fill-requires c κs = search needs
 
--- src/local.rt:42:1
 same-length : tie.Need-same-length
 same-length c = search needs
 
--- src/local.rt:42:1
 returns : tie.Need-returns
 returns c = cleared-front (c .before .before .before .before .before .args .work .now) (c .before .before .fill .last .0) (c .before .before .before .before .before .args .k) (omega arith) (c .before .before .fill .ensures)
 

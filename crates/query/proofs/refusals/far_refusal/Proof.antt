@@ -5,35 +5,24 @@ use mathlib.Core.Path.{sym, _∙_, ap}
 use borrow.Author.Needs.{needs}
 use Rattle.query.proofs.refusals.far_refusal.Statement.{statement}
 use Rattle.query.proofs.refusals.far_refusal.Tie as tie
-use Rattle.query.proofs.refusals.far_refusal.Reads as reads
-use Rattle.query.proofs.refusals.far_refusal.Lts as lts
-use Rattle.query.proofs.kinds.is_local.Reads as is-local-reads
-use Rattle.query.proofs.kinds.kind_between.Reads as kind-between-reads
-use Rattle.query.proofs.refusals.pair_refusal.Reads as pair-refusal-reads
 
--- src/refusals.rt:71:9
 pair-refusal-requires : tie.Need-pair-refusal-requires
 pair-refusal-requires c κs = search needs
 
--- src/refusals.rt:73:9
 returns : tie.Need-returns
 unfolding farRules
 returns c = c .before .pair-refusal .ensures ∙ sym (first-stays _ _ (λ e. c .if1 .taken (c .before .pair-refusal .ensures ∙ e)))
 
--- src/refusals.rt:75:17
 kind-between-requires : tie.Need-kind-between-requires
 kind-between-requires c κs = let k = pair-kept _ _ _ (sym (c .before .pair-refusal .ensures) ∙ c .if1 .left) in (k .shape, k .first, k .second)
 
--- src/refusals.rt:75:8
 is-local-requires : tie.Need-is-local-requires
 is-local-requires c κs = search needs
 
--- src/refusals.rt:76:9
 returns-2 : tie.Need-returns-2
 unfolding farRules localPair
 returns-2 c = one-broken (pairRules (c .before .before .before .before .before .before .args .o .now) (c .before .before .before .before .before .before .args .s) (c .before .before .before .before .before .before .args .t)) 13 (pair-counted _ _ _) (sym (c .before .before .before .before .pair-refusal .ensures) ∙ c .before .before .before .if1 .left) (ap isLocal (sym (c .before .before .kind-between .ensures)) ∙ sym (c .before .is-local .ensures) ∙ c .if2 .taken)
 
--- src/refusals.rt:68:1
 returns-3 : tie.Need-returns-3
 unfolding farRules localPair
 returns-3 c = one-kept (pairRules (c .before .before .before .before .before .before .args .o .now) (c .before .before .before .before .before .before .args .s) (c .before .before .before .before .before .before .args .t)) 13 (pair-counted _ _ _) (sym (c .before .before .before .before .pair-refusal .ensures) ∙ c .before .before .before .if1 .left) (ap isLocal (sym (c .before .before .kind-between .ensures)) ∙ sym (c .before .is-local .ensures) ∙ c .if2 .left)

@@ -7,35 +7,25 @@ use native.Mathlib.Omega.{arith}
 use borrow.Author.Needs.{needs}
 use Rattle.query.proofs.refusals.pair_refusal.Statement.{statement}
 use Rattle.query.proofs.refusals.pair_refusal.Tie as tie
-use Rattle.query.proofs.refusals.pair_refusal.Reads as reads
-use Rattle.query.proofs.refusals.pair_refusal.Lts as lts
-use Rattle.reader.proofs.files.shape_refusal.Reads as shape-refusal-reads
-use Rattle.reader.proofs.oracle.node_count.Reads as node-count-reads
 
--- src/refusals.rt:31:9
 shape-refusal-requires : tie.Need-shape-refusal-requires
 shape-refusal-requires c κs = search needs
 
--- src/refusals.rt:33:9
 returns : tie.Need-returns
 unfolding pairRules
 returns c = c .before .shape-refusal .ensures ∙ sym (first-stays _ _ (λ e. c .if1 .taken (c .before .shape-refusal .ensures ∙ e)))
 
--- src/refusals.rt:35:9
 node-count-requires : tie.Need-node-count-requires
 node-count-requires c κs = shaped _ (sym (c .before .shape-refusal .ensures) ∙ c .if1 .left)
 
--- src/refusals.rt:37:9
 returns-2 : tie.Need-returns-2
 unfolding pairRules
 returns-2 c = one-broken (shapeRules (c .before .before .before .before .before .args .o .now)) 12 (shape-counted _) (sym (c .before .before .before .shape-refusal .ensures) ∙ c .before .before .if1 .left) (either-missing _ (node-missing _ _ _ (c .before .node-count .ensures) (c .if2 .taken)))
 
--- src/refusals.rt:40:9
 returns-3 : tie.Need-returns-3
 unfolding pairRules
 returns-3 c = one-broken (shapeRules (c .before .before .before .before .before .before .args .o .now)) 12 (shape-counted _) (sym (c .before .before .before .before .shape-refusal .ensures) ∙ c .before .before .before .if1 .left) (other-missing (noSuchNode (c .before .before .before .before .before .before .args .o .now) (c .before .before .before .before .before .before .args .s)) (node-missing _ _ _ (c .before .before .node-count .ensures) (c .if3 .taken)))
 
--- src/refusals.rt:28:1
 returns-4 : tie.Need-returns-4
 unfolding pairRules
 returns-4 c = one-kept (shapeRules (c .before .before .before .before .before .before .args .o .now)) 12 (shape-counted _) (sym (c .before .before .before .before .shape-refusal .ensures) ∙ c .before .before .before .if1 .left) (both-there (node-there _ _ _ (c .before .before .node-count .ensures) (c .before .if2 .left)) (node-there _ _ _ (c .before .before .node-count .ensures) (c .if3 .left)))

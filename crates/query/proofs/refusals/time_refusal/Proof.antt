@@ -5,30 +5,21 @@ use mathlib.Core.Path.{sym, _∙_}
 use borrow.Author.Needs.{needs}
 use Rattle.query.proofs.refusals.time_refusal.Statement.{statement}
 use Rattle.query.proofs.refusals.time_refusal.Tie as tie
-use Rattle.query.proofs.refusals.time_refusal.Reads as reads
-use Rattle.query.proofs.refusals.time_refusal.Lts as lts
-use Rattle.query.proofs.refusals.pair_refusal.Reads as pair-refusal-reads
-use Rattle.query.proofs.refusals.work_too_small.Reads as work-too-small-reads
 
--- src/refusals.rt:57:9
 pair-refusal-requires : tie.Need-pair-refusal-requires
 pair-refusal-requires c κs = search needs
 
--- src/refusals.rt:59:9
 returns : tie.Need-returns
 unfolding timeRules
 returns c = c .before .pair-refusal .ensures ∙ sym (first-stays _ _ (λ e. c .if1 .taken (c .before .pair-refusal .ensures ∙ e)))
 
--- src/refusals.rt:61:8
 work-too-small-requires : tie.Need-work-too-small-requires
 work-too-small-requires c κs = pair-kept _ _ _ (sym (c .before .pair-refusal .ensures) ∙ c .if1 .left) .shape
 
--- src/refusals.rt:62:9
 returns-2 : tie.Need-returns-2
 unfolding timeRules
 returns-2 c = one-broken (pairRules (c .before .before .before .before .before .args .o .now) (c .before .before .before .before .before .args .s) (c .before .before .before .before .before .args .t)) 14 (pair-counted _ _ _) (sym (c .before .before .before .pair-refusal .ensures) ∙ c .before .before .if1 .left) (sym (c .before .work-too-small .ensures) ∙ c .if2 .taken)
 
--- src/refusals.rt:54:1
 returns-3 : tie.Need-returns-3
 unfolding timeRules
 returns-3 c = one-kept (pairRules (c .before .before .before .before .before .args .o .now) (c .before .before .before .before .before .args .s) (c .before .before .before .before .before .args .t)) 14 (pair-counted _ _ _) (sym (c .before .before .before .pair-refusal .ensures) ∙ c .before .before .if1 .left) (sym (c .before .work-too-small .ensures) ∙ c .if2 .left)

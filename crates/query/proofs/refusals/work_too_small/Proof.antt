@@ -6,19 +6,13 @@ use native.Mathlib.Omega.{arith}
 use borrow.Author.Needs.{needs}
 use Rattle.query.proofs.refusals.work_too_small.Statement.{statement}
 use Rattle.query.proofs.refusals.work_too_small.Tie as tie
-use Rattle.query.proofs.refusals.work_too_small.Reads as reads
-use Rattle.query.proofs.refusals.work_too_small.Lts as lts
-use Rattle.reader.proofs.oracle.node_count.Reads as node-count-reads
 
--- src/refusals.rt:50:21
 node-count-requires : tie.Need-node-count-requires
 node-count-requires c κs = search needs
 
--- src/refusals.rt:50:13
 mul-result : tie.Need-mul-result
 mul-result c = omega (arith, c .node-count .ensures, node-bytes (c .before .before .args .o .now) (all-shaped _ (c .before .before .pre) .sound) .0)
 
--- src/refusals.rt:46:1
 returns : tie.Need-returns
 unfolding workTooSmall wordsNeeded
 returns c = rw (← c .node-count .ensures) (search needs)

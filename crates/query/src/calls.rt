@@ -1,0 +1,104 @@
+// The calls over an oracle: time, far, list. None asks anything of its arguments.
+ghost use mathlib.Core.Path.{_≡_};
+ghost use mathlib.Core.Bool.{true};
+ghost use Prim.Native.Nat.{_<_, _≤_};
+ghost use lib.ListN.{length, drop};
+ghost use Rattle.model.specs.Contents.{nodeBody};
+ghost use Rattle.model.specs.Network.{network, nodeCount};
+ghost use Rattle.model.specs.Query.{farAnswer, localAnswer, timeAnswer, listOf};
+ghost use Rattle.model.specs.Rules.{wellShaped, wordsNeeded};
+ghost use Rattle.model.specs.Calls.{farResult, listResult, listRefusal, TimeCall};
+use crate::kinds::kind_between;
+use crate::local::local_seconds;
+use crate::local::zero_front;
+use crate::refusals::WORDS;
+use crate::refusals::far_refusal;
+use crate::refusals::list_refusal;
+use crate::refusals::time_refusal;
+use model::Answer;
+use model::Kind;
+use reader::oracle::ACCESS;
+use reader::oracle::TABLE;
+use reader::oracle::node_count;
+use reader::oracle::oracle_body;
+use reader::oracle::transit_count;
+use tables::far::answer_of;
+use tables::far::far_answer;
+use tables::lists::list_part;
+
+// The far answer, from the lists and the table alone.
+fn far_of(o: &[u8], s: usize, t: usize) -> Answer
+    requires { ⌜ (wellShaped (now o) ≡ true) × (s < nodeCount (nodeBody (now o))) × (t < nodeCount (nodeBody (now o))) ⌝ }
+    ensures { λ r. ⌜ r ≡ farAnswer (now (o .entry)) s t ⌝ }
+{
+    far_answer(
+        transit_count(o),
+        oracle_body(o, ACCESS),
+        oracle_body(o, TABLE),
+        s,
+        t,
+    )
+}
+
+// The far question.
+pub fn far(o: &[u8], s: u32, t: u32) -> Answer
+    ensures { λ r. ⌜ r ≡ farResult (now (o .entry)) s t ⌝ }
+{
+    let rule = far_refusal(o, s, t);
+    if rule != 0 {
+        return Answer::Refused { rule };
+    }
+    far_of(o, s as usize, t as usize)
+}
+
+// The local answer, from a search over the open edges.
+fn local_of(o: &[u8], s: usize, t: usize, work: &mut [u32]) -> Answer
+    requires { ⌜ (wellShaped (now o) ≡ true) × (s < nodeCount (nodeBody (now o))) × (t < nodeCount (nodeBody (now o))) × (wordsNeeded (now o) ≤ length (now work)) ⌝ }
+    ensures answer { λ r. ⌜ r ≡ localAnswer (network (now (o .entry))) s t ⌝ }
+    ensures rest { λ _. ⌜ drop (wordsNeeded (now (o .entry))) (now (work .exit)) ≡ drop (wordsNeeded (now (o .entry))) (now (work .entry)) ⌝ }
+{
+    answer_of(Kind::Local, 0, local_seconds(o, s, t, work))
+}
+
+// The answer by the kind of the pair.
+fn time_of(o: &[u8], s: usize, t: usize, work: &mut [u32]) -> Answer
+    requires { ⌜ (wellShaped (now o) ≡ true) × (s < nodeCount (nodeBody (now o))) × (t < nodeCount (nodeBody (now o))) × (wordsNeeded (now o) ≤ length (now work)) ⌝ }
+    ensures answer { λ r. ⌜ r ≡ timeAnswer (now (o .entry)) s t ⌝ }
+    ensures rest { λ _. ⌜ drop (wordsNeeded (now (o .entry))) (now (work .exit)) ≡ drop (wordsNeeded (now (o .entry))) (now (work .entry)) ⌝ }
+{
+    let kind = kind_between(o, s, t);
+    match kind {
+        Kind::Far => far_of(o, s, t),
+        Kind::Local => local_of(o, s, t, work),
+    }
+}
+
+// The time between two nodes. The first 8 N words are zero afterwards.
+pub fn time(o: &[u8], s: u32, t: u32, work: &mut [u32]) -> Answer
+    ensures { λ r. ⌜ TimeCall (now (o .entry)) s t (now (work .entry)) r (now (work .exit)) ⌝ }
+{
+    let rule = time_refusal(o, s, t, work.len());
+    if rule != 0 {
+        return Answer::Refused { rule };
+    }
+    let answer = time_of(o, s as usize, t as usize, work);
+    zero_front(work, WORDS * node_count(o));
+    answer
+}
+
+// The access list of a node, as that part of the oracle, its count included; empty where it is refused.
+pub fn list(o: &[u8], u: u32) -> &[u8]
+    ensures { λ r. ⌜ now r ≡ listResult (now (o .entry)) u ⌝ }
+{
+    if list_refusal(o, u) != 0 {
+        return &o[0..0];
+    }
+    list_part(oracle_body(o, ACCESS), u as usize)
+}
+
+// The number of the rule for which `list` hands back the empty part, or 0.
+pub fn list_rule(o: &[u8], u: u32) -> u32
+    ensures { λ r. ⌜ r ≡ listRefusal (now (o .entry)) u ⌝ }
+{
+    list_refusal(o, u)
+}
