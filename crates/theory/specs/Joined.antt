@@ -24,7 +24,7 @@ whole-contents edition n f h =
     ltb-false (length f) (entryAt n) (neither (ltb (length f) 2 || not (eqb (byte f 0) edition) || not (eqb (byte f 1) n)) h)
 
 -- Parts without gaps lie within their end.
-gapless-after : (at end : ℕ) (ps : List Part) → gapless at ps end ≡ true → at ≤ end
+pub gapless-after : (at end : ℕ) (ps : List Part) → gapless at ps end ≡ true → at ≤ end
 unfolding gapless
 gapless-after at end [] h = omega (arith, eqb-true at end h)
 gapless-after at end (p ∷ ps) h = omega (arith, gapless-after (at + p .size) end ps (both {b = eqb (p .start) at} h .1))

@@ -31,6 +31,7 @@ pub mod Accepted
 pub mod Shape
 pub mod WellShaped
 pub mod Audits
+pub mod Whole
 pub mod FarBodies
 pub mod FarSums
 pub mod Times
