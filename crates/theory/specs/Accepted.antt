@@ -1,8 +1,9 @@
--- An accepted network is good: what the theorems about built oracles ask for. Assumes nothing.
+-- A network that keeps rules 3 to 8, in a network file or in an oracle, is good: what the theorems about built oracles ask for. Assumes nothing.
 use Prim.Native.Nat.{ℕ, _*_, _≤_, _<_}
 use native.Mathlib.Omega.{arith}
 use native.Mathlib.Nat.{mul-le-mul, mul-suc}
 use mathlib.Core.Path.{_≡_, refl, _∙_}
+use mathlib.Core.Bool.{false}
 use mathlib.Core.List.{List, [], _∷_, _++_, map, List·Memᴰ, List·Memᴰ·head, List·Memᴰ·tail}
 use lib.ListN.{length, getD, length-map, length-append}
 use lib.Dec.{ltb}
@@ -33,17 +34,14 @@ unfolding concat
 seven-most a b c d e f g ha hb hc hd he hf hg =
     omega (arith, length-append a (b ++ (c ++ (d ++ (e ++ (f ++ (g ++ [])))))), length-append b (c ++ (d ++ (e ++ (f ++ (g ++ []))))), length-append c (d ++ (e ++ (f ++ (g ++ [])))), length-append d (e ++ (f ++ (g ++ []))), length-append e (f ++ (g ++ [])), length-append f (g ++ []), length-append g [])
 
-module _ (f : Bytes) (g : ℕ) (ok : Passed f g) where
-  pub g-fits : g ≤ maxGrid
+module _ (f : Bytes) (g : ℕ) (sound : Sound f) (keeps : gridBroken g ≡ false) where
+  fits : g ≤ maxGrid
   unfolding gridBroken
-  g-fits = ltb-false maxGrid g (or-false (ltb g 1) (ltb maxGrid g) (ok .grid) .1)
+  fits = ltb-false maxGrid g (or-false (ltb g 1) (ltb maxGrid g) keeps .1)
 
-  pub g-above : 0 < g
+  above : 0 < g
   unfolding gridBroken
-  g-above = ltb-false g 1 (or-false (ltb g 1) (ltb maxGrid g) (ok .grid) .0)
-
-  abbrev sound : Sound f
-  sound = ok .sound
+  above = ltb-false g 1 (or-false (ltb g 1) (ltb maxGrid g) keeps .0)
 
   -- ---- the oracle's size
   transit-bytes : length (concatMap bytes16 (transit-of f g)) ≤ 8192
@@ -93,5 +91,16 @@ module _ (f : Bytes) (g : ℕ) (ok : Passed f g) where
       let seven : length (concat (nodeBody f ∷ edgeBody f ∷ closedBody f ∷ bytes16 g ∷ concatMap bytes16 t ∷ access ∷ table ∷ [])) ≤ 168200000 = seven-most (nodeBody f) (edgeBody f) (closedBody f) (bytes16 g) (concatMap bytes16 t) access table (node-bytes f sound .2) (edge-bytes f sound .1) (closed-bytes f sound) (omega arith) transit-bytes access-size table-size in
       omega arith
 
+  pub good-of : Good f g
+  good-of = record { ends = ends f sound; near = near f sound; few = few f sound; g-fits = omega (arith, fits); small = oracle-size }
+
+-- The same, of an accepted network.
+module _ (f : Bytes) (g : ℕ) (ok : Passed f g) where
+  pub g-fits : g ≤ maxGrid
+  g-fits = fits f g (ok .sound) (ok .grid)
+
+  pub g-above : 0 < g
+  g-above = above f g (ok .sound) (ok .grid)
+
   pub good : Good f g
-  good = record { ends = ends f sound; near = near f sound; few = few f sound; g-fits = omega (arith, g-fits); small = oracle-size }
+  good = good-of f g (ok .sound) (ok .grid)

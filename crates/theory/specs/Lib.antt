@@ -32,6 +32,7 @@ pub mod Shape
 pub mod WellShaped
 pub mod Audits
 pub mod Whole
+pub mod AuditBodies
 pub mod FarBodies
 pub mod FarSums
 pub mod Times
