@@ -1,2 +1,3 @@
-// The arcs of the open edges: relaxing those out of a node.
+// The arcs of the open edges: passing the closed ones, and relaxing those out of a node.
+pub mod closed;
 pub mod relax;

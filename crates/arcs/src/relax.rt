@@ -5,13 +5,12 @@ ghost use Prim.Native.Nat.{_+_, _*_, _<_, _≤_, min};
 ghost use lib.ListN.{length, getD, set};
 ghost use Rattle.model.specs.Network.{edge, edgeSize, edgeCount, arcsOf, someEdgeBroken, numbersBroken};
 ghost use Rattle.algorithms.specs.Dijkstra.{relax-all};
-ghost use Rattle.arcs.specs.Arcs.{arcsIn, leaving, closedAt};
+ghost use Rattle.arcs.specs.Arcs.{arcsIn, leaving};
+use crate::closed::closed_at;
 use codec::records::EDGE_SIZE;
-use codec::records::NUMBER_SIZE;
 use codec::records::edge_first;
 use codec::records::edge_second;
 use codec::records::edge_seconds;
-use codec::records::number;
 
 // Lowers the time of v to x, where that is less. x is wide, so that no sum has to be kept small.
 fn lower(t: &mut [u32], v: usize, x: u64)
@@ -36,17 +35,6 @@ fn relax_edge(edges: &[u8], i: usize, t: &mut [u32], u: usize, d: u32)
     }
     if second == u {
         lower(t, first, x);
-    }
-}
-
-// Whether the closed edge at position j, if there is one, is edge i.
-fn closed_at(closed: &[u8], j: usize, i: usize) -> bool
-    ensures { λ r. ⌜ r ≡ closedAt (now (closed .entry)) j i ⌝ }
-{
-    if j < closed.len() / NUMBER_SIZE {
-        number(closed, j) == i
-    } else {
-        false
     }
 }
 

@@ -2,8 +2,8 @@
 use borrow.Author.Needs.{needs}
 use borrow.Author.Tests.{lt-ltb, le-ltb}
 use Rattle.arcs.specs.Arcs.{closedAt}
-use Rattle.arcs.proofs.relax.closed_at.Statement.{statement}
-use Rattle.arcs.proofs.relax.closed_at.Tie as tie
+use Rattle.arcs.proofs.closed.closed_at.Statement.{statement}
+use Rattle.arcs.proofs.closed.closed_at.Tie as tie
 
 number-requires : tie.Need-number-requires
 number-requires c κs = search needs

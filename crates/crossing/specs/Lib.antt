@@ -1,0 +1,7 @@
+-- The definitions that the contracts cite, and the laws about them that callers cite.
+pub mod Sets
+pub mod SetLaws
+pub mod Ground
+pub mod Cells
+pub mod AccessFlags
+pub mod TransitFlags

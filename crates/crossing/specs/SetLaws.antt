@@ -1,0 +1,154 @@
+-- Laws of sets as flags. Assumes nothing.
+use Prim.Native.Nat.{ℕ, suc, _≤_, _<_, min, max}
+use native.Mathlib.Nat.{zero-add}
+use native.Mathlib.Decide.{decLt}
+use native.Mathlib.Omega.{arith}
+use mathlib.Core.Path.{_≡_, refl, sym, _∙_, ap}
+use mathlib.Core.Logic.{_↔_}
+use mathlib.Core.Bool.{Bool, true, false, _&&_, _||_, cond, or-assoc, and-comm, and-true}
+use mathlib.Core.List.{List, [], _∷_, _++_, map, zipWith, List·Memᴰ}
+use lib.Dec.{eqb}
+use lib.ListN.{length, getD, replicate, length-map, length-replicate, getD-replicate, List·getD-eq-default}
+use lib.Seq.{ext-getD}
+use Rattle.model.specs.Lists.{upTo, filter, member}
+use Rattle.theory.specs.Tests.{and}
+use Rattle.theory.specs.Tests as tests
+use Rattle.theory.specs.Members.{filter→, →filter, length-filter, member→, →member, →upTo}
+use Rattle.theory.specs.RangeLaws.{length-range, getD-map-range}
+use Rattle.bitset.specs.Bits.{isIn, flag, flags}
+use Rattle.crossing.specs.Sets.{testFlags, memberFlags, either, both, ones}
+
+pub same-test : {b c : Bool} → (b ≡ true → c ≡ true) → (c ≡ true → b ≡ true) → b ≡ c
+same-test {b = true} f g = sym (f refl)
+same-test {b = false} {c = true} f g = g refl
+same-test {b = false} {c = false} f g = refl
+
+-- The flags of the bits of words are those of the test whether a bit is set.
+pub flags-test : (n : ℕ) (s : List ℕ) → flags n s ≡ testFlags (isIn s) n
+unfolding flags flag testFlags
+flags-test n s = refl
+
+-- ---- one flag
+
+one-where : (b : Bool) → _≡_ {A = ℕ} (cond b 1 0) 1 → b ≡ true
+one-where true e = refl
+one-where false e = absurd (omega arith)
+
+module _ (p : ℕ → Bool) (n : ℕ) where
+  pub length-test-flags : length (testFlags p n) ≡ n
+  unfolding testFlags
+  length-test-flags = length-map (upTo n) (λ v. cond (p v) 1 0) ∙ length-range 0 n
+
+  pub test-flag-at : (v : ℕ) → v < n → getD (testFlags p n) v 0 ≡ cond (p v) 1 0
+  unfolding testFlags
+  test-flag-at v h = getD-map-range (λ v. cond (p v) 1 0) 0 0 n v h ∙ rw zero-add
+
+  pub test-flag : (v : ℕ) → (getD (testFlags p n) v 0 ≡ 1) ↔ ((v < n) × (p v ≡ true))
+  test-flag v = (found (decLt v n), λ h. test-flag-at v (h .0) ∙ rw (h .1))
+    where
+      found : Dec (v < n) → getD (testFlags p n) v 0 ≡ 1 → (v < n) × (p v ≡ true)
+      found (yes h) e = (h, one-where (p v) (sym (test-flag-at v h) ∙ e))
+      found (no h) e = let z = List·getD-eq-default (testFlags p n) 0 {n = v} (omega (arith, length-test-flags)) in absurd (omega arith)
+
+-- Two tests that agree below n.
+pub test-flags-same : (p q : ℕ → Bool) (n : ℕ) → ((v : ℕ) → v < n → p v ≡ q v) → testFlags p n ≡ testFlags q n
+test-flags-same p q n h =
+    ext-getD 0 (testFlags p n) (testFlags q n) (length-test-flags p n ∙ sym (length-test-flags q n))
+    (λ v l. let k : v < n = omega (arith, length-test-flags p n) in test-flag-at p n v k ∙ rw (h v k) (sym (test-flag-at q n v k)))
+
+-- ---- sets together, by their tests
+
+module _ (f : ℕ → ℕ → ℕ) (op : Bool → Bool → Bool) (agree : (b c : Bool) → f (cond b 1 0) (cond c 1 0) ≡ cond (op b c) 1 0) (p q : ℕ → Bool) where
+  zip-tests : (l : List ℕ) → zipWith f (map (λ v. cond (p v) 1 0) l) (map (λ v. cond (q v) 1 0) l) ≡ map (λ v. cond (op (p v) (q v)) 1 0) l
+  unfolding zipWith
+  zip-tests [] = refl
+  zip-tests (v ∷ l) = rw (agree (p v) (q v), zip-tests l)
+
+max-or : (b c : Bool) → max (cond b 1 0) (cond c 1 0) ≡ cond (b || c) 1 0
+max-or true true = refl
+max-or true false = refl
+max-or false true = refl
+max-or false false = refl
+
+min-and : (b c : Bool) → min (cond b 1 0) (cond c 1 0) ≡ cond (b && c) 1 0
+min-and true true = refl
+min-and true false = refl
+min-and false true = refl
+min-and false false = refl
+
+module _ (p q : ℕ → Bool) (n : ℕ) where
+  pub either-test : either (testFlags p n) (testFlags q n) ≡ testFlags (λ v. p v || q v) n
+  unfolding either testFlags
+  either-test = zip-tests max _||_ max-or p q (upTo n)
+
+  pub both-test : both (testFlags p n) (testFlags q n) ≡ testFlags (λ v. p v && q v) n
+  unfolding both testFlags
+  both-test = zip-tests min _&&_ min-and p q (upTo n)
+
+-- How many pass a test.
+ones-map : (p : ℕ → Bool) (l : List ℕ) → ones (map (λ v. cond (p v) 1 0) l) ≡ length (filter p l)
+unfolding ones filter
+ones-map p [] = refl
+ones-map p (v ∷ l) = step (p v) (ones-map p l)
+  where
+    step : (b : Bool) → ones (map (λ v. cond (p v) 1 0) l) ≡ length (filter p l) → ones (cond b 1 0 ∷ map (λ v. cond (p v) 1 0) l) ≡ length (cond b (v ∷ filter p l) (filter p l))
+    step true e = ap suc e
+    step false e = e
+
+pub ones-test : (p : ℕ → Bool) (n : ℕ) → ones (testFlags p n) ≡ length (filter p (upTo n))
+unfolding testFlags
+ones-test p n = ones-map p (upTo n)
+
+pub ones-most : (n : ℕ) (s : List ℕ) → ones (flags n s) ≤ n
+ones-most n s = omega (arith, ap ones (flags-test n s), ones-test (isIn s) n, length-filter (isIn s) (upTo n), length-range 0 n)
+
+-- ---- the members of lists
+
+pub member-append : (v : ℕ) (l m : List ℕ) → member v (l ++ m) ≡ member v l || member v m
+unfolding member
+member-append v [] m = refl
+member-append v (x ∷ l) m = rw (member-append v l m) (sym (or-assoc (eqb v x) (member v l) (member v m)))
+
+pub member-filter : (p : ℕ → Bool) (l : List ℕ) (v : ℕ) → member v (filter p l) ≡ p v && member v l
+member-filter p l v = same-test
+    (λ h. let f = filter→ p l (member→ v (filter p l) h) in and (f .1) (→member v l (f .0)))
+    (λ h. let b = tests.both {b = p v} h in →member v (filter p l) (→filter p l (member→ v l (b .1)) (b .0)))
+
+module _ (n : ℕ) where
+  pub length-member-flags : (l : List ℕ) → length (memberFlags n l) ≡ n
+  unfolding memberFlags
+  length-member-flags l = length-test-flags (λ v. member v l) n
+
+  pub member-flag : (l : List ℕ) (v : ℕ) → (getD (memberFlags n l) v 0 ≡ 1) ↔ ((v < n) × List·Memᴰ v l)
+  unfolding memberFlags
+  member-flag l v =
+      let f = test-flag (λ v. member v l) n v in
+      (λ e. (f .0 e .0, member→ v l (f .0 e .1)), λ h. f .1 (h .0, →member v l (h .1)))
+
+  -- Lists with the same members below n.
+  pub member-flags-same : (l m : List ℕ) → ((v : ℕ) → v < n → List·Memᴰ v l ↔ List·Memᴰ v m) → memberFlags n l ≡ memberFlags n m
+  unfolding memberFlags
+  member-flags-same l m h = test-flags-same (λ v. member v l) (λ v. member v m) n (λ v k. same-test
+      (λ e. →member v m (h v k .0 (member→ v l e)))
+      (λ e. →member v l (h v k .1 (member→ v m e))))
+
+  pub no-members : memberFlags n [] ≡ replicate n 0
+  unfolding memberFlags member
+  no-members = ext-getD 0 (testFlags (λ v. false) n) (replicate n 0) (length-test-flags (λ v. false) n ∙ sym (length-replicate n 0))
+      (λ v l. let k : v < n = omega (arith, length-test-flags (λ v. false) n) in test-flag-at (λ v. false) n v k ∙ sym (getD-replicate {A = ℕ} n v 0 0 k))
+
+  pub either-members : (l m : List ℕ) → either (memberFlags n l) (memberFlags n m) ≡ memberFlags n (l ++ m)
+  unfolding memberFlags
+  either-members l m = either-test (λ v. member v l) (λ v. member v m) n ∙ test-flags-same _ _ n (λ v k. sym (member-append v l m))
+
+  pub both-members : (l m : List ℕ) → both (memberFlags n l) (memberFlags n m) ≡ memberFlags n (filter (λ v. member v m) l)
+  unfolding memberFlags
+  both-members l m = both-test (λ v. member v l) (λ v. member v m) n ∙ test-flags-same _ _ n (λ v k. and-comm (member v l) (member v m) ∙ sym (member-filter (λ v. member v m) l v))
+
+  -- Those of the numbers below n that pass a test: as a list, and how many.
+  pub filter-flags : (p : ℕ → Bool) → memberFlags n (filter p (upTo n)) ≡ testFlags p n
+  unfolding memberFlags
+  filter-flags p = test-flags-same _ _ n (λ v k. member-filter p (upTo n) v ∙ rw (→member v (upTo n) (→upTo n v k)) (and-true (p v)))
+
+  pub ones-members : (p : ℕ → Bool) (f : List ℕ) → f ≡ memberFlags n (filter p (upTo n)) → ones f ≡ length (filter p (upTo n))
+  ones-members p f e = ap ones (e ∙ filter-flags p) ∙ ones-test p n

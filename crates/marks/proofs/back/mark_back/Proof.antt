@@ -1,0 +1,65 @@
+-- `back::mark_back` meets its contract: the theory's state holds between the turns.
+use Prim.Native.Nat.{_-_}
+use borrow.Author.Needs.{needs}
+use Rattle.arcs.specs.Arcs.{arcsIn}
+use Rattle.bitset.specs.Bits.{flags}
+use Rattle.marks.proofs.Turns.{Standing, first, node-in, next, last}
+use Rattle.marks.proofs.Walks.{arcs-positive}
+use Rattle.marks.proofs.back.mark_back.Statement.{statement}
+use Rattle.marks.proofs.back.mark_back.Tie as tie
+
+abbrev Inv-loop : tie.InvT-loop
+Inv-loop edges closed n e want work₀ i₀ work i = Standing (arcsIn edges closed) n e (flags n want) work₀ i work
+
+abbrev μ-loop : tie.MeasureT-loop
+μ-loop edges closed n e want work₀ i₀ work i = n - i
+
+clear-requires : tie.Need-clear-requires Inv-loop μ-loop
+clear-requires c κs = search needs
+
+loop-holds : tie.Need-loop-holds Inv-loop μ-loop
+loop-holds c =
+    let a = c .before .before .before .before .before .before .before .before .args in
+    let p = c .before .before .before .before .before .before .before .before .pre in
+    first (arcsIn (a .edges .now) (a .closed .now)) (a .n) (a .e) (flags (a .n) (a .want .now)) _ (a .work .now) (search needs) (search needs) (c .before .before .clear .ensures .0) (c .before .before .clear .ensures .1) (p .0 .3)
+
+mark-at-requires : tie.Need-mark-at-requires Inv-loop μ-loop
+mark-at-requires c κs =
+    let l = c .before .before .loop in
+    ((search needs, l .inv .size, node-in _ _ _ _ _ (l .i) (l .work) (l .inv) (search needs), search needs), search needs)
+
+add-i : tie.Need-add-i Inv-loop μ-loop
+add-i c = search needs
+
+loop-less : tie.Need-loop-less Inv-loop μ-loop
+loop-less c = search needs
+
+loop-again : tie.Need-loop-again Inv-loop μ-loop
+loop-again c =
+    let a = c .before .before .before .before .before .before .before .before .before .before .before .before .before .before .args in
+    let l = c .before .before .before .before .before .loop in
+    next _ _ _ _ _ (l .i) (l .work) (l .inv) (search needs) (arcs-positive (a .n) (a .edges .now) (a .closed .now) (c .before .before .before .before .before .before .before .before .before .before .before .before .before .before .pre .1 .0)) _ (search needs) (c .before .before .mark-at .ensures .0) (c .before .before .mark-at .ensures .1)
+
+same-length : tie.Need-same-length Inv-loop μ-loop
+same-length c = search needs
+
+returns : tie.Need-returns Inv-loop μ-loop
+returns c =
+    let a = c .before .before .before .before .before .before .before .before .before .before .args in
+    let l = c .before .loop in
+    last _ _ _ _ _ (l .i) (a .work .now) (l .work) (search needs) (c .before .before .before .before .clear .ensures .0) (l .inv)
+
+pub mark-back-spec : {M : Type 1} → statement M
+mark-back-spec =
+    tie.close
+    (tie.spec
+    Inv-loop
+    μ-loop
+    clear-requires
+    loop-holds
+    mark-at-requires
+    add-i
+    loop-less
+    loop-again
+    same-length
+    returns)
