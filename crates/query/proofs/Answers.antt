@@ -23,7 +23,7 @@ use Rattle.theory.specs.Passed.{Shaped}
 use Rattle.theory.specs.Sound.{near, count-nodes}
 use Rattle.theory.specs.ReadLaws.{Small}
 
-decode : (x : Distance) → Small x → decoded (coded x) ≡ x
+pub decode : (x : Distance) → Small x → decoded (coded x) ≡ x
 unfolding coded decoded
 decode unreachable s = refl
 decode (finite n) s = rw (ne-eqb n noWalk (λ e. omega arith))

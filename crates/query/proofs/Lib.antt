@@ -3,3 +3,4 @@ pub mod Kept
 mod Cells
 mod Words
 mod Answers
+mod WayLaws

@@ -5,7 +5,7 @@ use native.Mathlib.Omega.{arith}
 use mathlib.Core.Path.{_≡_, sym, _∙_, ap}
 use mathlib.Core.List.{List, _++_}
 use lib.ListN.{length, getD, take, drop, replicate, List·getD-append}
-use lib.Seq.{length-take-le, getD-take, drop-drop}
+use lib.Seq.{take-append-le, length-take-le, getD-take, drop-drop}
 use Rattle.model.specs.Bytes.{Bytes}
 use Rattle.model.specs.Contents.{nodeBody, edgeBody, closedBody}
 use Rattle.model.specs.Distance.{dist}
@@ -42,3 +42,7 @@ behind a b w v h e =
 pub distance-in : (o : Bytes) (s t : ℕ) → distance (network o) s t ≡ dist (arcsIn (edgeBody o) (closedBody o)) (nodeCount (nodeBody o)) s t
 unfolding distance
 distance-in o s t = rw (arcs-in o, count-nodes o)
+
+-- A front of the front, after that came back as ys.
+pub front-times : (w ys : List ℕ) (m n : ℕ) → m ≤ length w → length ys ≡ length (take m w) → n ≤ m → take n (ys ++ drop m w) ≡ take n ys
+front-times w ys m n h e l = take-append-le n ys (drop m w) (omega (arith, e, length-take-le m w h))

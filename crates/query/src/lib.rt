@@ -3,3 +3,4 @@ pub mod calls;
 pub mod kinds;
 pub mod local;
 pub mod refusals;
+pub mod ways;

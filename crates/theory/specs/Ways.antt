@@ -30,7 +30,7 @@ module _ (f : Bytes) (ok : Sound f) (t : ℕ) (ht : t < order (network f)) where
   unfolding distance
   real u = dist-real net-arcs u (order (network f)) t
 
-  to : (u : ℕ) → IsLeast (Walk net-arcs u t) (distance (network f) u t)
+  pub to : (u : ℕ) → IsLeast (Walk net-arcs u t) (distance (network f) u t)
   to u = step (decLe (order (network f)) u) (distance (network f) u t) refl
     where
       step : Dec (order (network f) ≤ u) → (x : Distance) → distance (network f) u t ≡ x → IsLeast (Walk net-arcs u t) x

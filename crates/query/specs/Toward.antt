@@ -1,0 +1,15 @@
+-- The times to a node, as a search leaves them in the working words. Assumes nothing.
+use Prim.Native.Nat.{ℕ, _≤_}
+use mathlib.Core.Path.{_≡_}
+use mathlib.Core.List.{List}
+use lib.ListN.{length, take}
+use Rattle.model.specs.Bytes.{Bytes}
+use Rattle.model.specs.Contents.{nodeBody, edgeBody, closedBody}
+use Rattle.model.specs.Network.{nodeCount}
+use Rattle.algorithms.specs.Rounds.{distanceWords}
+use Rattle.arcs.specs.Arcs.{arcsIn}
+
+-- The first words are the distances from t in the oracle's network, which are those to t.
+pub record Toward (o : Bytes) (t : ℕ) (work : List ℕ) : Type 0 where
+  pub times : take (nodeCount (nodeBody o)) work ≡ distanceWords (arcsIn (edgeBody o) (closedBody o)) (nodeCount (nodeBody o)) t
+  pub room : nodeCount (nodeBody o) ≤ length work
