@@ -4,3 +4,4 @@ mod Cells
 mod Words
 mod Answers
 mod WayLaws
+mod Routes

@@ -1,1 +1,2 @@
 pub mod Toward
+pub mod Room

@@ -1,4 +1,4 @@
-// The calls over an oracle: time, far, list. None asks anything of its arguments.
+// The calls over an oracle: time, far, list, way. None asks anything of its arguments.
 ghost use mathlib.Core.Path.{_≡_};
 ghost use mathlib.Core.Bool.{true};
 ghost use Prim.Native.Nat.{_<_, _≤_};
@@ -7,7 +7,8 @@ ghost use Rattle.model.specs.Contents.{nodeBody};
 ghost use Rattle.model.specs.Network.{network, nodeCount};
 ghost use Rattle.model.specs.Query.{farAnswer, localAnswer, timeAnswer, listOf};
 ghost use Rattle.model.specs.Rules.{wellShaped, wordsNeeded};
-ghost use Rattle.model.specs.Calls.{farResult, listResult, listRefusal, TimeCall};
+ghost use Rattle.model.specs.Calls.{farResult, listResult, listRefusal, TimeCall, WayCall};
+ghost use Rattle.query.specs.Room.{WayGiven};
 use crate::kinds::kind_between;
 use crate::local::local_seconds;
 use crate::local::zero_front;
@@ -15,8 +16,13 @@ use crate::refusals::WORDS;
 use crate::refusals::far_refusal;
 use crate::refusals::list_refusal;
 use crate::refusals::time_refusal;
+use crate::ways::put_way;
+use crate::ways::times_to;
+use crate::ways::way_nodes;
+use codec::records::NUMBER_SIZE;
 use model::Answer;
 use model::Kind;
+use model::Route;
 use reader::oracle::ACCESS;
 use reader::oracle::TABLE;
 use reader::oracle::node_count;
@@ -101,4 +107,32 @@ pub fn list_rule(o: &[u8], u: u32) -> u32
     ensures { λ r. ⌜ r ≡ listRefusal (now (o .entry)) u ⌝ }
 {
     list_refusal(o, u)
+}
+
+// The way where no rule before 15 is broken: its length is known before any output is written.
+fn way_of(o: &[u8], s: usize, t: usize, work: &mut [u32], out: &mut [u8]) -> Route
+    requires { ⌜ (wellShaped (now o) ≡ true) × (s < nodeCount (nodeBody (now o))) × (t < nodeCount (nodeBody (now o))) × (wordsNeeded (now o) ≤ length (now work)) ⌝ }
+    ensures given { λ r. ⌜ WayGiven (now (o .entry)) s t (now (out .entry)) r (now (out .exit)) ⌝ }
+    ensures rest { λ _. ⌜ drop (wordsNeeded (now (o .entry))) (now (work .exit)) ≡ drop (wordsNeeded (now (o .entry))) (now (work .entry)) ⌝ }
+{
+    times_to(o, t, work);
+    let nodes = way_nodes(o, s, t, work);
+    if out.len() < NUMBER_SIZE * nodes as usize {
+        return Route { rule: 15, nodes: 0 };
+    }
+    put_way(o, s, t, work, out);
+    Route { rule: 0, nodes }
+}
+
+// The way from s to t: the first least walk by node numbers, written at the front of the output.
+pub fn way(o: &[u8], s: u32, t: u32, work: &mut [u32], out: &mut [u8]) -> Route
+    ensures { λ r. ⌜ WayCall (now (o .entry)) s t (now (work .entry)) (now (out .entry)) r (now (work .exit)) (now (out .exit)) ⌝ }
+{
+    let rule = time_refusal(o, s, t, work.len());
+    if rule != 0 {
+        return Route { rule, nodes: 0 };
+    }
+    let route = way_of(o, s as usize, t as usize, work, out);
+    zero_front(work, WORDS * node_count(o));
+    route
 }

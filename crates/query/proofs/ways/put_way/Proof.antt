@@ -8,37 +8,25 @@ use native.Mathlib.Omega.{arith}
 use borrow.Author.Needs.{needs}
 use Rattle.query.proofs.ways.put_way.Statement.{statement}
 use Rattle.query.proofs.ways.put_way.Tie as tie
-use Rattle.query.proofs.ways.put_way.Reads as reads
-use Rattle.query.proofs.ways.put_way.Lts as lts
-use Rattle.reader.proofs.oracle.node_count.Reads as node-count-reads
-use Rattle.reader.proofs.oracle.oracle_body.Reads as oracle-body-reads
-use Rattle.way.proofs.whole.write_whole.Reads as write-whole-reads
 
--- src/ways.rt:59:9
 node-count-requires : tie.Need-node-count-requires
 node-count-requires c κs = search needs
 
--- src/ways.rt:60:17
 oracle-body-requires : tie.Need-oracle-body-requires
 oracle-body-requires c κs = search needs
 
--- src/ways.rt:60:40
 oracle-body-requires-2 : tie.Need-oracle-body-requires-2
 oracle-body-requires-2 c κs = search needs
 
--- src/ways.rt:60:64
 slice-aggregate-write-whole : tie.Need-slice-aggregate-write-whole
 slice-aggregate-write-whole c = sym (length-take-le (c .before .before .before .node-count .result) (c .before .before .before .before .before .before .before .args .work .now) (omega (arith, c .before .before .before .node-count .ensures, c .before .before .before .before .before .before .before .pre .3 .room)))
 
--- src/ways.rt:60:5
 write-whole-requires : tie.Need-write-whole-requires
 write-whole-requires c κs = let a = c .before .before .before .before .before .before .before .before .args in let k = all-shaped _ (c .before .before .before .before .before .before .before .before .pre .0) .sound in let e = length-take-le (c .before .before .before .before .node-count .result) (a .work .now) (omega (arith, c .before .before .before .before .node-count .ensures, c .before .before .before .before .before .before .before .before .pre .3 .room)) in ((omega (arith, e, c .before .before .before .before .node-count .ensures), omega (arith, e, c .before .before .before .before .node-count .ensures, node-bytes _ k .0), rw (c .before .before .before .oracle-body .ensures, c .before .before .oracle-body2 .ensures, c .before .before .before .before .node-count .ensures, c .before .before .before .before .before .before .before .before .pre .3 .times, way-is (a .o .now) (all-shaped _ (c .before .before .before .before .before .before .before .before .pre .0)) (a .t) (c .before .before .before .before .before .before .before .before .pre .2) (a .s)) (c .before .before .before .before .before .before .before .before .pre .4)), (rw (e, c .before .before .before .before .node-count .ensures, c .before .before .before .oracle-body .ensures) (k .some-edge), rw (c .before .before .before .oracle-body .ensures, c .before .before .oracle-body2 .ensures) (k .closed)))
 
--- src/ways.rt:55:1
 same-length : tie.Need-same-length
 same-length c = search needs
 
--- src/ways.rt:55:1
 returns : tie.Need-returns
 returns c = let a = c .before .before .before .before .before .before .before .before .before .before .before .args in rw (← way-is (a .o .now) (all-shaped _ (c .before .before .before .before .before .before .before .before .before .before .before .pre .0)) (a .t) (c .before .before .before .before .before .before .before .before .before .before .before .pre .2) (a .s), ← c .before .before .before .before .before .before .before .before .before .before .before .pre .3 .times, ← c .before .before .before .before .before .before .before .node-count .ensures, ← c .before .before .before .before .before .before .oracle-body .ensures, ← c .before .before .before .before .before .oracle-body2 .ensures) (c .before .before .write-whole .ensures)
 

@@ -7,31 +7,22 @@ use native.Mathlib.Omega.{arith}
 use borrow.Author.Needs.{needs}
 use Rattle.query.proofs.ways.search_from.Statement.{statement}
 use Rattle.query.proofs.ways.search_from.Tie as tie
-use Rattle.query.proofs.ways.search_from.Reads as reads
-use Rattle.query.proofs.ways.search_from.Lts as lts
-use Rattle.search.proofs.search.search.Reads as search-reads
 
--- src/ways.rt:32:13
 mul-m : tie.Need-mul-m
 mul-m c = search needs
 
--- src/ways.rt:33:33
 slice-relend-prefix-search : tie.Need-slice-relend-prefix-search
 slice-relend-prefix-search c = search needs
 
--- src/ways.rt:33:33
 slice-aggregate-search : tie.Need-slice-aggregate-search
 slice-aggregate-search c = sym (length-take-le (3 * c .before .before .before .before .args .n) (c .before .before .before .before .args .work .now) (omega arith))
 
--- src/ways.rt:33:5
 search-requires : tie.Need-search-requires
 search-requires c κs = ((omega arith, omega arith, length-take-le (3 * c .before .before .before .before .args .n) (c .before .before .before .before .args .work .now) (omega arith)), search needs)
 
--- src/ways.rt:26:1
 same-length : tie.Need-same-length
 same-length c = search needs
 
--- src/ways.rt:26:1
 returns : tie.Need-returns
 returns c = let a = c .before .before .before .before .before .before .before .args in let ys = c .before .before .search .last .1 .1 .1 .1 .0 in let k = c .before .before .search .kept .1 .1 .1 .1 .0 in (front-times (a .work .now) ys (3 * a .n) (a .n) (omega arith) k (omega arith) ∙ c .before .before .search .ensures .0 .times, front-others (a .work .now) ys (3 * a .n) (omega arith) k)
 
