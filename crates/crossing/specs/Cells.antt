@@ -4,8 +4,8 @@ use native.Mathlib.Omega.{arith}
 use mathlib.Core.Path.{_≡_, refl, sym, _∙_, ap}
 use mathlib.Core.Logic.{_↔_}
 use mathlib.Core.Bool.{Bool, true, false, not, _&&_, false≢true}
-use borrow.Author.Tests.{not-true}
 use mathlib.Core.List.{List}
+use borrow.Author.Tests.{not-true}
 use lib.Dec.{eqb}
 use Rattle.model.specs.Lists.{any, upTo}
 use Rattle.model.specs.Grid.{Cell, cellAt}

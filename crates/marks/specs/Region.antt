@@ -5,7 +5,7 @@ use lib.ListN.{drop}
 use Rattle.algorithms.specs.Settle.{Falling}
 use Rattle.bitset.specs.Bits.{flags}
 
--- The marks as flags. Their bits stand from 2 n on, in the place of the settled set, which is not needed any more.
+-- The marks as flags. Their bits stand from 2 n on, over the settled set, which is not needed any more.
 abbrev pub marksIn : ℕ → List ℕ → List ℕ
 marksIn n work = flags n (drop (2 * n) work)
 

@@ -16,10 +16,10 @@ use Rattle.model.specs.Network.{Network, network, nodeCount, order, arcs, dista
 use Rattle.model.specs.Grid.{Cell, gridOver, gridNumber, cells, cellAt}
 use Rattle.model.specs.Access.{accessNodes, accessLists, transitNodes}
 use Rattle.model.specs.Oracle.{oracle, transitOf, transitCount, accessList, tableEntry}
-use Rattle.model.specs.Query.{distanceOf, pairsOf, timeAnswer, farAnswer, localAnswer, way}
+use Rattle.model.specs.Query.{kindBetween, answerOf, distanceOf, pairsOf, timeAnswer, farAnswer, localAnswer, way}
 use Rattle.model.specs.Rules.{accepted, wellShaped, wordsNeeded}
-use Rattle.model.specs.Calls.{auditRefusal, farResult}
-use Rattle.model.specs.declared.Kind.the-variants.{Local}
+use Rattle.model.specs.Calls.{auditRefusal, timeRefusal, timeResult, farResult, wayRefusal, listRefusal}
+use Rattle.model.specs.declared.Kind.the-variants.{Local, Far}
 use Rattle.model.specs.declared.Answer.the-variants.{Time}
 use Rattle.theory.specs.Passed.{all-passed, all-shaped}
 use Rattle.theory.specs.Sound.{ends, count-nodes}
@@ -35,6 +35,7 @@ use Rattle.theory.specs.FarBodies.{Agree, one-far-answer}
 use Rattle.theory.specs.FarSums.{FarSum, distance-of, far-least-sum, far-pairs}
 use Rattle.theory.specs.Times as times
 use Rattle.theory.specs.Ways as ways
+use Rattle.theory.specs.BuiltCalls as calls
 
 -- ---- for every accepted network and grid
 module _ (f : Bytes) (g : ℕ) (ok : accepted f g ≡ true) where
@@ -126,8 +127,26 @@ module _ (f : Bytes) (g : ℕ) (ok : accepted f g ≡ true) where
   pub way-none : (s t : ℕ) → s < N → t < N → distanceOf (timeAnswer o s t) ≡ unreachable → way (network o) s t ≡ []
   way-none s t hs ht e = ways.way-built f g ok s t ∙ ways.way-empty f (all-passed f g ok .sound) t (below ht) (rw e at (time-least s t hs ht))
 
+  -- ---- the same over the calls: with enough working memory a built oracle refuses nothing
+  pub time-call : (s t : ℕ) → s < N → t < N → (work : List ℕ) → wordsNeeded f ≤ length work → IsLeast (WalkIn s t) (distanceOf (timeResult o s t work))
+  time-call s t hs ht work enough = rw (calls.time-given f g ok s t hs ht work enough) (time-least s t hs ht)
+
+  pub far-call : (s t : ℕ) → s < N → t < N → kindBetween o s t ≡ Far → IsLeast (WalkIn s t) (distanceOf (farResult o s t))
+  unfolding timeAnswer answerOf
+  far-call s t hs ht e = rw (calls.far-given f g ok s t hs ht e) (rw e at (time-least s t hs ht))
+
 -- ---- for every well-shaped oracle, built or not
 module _ (o : Bytes) (shaped : wellShaped o ≡ true) where
+  -- Where memory and output suffice, nothing of the questions is refused.
+  pub time-kept : (s t : ℕ) → s < nodeCount (nodeBody o) → t < nodeCount (nodeBody o) → (work : List ℕ) → wordsNeeded o ≤ length work → timeRefusal o s t work ≡ 0
+  time-kept = calls.time-kept o shaped
+
+  pub way-kept : (s t : ℕ) → s < nodeCount (nodeBody o) → t < nodeCount (nodeBody o) → (work : List ℕ) (out : Bytes) → wordsNeeded o ≤ length work → 2 * length (way (network o) s t) ≤ length out → wayRefusal o s t work out ≡ 0
+  way-kept = calls.way-kept o shaped
+
+  pub list-kept : (u : ℕ) → u < nodeCount (nodeBody o) → listRefusal o u ≡ 0
+  list-kept = calls.list-kept o shaped
+
   -- Demand 2: "The audit accepts a well-shaped oracle just when it is the one building gives."
   pub audit-just-built : (work : List ℕ) → wordsNeeded o ≤ length work → (auditRefusal o work ≡ 0) ↔ ((f : Bytes) × (g : ℕ) × (accepted f g ≡ true) × (o ≡ oracle f g))
   audit-just-built work enough = audits.audit-built o shaped work enough

@@ -36,6 +36,7 @@ pub mod AuditBodies
 pub mod FarBodies
 pub mod FarSums
 pub mod Times
+pub mod BuiltCalls
 -- ---- the way
 pub mod Way
 pub mod Ways
