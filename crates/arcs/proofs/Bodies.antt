@@ -12,7 +12,7 @@ use Rattle.model.specs.Network.{edge, edgeCount, isOpen, openEdges, maxSeconds,
 use Rattle.theory.specs.Members.{→map, →filter, →upTo}
 use Rattle.theory.specs.Passed.{or-false, not-false}
 use Rattle.theory.specs.Sound as sound
-use Rattle.theory.specs.Walks.{Within, Costs}
+use Rattle.theory.specs.Walks.{Within, Costs, Positive}
 use Rattle.arcs.specs.Arcs.{arcsIn}
 use Rattle.arcs.proofs.Ahead.{Ahead}
 
@@ -29,6 +29,10 @@ module _ (n : ℕ) (b : Bytes) (h : someEdgeBroken n b ≡ false) where
     pub arcs-cost : Costs maxSeconds (arcsIn b closed)
     unfolding arcsIn
     arcs-cost = sound.arcs-cost n (openEdges b (words16 closed)) (sound.open-fine n b (words16 closed) h)
+
+    pub arcs-positive : Positive (arcsIn b closed)
+    unfolding arcsIn
+    arcs-positive = sound.arcs-positive n (openEdges b (words16 closed)) (sound.open-fine n b (words16 closed) h)
 
 -- The closed edges rise, and none of them is passed.
 pub all-ahead : (limit : ℕ) (b : Bytes) → numbersBroken limit b ≡ false → Ahead 0 (words16 b)

@@ -4,7 +4,7 @@ use native.Mathlib.Omega.{arith}
 use mathlib.Core.Path.{_≡_}
 use mathlib.Core.List.{[], _∷_}
 use lib.ListN.{length, set}
-use lib.Seq.{sets, sets-eq}
+use lib.Seq.{sets-eq}
 use Rattle.model.specs.Bytes.{Bytes, bytes16, bytes32, splice}
 
 pub write-2 : (b : Bytes) (i x : ℕ) → i + 2 ≤ length b → set (set b i (x % 256)) (i + 1) (x / 256 % 256) ≡ splice i (bytes16 x) b

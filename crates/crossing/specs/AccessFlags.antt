@@ -12,7 +12,8 @@ use Rattle.model.specs.Grid.{Cell, innerRadius, outerRadius}
 use Rattle.model.specs.Access.{crossings, between, accessNodes}
 use Rattle.theory.specs.Members.{any→, →any}
 use Rattle.crossing.specs.Sets.{testFlags, memberFlags, either, both}
-use Rattle.crossing.specs.SetLaws.{same-test, test-flags-same, either-test, both-test, filter-flags}
+use Rattle.crossing.specs.SetLaws.{test-flags-same, either-test, both-test, filter-flags}
+use Rattle.theory.specs.Tests.{same-test}
 
 -- a lies on a least walk from p to one of qs, and from one of ps to one of qs.
 unfoldable pub toward : (ℕ → ℕ → Distance) → List ℕ → ℕ → ℕ → Bool

@@ -11,17 +11,12 @@ use lib.Dec.{eqb}
 use lib.ListN.{length, getD, replicate, length-map, length-replicate, getD-replicate, List·getD-eq-default}
 use lib.Seq.{ext-getD}
 use Rattle.model.specs.Lists.{upTo, filter, member}
-use Rattle.theory.specs.Tests.{and}
+use Rattle.theory.specs.Tests.{and, same-test}
 use Rattle.theory.specs.Tests as tests
 use Rattle.theory.specs.Members.{filter→, →filter, length-filter, member→, →member, →upTo}
 use Rattle.theory.specs.RangeLaws.{length-range, getD-map-range}
 use Rattle.bitset.specs.Bits.{isIn, flag, flags}
 use Rattle.crossing.specs.Sets.{testFlags, memberFlags, either, both, ones}
-
-pub same-test : {b c : Bool} → (b ≡ true → c ≡ true) → (c ≡ true → b ≡ true) → b ≡ c
-same-test {b = true} f g = sym (f refl)
-same-test {b = false} {c = true} f g = g refl
-same-test {b = false} {c = false} f g = refl
 
 -- The flags of the bits of words are those of the test whether a bit is set.
 pub flags-test : (n : ℕ) (s : List ℕ) → flags n s ≡ testFlags (isIn s) n

@@ -11,8 +11,9 @@ use Rattle.model.specs.Access.{transitNodes}
 use Rattle.theory.specs.Members.{filter→, →filter, any→, →any, map→, →map, →upTo, range→, getD-mem}
 use Rattle.theory.specs.Transit.{filter-same}
 use Rattle.crossing.specs.Sets.{memberFlags, either}
-use Rattle.crossing.specs.SetLaws.{same-test, either-test, filter-flags}
+use Rattle.crossing.specs.SetLaws.{either-test, filter-flags}
 use Rattle.crossing.specs.Cells.{firstOfCell, first-found}
+use Rattle.theory.specs.Tests.{same-test}
 
 -- ---- one list after another
 

@@ -5,11 +5,10 @@ use mathlib.Core.Path.{_≡_}
 use mathlib.Core.Logic.{_↔_}
 use mathlib.Core.Bool.{false}
 use mathlib.Core.List.{List}
-use Rattle.model.specs.Bytes.{Bytes, words16}
-use Rattle.model.specs.Network.{maxNodes, maxSeconds, someEdgeBroken, openEdges}
+use Rattle.model.specs.Bytes.{Bytes}
+use Rattle.model.specs.Network.{maxNodes, maxSeconds, someEdgeBroken}
 use Rattle.model.specs.Walk.{Arc}
 use Rattle.theory.specs.Sound as sound
-use Rattle.theory.specs.Walks.{Positive}
 use Rattle.algorithms.specs.Rounds.{Found}
 use Rattle.algorithms.specs.Marks.{Toward, marks}
 use Rattle.algorithms.specs.Pass.{Is}
@@ -17,11 +16,6 @@ use Rattle.algorithms.specs.Searches.{found-search}
 use Rattle.arcs.specs.Arcs.{arcsIn}
 use Rattle.arcs.proofs.Bodies.{arcs-within, arcs-cost}
 use Rattle.marks.specs.Region.{Ordered}
-
--- Every arc of the open edges costs something.
-pub arcs-positive : (n : ℕ) (b closed : Bytes) → someEdgeBroken n b ≡ false → Positive (arcsIn b closed)
-unfolding arcsIn
-arcs-positive n b closed h = sound.arcs-positive n (openEdges b (words16 closed)) (sound.open-fine n b (words16 closed) h)
 
 pub found-ordered : {arcs : List Arc} {n p : ℕ} {times order : List ℕ} → Found arcs n p times order → Ordered n times order
 found-ordered f = record { inside = λ v m. f .reached v m .0; falls = f .falls }

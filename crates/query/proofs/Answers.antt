@@ -9,9 +9,8 @@ use lib.Dec.{eqb, leb}
 use borrow.Author.Tests.{ne-eqb, leb-true}
 use Rattle.model.specs.Bytes.{Bytes}
 use Rattle.model.specs.Contents.{nodeBody}
-use Rattle.model.specs.Distance.{Distance, unreachable, finite}
 use Rattle.model.specs.Network.{network, nodeCount, distance}
-use Rattle.model.specs.Oracle.{noWalk, coded, decoded}
+use Rattle.model.specs.Oracle.{coded, decoded}
 use Rattle.model.specs.Query.{answer, localAnswer}
 use Rattle.model.specs.Rules.{Rule, rule, firstBroken, networkRules, shapeRules, pairRules, timeRules, wordsNeeded}
 use Rattle.model.specs.Calls.{clears, cleared, workAfter, answerAfter}
@@ -21,17 +20,12 @@ use Rattle.model.specs.declared.Answer.the-variants.{Refused}
 use Rattle.theory.specs.Tests.{both}
 use Rattle.theory.specs.Passed.{Shaped}
 use Rattle.theory.specs.Sound.{near, count-nodes}
-use Rattle.theory.specs.ReadLaws.{Small}
-
-pub decode : (x : Distance) → Small x → decoded (coded x) ≡ x
-unfolding coded decoded
-decode unreachable s = refl
-decode (finite n) s = rw (ne-eqb n noWalk (λ e. omega arith))
+use Rattle.theory.specs.ReadLaws.{decoded-coded}
 
 -- The local answer, from the word that the search has left.
 pub local-is : (o : Bytes) → Shaped o → (s t r : ℕ) → s < nodeCount (nodeBody o) → r ≡ coded (distance (network o) s t) → answer Local 0 (decoded r) ≡ localAnswer (network o) s t
 unfolding localAnswer
-local-is o shaped s t r h e = rw e (ap (answer Local 0) (decode (distance (network o) s t) (near o (shaped .sound) s t (rw (count-nodes o) h))))
+local-is o shaped s t r h e = rw e (ap (answer Local 0) (decoded-coded (distance (network o) s t) (near o (shaped .sound) s t (rw (count-nodes o) h))))
 
 -- ---- after a refusal, and after none
 pub answer-refused : (rule : ℕ) (a : Answer) → (rule ≡ 0 → ⊥) → Refused rule ≡ answerAfter rule a

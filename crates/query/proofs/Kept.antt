@@ -1,16 +1,16 @@
 -- What the rules of a question give when none is broken. Assumes nothing.
-use Prim.Native.Nat.{ℕ, _*_, _≤_, _<_}
+use Prim.Native.Nat.{ℕ, _≤_, _<_}
 use native.Mathlib.Decide.{ℕ-discrete}
 use native.Mathlib.Omega.{arith}
-use mathlib.Core.Path.{_≡_, refl, sym, _∙_}
+use mathlib.Core.Path.{_≡_, sym, _∙_}
 use mathlib.Core.Bool.{Bool, true, false, _||_, or-true}
 use mathlib.Core.List.{List, [], _∷_, _++_}
-use lib.Dec.{leb}
 use borrow.Author.Tests.{eq-eqb, le-leb, lt-leb, leb-false, ltb-false}
 use Rattle.model.specs.Bytes.{Bytes}
 use Rattle.model.specs.Contents.{nodeBody}
 use Rattle.model.specs.Network.{nodeCount}
-use Rattle.model.specs.Rules.{Rule, rule, firstBroken, networkRules, shapeRules, pairRules, timeRules, farRules, listRules, wellShaped, noSuchNode, workTooSmall, wordsNeeded, localPair}
+use Rattle.model.specs.Rules.{Rule, rule, firstBroken, shapeRules, pairRules, timeRules, farRules, listRules, wellShaped, noSuchNode, workTooSmall, wordsNeeded, localPair}
+use Rattle.theory.specs.BuiltCalls.{pair-counted}
 use Rattle.theory.specs.Firsts.{counted, passed, first-append, first-stays}
 use Rattle.theory.specs.Passed.{shape-counted, or-false}
 
@@ -36,14 +36,6 @@ other-missing a e = rw e (or-true a)
 
 pub both-there : {a b : Bool} → a ≡ false → b ≡ false → a || b ≡ false
 both-there e q = rw (e, q)
-
-pub pair-counted : (o : Bytes) (s t : ℕ) → counted (pairRules o s t) ≡ true
-unfolding pairRules counted shapeRules networkRules
-pair-counted o s t = refl
-
-pub time-counted : (o : Bytes) (s t words : ℕ) → counted (timeRules o s t words) ≡ true
-unfolding timeRules pairRules counted shapeRules networkRules
-time-counted o s t words = refl
 
 -- A list of rules that is kept, and one rule more: both are kept.
 split : (xs : List Rule) (n : ℕ) (b : Bool) → counted xs ≡ true → 0 < n → firstBroken (xs ++ (rule n b ∷ [])) ≡ 0 → (firstBroken xs ≡ 0) × (b ≡ false)

@@ -3,9 +3,8 @@ use Prim.Native.Nat.{ℕ, _*_, _≤_, _<_}
 use native.Mathlib.Omega.{arith}
 use mathlib.Core.Path.{_≡_, refl, sym, _∙_}
 use mathlib.Core.Bool.{Bool, true, false, cond}
-use mathlib.Core.List.{List, [], _∷_, _++_}
+use mathlib.Core.List.{List, _++_}
 use lib.ListN.{length, drop}
-use lib.Dec.{eqb}
 use borrow.Author.Tests.{ne-eqb, lt-ltb, le-ltb}
 use Rattle.model.specs.Lists.{concatMap}
 use Rattle.model.specs.Bytes.{Bytes, bytes16}
@@ -16,7 +15,7 @@ use Rattle.model.specs.Calls.{clears, cleared, workAfter, outputAfter, routeAft
 use Rattle.model.specs.declared.Route.{Route}
 use Rattle.theory.specs.Firsts.{first-append, first-stays}
 use Rattle.query.specs.Room.{roomRule, WayGiven}
-use Rattle.query.proofs.Kept.{time-counted}
+use Rattle.theory.specs.BuiltCalls.{time-counted}
 use Rattle.query.proofs.Answers.{words-kept, time-most}
 
 -- Success and rule 15 alike set the first words to zero.

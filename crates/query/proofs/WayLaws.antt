@@ -1,12 +1,11 @@
 -- The way by the words of a search from its end. Assumes nothing.
-use Prim.Native.Nat.{ℕ, _≤_, _<_}
+use Prim.Native.Nat.{ℕ, _<_}
 use native.Mathlib.Decide.{decLt}
 use native.Mathlib.Nat.{zero-add}
 use native.Mathlib.Omega.{arith}
 use mathlib.Core.Path.{_≡_, refl, sym, _∙_, ap}
 use mathlib.Core.List.{List}
-use lib.ListN.{length, getD, take, List·getD-eq-default, length-map}
-use lib.Seq.{length-take-le}
+use lib.ListN.{length, getD, List·getD-eq-default, length-map}
 use Rattle.model.specs.Bytes.{Bytes}
 use Rattle.model.specs.Contents.{nodeBody, edgeBody, closedBody}
 use Rattle.model.specs.Distance.{Distance, unreachable, dist}
@@ -25,7 +24,7 @@ use Rattle.theory.specs.Ways.{to}
 use Rattle.algorithms.specs.Rounds.{distanceWords}
 use Rattle.arcs.specs.Arcs.{arcsIn, arcs-in}
 use Rattle.way.specs.Distances.{distanceIn, wayIn}
-use Rattle.query.proofs.Answers.{decode}
+use Rattle.theory.specs.ReadLaws.{decoded-coded}
 use Rattle.query.proofs.Words.{distance-in}
 
 no-word : decoded noWalk ≡ unreachable
@@ -52,7 +51,7 @@ module _ (o : Bytes) (shaped : Shaped o) (t : ℕ) (t-in : t < nodeCount (nodeBo
       pick (yes h) =
           ap decoded (getD-map-range (λ v. coded (dist (arcsIn (edgeBody o) (closedBody o)) n t v)) noWalk 0 n v h ∙ rw zero-add) ∙
           (ap (λ (x : Distance). decoded (coded x)) (sym (distance-in o t v)) ∙
-          (decode (distance (network o) t v) (near o (shaped .sound) t v (rw (count-nodes o) t-in)) ∙
+          (decoded-coded (distance (network o) t v) (near o (shaped .sound) t v (rw (count-nodes o) t-in)) ∙
           turned (network o) (ends o (shaped .sound)) t v (rw (count-nodes o) t-in) (rw (count-nodes o) h)))
       pick (no h) =
           ap decoded (List·getD-eq-default words noWalk {n = v} (omega (arith, words-size))) ∙

@@ -20,11 +20,11 @@ use Rattle.theory.specs.Accepted.{good}
 use Rattle.theory.specs.Built.{bodies-of}
 use Rattle.theory.specs.WellShaped.{built-well-shaped}
 
-pair-counted : (o : Bytes) (s t : ℕ) → counted (pairRules o s t) ≡ true
+pub pair-counted : (o : Bytes) (s t : ℕ) → counted (pairRules o s t) ≡ true
 unfolding pairRules counted shapeRules networkRules
 pair-counted o s t = refl
 
-time-counted : (o : Bytes) (s t words : ℕ) → counted (timeRules o s t words) ≡ true
+pub time-counted : (o : Bytes) (s t words : ℕ) → counted (timeRules o s t words) ≡ true
 unfolding timeRules pairRules counted shapeRules networkRules
 time-counted o s t words = refl
 

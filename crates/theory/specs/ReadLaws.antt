@@ -6,7 +6,9 @@ use mathlib.Core.Path.{_≡_, refl, sym, _∙_, ap}
 use mathlib.Core.List.{List, [], _∷_, _++_, map, append-assoc}
 use lib.ListN.{length, getD, take, drop, length-append, length-map}
 use lib.Seq.{getD-drop, drop-append-add, drop-append-le}
-use borrow.Author.Tests.{ne-eqb}
+use mathlib.Core.Bool.{Bool, true, false, cond}
+use lib.Dec.{eqb}
+use borrow.Author.Tests.{ne-eqb, eqb-true}
 use Rattle.model.specs.Lists.{concat, concatMap, indexOf, range, upTo}
 use Rattle.model.specs.Bytes.{Bytes, word16, word32, bytes16, bytes32}
 use Rattle.model.specs.Distance.{Distance, unreachable, finite}
@@ -46,6 +48,20 @@ module _ {A : Type 0} (f : A → Bytes) (c : ℕ) (size : (x : A) → length (f 
 abbrev pub Small : Distance → Type 0
 Small unreachable = Unit {0}
 Small (finite n) = n < noWalk
+
+-- A number tells a distance, and a distance its number.
+pub decoded-coded : (x : Distance) → Small x → decoded (coded x) ≡ x
+unfolding coded decoded
+decoded-coded unreachable s = refl
+decoded-coded (finite n) s = rw (ne-eqb n noWalk (λ e. omega arith))
+
+pub coded-decoded : (v : ℕ) → coded (decoded v) ≡ v
+unfolding coded decoded
+coded-decoded v = step (eqb v noWalk) refl
+  where
+    step : (b : Bool) → eqb v noWalk ≡ b → coded (cond b unreachable (finite v)) ≡ v
+    step true e = sym (eqb-true v noWalk e)
+    step false e = refl
 
 pub length-value : (x : Distance) → length (valueBytes x) ≡ valueSize
 unfolding valueBytes bytes32 bytes16

@@ -11,7 +11,7 @@ use Rattle.model.specs.Lists.{filter, any, member, upTo, concatMap}
 use Rattle.model.specs.Network.{Edge, Network, order, distance}
 use Rattle.model.specs.Grid.{Cell, gridOver, cells, cellOf, cellAt, gap, within, innerRadius}
 use Rattle.model.specs.Access.{crossingEnd, crosses, crossings, accessNodes, accessLists, transitNodes}
-use Rattle.theory.specs.Tests.{both, leb-true}
+use Rattle.theory.specs.Tests.{both, leb-true, same-test}
 use Rattle.theory.specs.Members.{filter→, any→, →any, map→, →map, →concatMap, getD-mem, member→, →member, →upTo}
 use Rattle.theory.specs.GridLaws.{column-below, row-below}
 
@@ -20,11 +20,6 @@ pub filter-same : {A : Type 0} (p q : A → Bool) (l : List A) → ((x : A) → 
 unfolding filter
 filter-same p q [] h = refl
 filter-same p q (x ∷ l) h = rw (h x, filter-same p q l h)
-
-same-test : (b c : Bool) → (b ≡ true → c ≡ true) → (c ≡ true → b ≡ true) → b ≡ c
-same-test true c f g = sym (f refl)
-same-test false true f g = g refl
-same-test false false f g = refl
 
 one-of : (b c : Bool) → xor b c ≡ true → (b ≡ true) ⊎ (c ≡ true)
 unfolding xor
@@ -97,4 +92,4 @@ module _ (net : Network) (ends : (e : Edge) → List·Memᴰ e (net .edges) → 
 
   pub transit-all : transitNodes (order net) (map accessOf (allCells g)) ≡ transitNodes (order net) (accessLists net (gridOver g (net .nodes)))
   unfolding transitNodes accessLists
-  transit-all = filter-same _ _ (upTo (order net)) (λ a. same-test _ _ (listed (allCells g) cs (λ c a m n. has-node c a n) a) (listed cs (allCells g) (λ c a m n. node-in-grid c m) a))
+  transit-all = filter-same _ _ (upTo (order net)) (λ a. same-test (listed (allCells g) cs (λ c a m n. has-node c a n) a) (listed cs (allCells g) (λ c a m n. node-in-grid c m) a))

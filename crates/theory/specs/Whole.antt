@@ -1,15 +1,14 @@
 -- A file that keeps rules 1 and 2 is the file of its bodies: nothing else stands in it. Assumes nothing.
 use Prim.Native.Nat.{ℕ, zero, suc, _+_, _-_, _*_, _/_, _%_, _≤_, _<_}
-use native.Mathlib.Nat.{zero-add, add-zero}
 use native.Mathlib.Omega.{arith}
 use mathlib.Core.Path.{_≡_, refl, sym, _∙_, ap}
-use mathlib.Core.Bool.{Bool, true, false, not, _&&_, _||_}
-use mathlib.Core.List.{List, [], _∷_, _++_, map, append-assoc}
-use lib.ListN.{length, getD, take, drop, length-map, length-take, length-drop, take-append-drop, drop-of-length-le}
-use lib.Seq.{drop-cons, drop-drop, take-add, take-all, getD-drop, length-take-le}
+use mathlib.Core.Bool.{true, false, not, _||_}
+use mathlib.Core.List.{[], _∷_, _++_, map, append-assoc}
+use lib.ListN.{length, take, drop, length-map, length-drop, take-append-drop}
+use lib.Seq.{drop-cons, drop-drop, take-add, take-all, length-take-le}
 use lib.Dec.{eqb, ltb}
-use borrow.Author.Tests.{eqb-true, ltb-false}
-use Rattle.model.specs.Lists.{Part, gapless, all, range, upTo, concat}
+use borrow.Author.Tests.{eqb-true}
+use Rattle.model.specs.Lists.{gapless, all, range, upTo, concat}
 use Rattle.model.specs.Bytes.{Bytes, byte, word16, word32, bytes16, bytes32, cut}
 use Rattle.model.specs.Contents.{entry, entryAt, bodyPart, body, ofItsKind, contentsBroken, bodiesBroken, entries, file}
 use Rattle.theory.specs.Tests.{both}

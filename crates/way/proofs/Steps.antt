@@ -5,16 +5,16 @@ use mathlib.Core.Bool.{false}
 use mathlib.Core.List.{List, [], _∷_}
 use lib.ListN.{length, getD}
 use Rattle.model.specs.Lists.{leastOf}
-use Rattle.model.specs.Bytes.{Bytes, words16}
+use Rattle.model.specs.Bytes.{Bytes}
 use Rattle.model.specs.Walk.{Arc}
 use Rattle.model.specs.Distance.{Distance, finite}
-use Rattle.model.specs.Network.{openEdges, someEdgeBroken}
+use Rattle.model.specs.Network.{someEdgeBroken}
 use Rattle.model.specs.Oracle.{noWalk}
 use Rattle.model.specs.Query.{nexts, wayAfter, wayFrom}
 use Rattle.theory.specs.Sound as sound
 use Rattle.theory.specs.Walks.{Within, Positive}
 use Rattle.arcs.specs.Arcs.{arcsIn}
-use Rattle.arcs.proofs.Bodies.{arcs-within}
+use Rattle.arcs.proofs.Bodies.{arcs-within, arcs-positive}
 use Rattle.way.specs.Distances.{distanceIn, wayIn}
 use Rattle.way.proofs.Words.{none-in, time-in, word-of}
 use Rattle.way.proofs.Falls as falls
@@ -48,8 +48,7 @@ module _ (edges closed : Bytes) (times : List ℕ) (ok : someEdgeBroken (length 
   within = arcs-within (length times) edges ok closed
 
   positive : Positive arcs
-  unfolding arcsIn
-  positive = sound.arcs-positive (length times) (openEdges edges (words16 closed)) (sound.open-fine (length times) edges (words16 closed) ok)
+  positive = arcs-positive (length times) edges ok closed
 
   -- v as the code has chosen it
   module _ (u left : ℕ) (e : d u ≡ finite left) (v : ℕ) (q : v ≡ leastOf (length times) (nexts d arcs u)) where

@@ -3,29 +3,20 @@ use Prim.Native.Nat.{ℕ, zero, suc, _+_, _<_, _≤_, min}
 use native.Mathlib.Nat.{min-eq-left, min-eq-right}
 use native.Mathlib.Omega.{arith}
 use mathlib.Core.Path.{_≡_, refl, sym, ap, _∙_}
-use mathlib.Core.Bool.{Bool, true, false, cond}
+use mathlib.Core.Bool.{cond}
 use mathlib.Core.List.{List, [], _∷_}
-use borrow.Author.Tests.{eq-eqb, ne-eqb, eqb-true}
-use lib.Dec.{eqb}
+use borrow.Author.Tests.{eq-eqb, ne-eqb}
 use lib.ListN.{length, getD}
 use Rattle.model.specs.Distance.{unreachable, finite, plus, agree}
 use Rattle.model.specs.Oracle.{noWalk, coded, decoded}
 use Rattle.way.specs.Distances.{distanceIn}
+use Rattle.theory.specs.ReadLaws.{coded-decoded}
 
 -- Within a list, what would stand past its end does not matter.
 word-in : (l : List ℕ) (i a b : ℕ) → i < length l → getD l i a ≡ getD l i b
 word-in [] i a b h = absurd (omega arith)
 word-in (x ∷ l) zero a b h = refl
 word-in (x ∷ l) (suc i) a b h = word-in l i a b (omega arith)
-
--- A word is the number of the distance that it holds.
-coded-decoded : (x : ℕ) → coded (decoded x) ≡ x
-unfolding decoded
-coded-decoded x = step (eqb x noWalk) refl
-  where
-    step : (b : Bool) → eqb x noWalk ≡ b → coded (cond b unreachable (finite x)) ≡ x
-    step true e = unfold coded in sym (eqb-true x noWalk e)
-    step false e = unfold coded in refl
 
 module _ (times : List ℕ) (v : ℕ) (h : v < length times) where
   pub none-in : getD times v 0 ≡ noWalk → distanceIn times v ≡ unreachable

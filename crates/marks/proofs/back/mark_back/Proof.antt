@@ -4,7 +4,7 @@ use borrow.Author.Needs.{needs}
 use Rattle.arcs.specs.Arcs.{arcsIn}
 use Rattle.bitset.specs.Bits.{flags}
 use Rattle.marks.proofs.Turns.{Standing, first, node-in, next, last}
-use Rattle.marks.proofs.Walks.{arcs-positive}
+use Rattle.arcs.proofs.Bodies.{arcs-positive}
 use Rattle.marks.proofs.back.mark_back.Statement.{statement}
 use Rattle.marks.proofs.back.mark_back.Tie as tie
 
@@ -38,7 +38,7 @@ loop-again : tie.Need-loop-again Inv-loop μ-loop
 loop-again c =
     let a = c .before .before .before .before .before .before .before .before .before .before .before .before .before .before .args in
     let l = c .before .before .before .before .before .loop in
-    next _ _ _ _ _ (l .i) (l .work) (l .inv) (search needs) (arcs-positive (a .n) (a .edges .now) (a .closed .now) (c .before .before .before .before .before .before .before .before .before .before .before .before .before .before .pre .1 .0)) _ (search needs) (c .before .before .mark-at .ensures .0) (c .before .before .mark-at .ensures .1)
+    next _ _ _ _ _ (l .i) (l .work) (l .inv) (search needs) (arcs-positive (a .n) (a .edges .now) (c .before .before .before .before .before .before .before .before .before .before .before .before .before .before .pre .1 .0) (a .closed .now)) _ (search needs) (c .before .before .mark-at .ensures .0) (c .before .before .mark-at .ensures .1)
 
 same-length : tie.Need-same-length Inv-loop μ-loop
 same-length c = search needs

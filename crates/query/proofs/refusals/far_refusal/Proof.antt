@@ -1,4 +1,5 @@
-use Rattle.query.proofs.Kept.{pair-counted, pair-kept}
+use Rattle.query.proofs.Kept.{pair-kept}
+use Rattle.theory.specs.BuiltCalls.{pair-counted}
 use Rattle.theory.specs.Firsts.{first-stays, one-broken, one-kept}
 use Rattle.model.specs.Rules.{pairRules, farRules, localPair, isLocal}
 use mathlib.Core.Path.{sym, _∙_, ap}
