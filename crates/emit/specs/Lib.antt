@@ -1,0 +1,5 @@
+pub mod Members
+pub mod MemberLaws
+pub mod Parts
+pub mod PartLaws
+pub mod Records

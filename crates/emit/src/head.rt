@@ -1,0 +1,38 @@
+// The bytes of an oracle up to its first body: the edition, the number of entries, and the contents.
+ghost use mathlib.Core.Path.{_≡_};
+ghost use Prim.Native.Nat.{_+_, _<_, _≤_};
+ghost use lib.ListN.{length};
+ghost use Rattle.model.specs.Bytes.{splice};
+ghost use Rattle.model.specs.Contents.{entryAt, oracleEntries};
+ghost use Rattle.theory.specs.FileLaws.{nine};
+ghost use Rattle.emit.specs.Parts.{headBytes, total};
+use codec::bytes::write32;
+use contents::ORACLE_ENTRIES;
+use contents::entry_at;
+
+// Entry k: its kind, and the offset and the size of its body.
+fn write_entry(k: usize, offset: u32, size: u32, out: &mut [u8])
+    requires { ⌜ (k < oracleEntries) × (entryAt oracleEntries ≤ length (now out)) ⌝ }
+    ensures { λ _. ⌜ now (out .exit) ≡ splice (entryAt k) (nine k offset size) (now (out .entry)) ⌝ }
+{
+    let at = entry_at(k);
+    out[at] = (k + 1) as u8;
+    write32(out, at + 1, offset);
+    write32(out, at + 5, size);
+}
+
+// The head of an oracle with bodies of these sizes, each offset where the bodies before it end.
+pub fn write_head(edition: u32, sizes: [u32; ORACLE_ENTRIES], out: &mut [u8])
+    requires { ⌜ (edition < 256) × (entryAt oracleEntries + total sizes < 4294967296) × (length (now out) ≡ entryAt oracleEntries) ⌝ }
+    ensures { λ _. ⌜ now (out .exit) ≡ headBytes edition sizes ⌝ }
+{
+    out[0] = edition as u8;
+    out[1] = ORACLE_ENTRIES as u8;
+    let mut offset = entry_at(ORACLE_ENTRIES) as u32;
+    let mut k = 0;
+    while k < ORACLE_ENTRIES {
+        write_entry(k, offset, sizes[k], out);
+        offset += sizes[k];
+        k += 1;
+    }
+}

@@ -1,0 +1,95 @@
+// Body 6: the list of a node, with the index of each access node among the transit nodes, and the time to it.
+ghost use mathlib.Core.Path.{_≡_};
+ghost use Prim.Native.Nat.{_+_, _/_, _<_, _≤_};
+ghost use lib.ListN.{length};
+ghost use Rattle.model.specs.Lists.{equal};
+ghost use Rattle.model.specs.Network.{maxNodes};
+ghost use Rattle.bitset.specs.Bits.{wordBits};
+ghost use Rattle.emit.specs.Members.{membersOf, HasBits, Among, ifIn};
+ghost use Rattle.emit.specs.Parts.{indexedBytes, listSize, listBytesOf};
+ghost use Rattle.emit.specs.Records.{Wrote, compared};
+use crate::compare::Compared;
+use crate::compare::same16;
+use crate::compare::same32;
+use crate::members::count;
+use crate::members::flag_of;
+use bitset::bits::contains;
+use codec::bytes::write16;
+use codec::bytes::write32;
+use codec::records::COUNT_SIZE;
+use codec::records::LIST_ENTRY_SIZE;
+use codec::records::NUMBER_SIZE;
+
+// Writes the index and the time of v at `at`, where v is an access node, and answers where they end.
+fn write_entry(
+    access: &[u32],
+    times: &[u32],
+    v: usize,
+    index: u32,
+    out: &mut [u8],
+    at: usize,
+) -> usize
+    requires { ⌜ (v < length (now times)) × (v / wordBits < length (now access)) × (at + length (ifIn (now access) v (indexedBytes (now times) index v)) ≤ length (now out)) ⌝ }
+    ensures { λ r. ⌜ Wrote (now (out .entry)) at (ifIn (now (access .entry)) v (indexedBytes (now (times .entry)) index v)) r (now (out .exit)) ⌝ }
+{
+    if !contains(access, v) {
+        return at;
+    }
+    write16(out, at, index);
+    write32(out, at + NUMBER_SIZE, times[v]);
+    at + LIST_ENTRY_SIZE
+}
+
+// The list of a node with these access nodes, each of them a transit node, and these times.
+pub fn write_list(n: usize, access: &[u32], transit: &[u32], times: &[u32], out: &mut [u8])
+    requires { ⌜ (n ≤ maxNodes) × HasBits n (now access) × HasBits n (now transit) × (n ≤ length (now times)) ⌝ }
+    requires { ⌜ Among n (now access) (now transit) × (length (now out) ≡ listSize (length (membersOf n (now access)))) ⌝ }
+    ensures { λ _. ⌜ now (out .exit) ≡ listBytesOf (now (times .entry)) (membersOf n (now (transit .entry))) (membersOf n (now (access .entry))) ⌝ }
+{
+    write16(out, 0, count(n, access));
+    let mut at = COUNT_SIZE;
+    // The number of transit nodes below v: the index of v where v is one.
+    let mut rank = 0;
+    let mut v = 0;
+    while v < n {
+        at = write_entry(access, times, v, rank, out, at);
+        rank += flag_of(transit, v);
+        v += 1;
+    }
+}
+
+// Compares the index and the time of u with what stands at `at`, where u is an access node.
+fn same_entry(access: &[u32], times: &[u32], u: usize, index: u32, b: &[u8], at: usize) -> Compared
+    requires { ⌜ (u < length (now times)) × (u / wordBits < length (now access)) × (at ≤ length (now b)) ⌝ }
+    ensures { λ r. ⌜ r ≡ compared (now (b .entry)) at (ifIn (now (access .entry)) u (indexedBytes (now (times .entry)) index u)) ⌝ }
+{
+    if !contains(access, u) {
+        return Compared::Same(at);
+    }
+    let Compared::Same(next) = same16(b, at, index) else {
+        return Compared::Differs;
+    };
+    same32(b, next, times[u])
+}
+
+// Whether b, of any length, is that list.
+pub fn same_list(n: usize, access: &[u32], transit: &[u32], times: &[u32], b: &[u8]) -> bool
+    requires { ⌜ (n ≤ maxNodes) × HasBits n (now access) × HasBits n (now transit) × (n ≤ length (now times)) × Among n (now access) (now transit) ⌝ }
+    ensures { λ r. ⌜ r ≡ equal (now (b .entry)) (listBytesOf (now (times .entry)) (membersOf n (now (transit .entry))) (membersOf n (now (access .entry)))) ⌝ }
+{
+    let Compared::Same(first) = same16(b, 0, count(n, access)) else {
+        return false;
+    };
+    let mut at = first;
+    let mut rank = 0;
+    let mut u = 0;
+    while u < n {
+        let Compared::Same(next) = same_entry(access, times, u, rank, b, at) else {
+            return false;
+        };
+        at = next;
+        rank += flag_of(transit, u);
+        u += 1;
+    }
+    at == b.len()
+}
