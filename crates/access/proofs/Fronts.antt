@@ -1,0 +1,109 @@
+-- The first three regions as the 3 n words of a search, with the marks made after it. Assumes nothing.
+use Prim.Native.Nat.{ℕ, _+_, _*_, _≤_, _<_}
+use native.Mathlib.Omega.{arith}
+use mathlib.Core.Path.{_≡_, refl, sym, ap, _∙_}
+use mathlib.Core.Logic.{_↔_}
+use mathlib.Core.Bool.{true}
+use mathlib.Core.List.{List, _++_}
+use lib.ListN.{length, getD, set, take, drop, replicate}
+use lib.Seq.{length-take-le, take-take, getD-take}
+use Rattle.model.specs.Walk.{Arc}
+use Rattle.theory.specs.Walks.{Positive}
+use Rattle.algorithms.specs.Pass.{Is}
+use Rattle.algorithms.specs.Rounds.{Found}
+use Rattle.bitset.specs.Bits.{flags}
+use Rattle.search.specs.Regions.{timesIn, orderIn}
+use Rattle.search.proofs.Parts.{front-times, front-others}
+use Rattle.marks.specs.Due.{Flagged, due, turned}
+use Rattle.marks.specs.Region.{marksIn, Ordered}
+use Rattle.marks.proofs.Views.{times-kept, order-kept}
+use Rattle.marks.proofs.Turns as turns
+use Rattle.access.specs.Regions.{regionFlags, Only, marks, want}
+use Rattle.access.proofs.Windows.{flags-front, take-drop, flags-kept, only-same, only-then}
+
+abbrev front : ℕ → List ℕ → List ℕ
+front n w = take (3 * n) w
+
+module _ (n : ℕ) (w : List ℕ) where
+  two-front : take (2 * n) (front n w) ≡ take (2 * n) w
+  two-front = take-take (2 * n) (3 * n) w (omega arith)
+
+  times-front : timesIn n (front n w) ≡ timesIn n w
+  times-front = times-kept n w (front n w) two-front
+
+  order-front : (i : ℕ) → orderIn n i (front n w) ≡ orderIn n i w
+  order-front = order-kept n w (front n w) two-front
+
+  marks-front : marksIn n (front n w) ≡ regionFlags n marks w
+  marks-front =
+      let k : 2 * n + n ≡ 3 * n = omega arith in
+      ap (flags n) (sym (take-drop (2 * n) n w ∙ ap (λ (m : ℕ). drop (2 * n) (take m w)) k)) ∙ flags-front n (drop (2 * n) w)
+
+  size-front : 4 * n ≤ length w → length (front n w) ≡ 3 * n
+  size-front h = length-take-le (3 * n) w (omega arith)
+
+  node-front : (i : ℕ) → i < n → getD (front n w) (n + i) 0 ≡ getD w (n + i) 0
+  node-front i h = getD-take (3 * n) w (n + i) 0 (omega arith)
+
+-- ---- the words were w₀, and are w when the order is passed up to position i
+pub record Marking (arcs : List Arc) (n e : ℕ) (w₀ : List ℕ) (i : ℕ) (w : List ℕ) : Type 0 where
+  pub size : length w ≡ length w₀
+  pub others : Only n marks w₀ w
+  pub standing : turns.Standing arcs n e (regionFlags n want w₀) (front n w₀) i (front n w)
+
+module _ (arcs : List Arc) (n e : ℕ) (w₀ : List ℕ) (long : 4 * n ≤ length w₀) where
+  -- w are the words before the marks were cleared.
+  pub first : (w : List ℕ) → e ≤ n → Only n marks w w₀ → regionFlags n marks w₀ ≡ replicate n 0 → Ordered n (timesIn n w) (orderIn n e w) → Marking arcs n e w₀ e w₀
+  first w h o m r = record {
+    size = refl;
+    others = only-same n marks w₀;
+    standing = turns.first arcs n e (regionFlags n want w₀) (front n w₀) (front n w) h (size-front n w₀ long)
+        (two-front n w₀ ∙ (o .front ∙ sym (two-front n w))) (marks-front n w₀ ∙ m) (rw (times-front n w, order-front n w e) r);
+  }
+
+  module _ (i : ℕ) (w : List ℕ) (g : Marking arcs n e w₀ i w) (h : i < n) where
+    pub node-in : getD w (n + i) 0 < n
+    node-in = rw (node-front n w i h) at (turns.node-in arcs n e (regionFlags n want w₀) (front n w₀) i (front n w) (g .standing) h)
+
+    pub next : Positive arcs → (w′ : List ℕ) → length w′ ≡ length w → Only n marks w w′
+        → regionFlags n marks w′ ≡ turned arcs (timesIn n w) (regionFlags n want w) (regionFlags n marks w) (getD w (n + i) 0) → Marking arcs n e w₀ (i + 1) w′
+    next pos w′ k o m =
+        let same : regionFlags n want w ≡ regionFlags n want w₀ = flags-kept n want marks w₀ w (λ q. omega arith) (g .others) in
+        record {
+          size = k ∙ g .size;
+          others = only-then n marks w₀ w w′ (g .others) o;
+          standing = turns.next arcs n e (regionFlags n want w₀) (front n w₀) i (front n w) (g .standing) h pos (front n w′)
+              (size-front n w′ (omega (arith, g .size)) ∙ sym (size-front n w (omega (arith, g .size))))
+              (two-front n w′ ∙ (o .front ∙ sym (two-front n w)))
+              (rw (marks-front n w′, marks-front n w, times-front n w, node-front n w i h, ← same) m);
+        }
+
+  pub last : (i : ℕ) (w w′ : List ℕ) → n ≤ i → Only n marks w w₀ → Marking arcs n e w₀ i w′
+      → ((v : ℕ) → Flagged (regionFlags n marks w′) v ↔ Is arcs (timesIn n w) (Flagged (regionFlags n want w)) (orderIn n e w) v) × Only n marks w w′
+  last i w w′ h o g =
+      let same : regionFlags n want w₀ ≡ regionFlags n want w = flags-kept n want marks w w₀ (λ q. omega arith) o in
+      let l = turns.last arcs n e (regionFlags n want w₀) (front n w₀) i (front n w) (front n w′) h (two-front n w₀ ∙ (o .front ∙ sym (two-front n w))) (g .standing) in
+      (λ v. rw (marks-front n w′, times-front n w, order-front n w e, same) at (l .1 v), only-then n marks w w₀ w′ o (g .others))
+
+-- ---- the first three regions, lent to a search
+module _ (n : ℕ) (w ys : List ℕ) (long : 4 * n ≤ length w) (k : length ys ≡ length (take (3 * n) w)) where
+  abbrev found : List ℕ
+  found = ys ++ drop (3 * n) w
+
+  front-is : front n found ≡ ys
+  front-is = front-times w ys (3 * n) (omega arith) k
+
+  pub found-in : (arcs : List Arc) (p e : ℕ) → e ≤ n → Found arcs n p (timesIn n ys) (orderIn n e ys) → Found arcs n p (timesIn n found) (orderIn n e found) × (e ≤ n)
+  found-in arcs p e h f = (rw (← times-front n found, ← order-front n found e, front-is) f, h)
+
+  pub found-others : drop (3 * n) found ≡ drop (3 * n) w
+  found-others = front-others w ys (3 * n) (omega arith) k
+
+-- What stays after a search from p and the marks made after it.
+pub rest-kept : (n : ℕ) (w x y : List ℕ) → drop (3 * n) x ≡ drop (3 * n) w → Only n marks x y → drop (3 * n) y ≡ drop (3 * n) w
+rest-kept n w x y e o = let k : 2 * n + n ≡ 3 * n = omega arith in rw k at (o .back) ∙ e
+
+-- A node that is due is marked.
+pub turn-due : (arcs : List Arc) (times wanted marked : List ℕ) (v : ℕ) → true ≡ due arcs times wanted marked v → set marked v 1 ≡ turned arcs times wanted marked v
+unfolding turned
+turn-due arcs times wanted marked v d = rw (← d)

@@ -1,0 +1,30 @@
+-- `cell::cell_gather` meets its contract: the squares stay where the other region is filled.
+use borrow.Author.Needs.{needs}
+use Rattle.access.proofs.Cells.{gathered-cell}
+use Rattle.grid.specs.Stored.{modelCell}
+use Rattle.access.proofs.cell.cell_gather.Statement.{statement}
+use Rattle.access.proofs.cell.cell_gather.Tie as tie
+
+put-crossings-requires : tie.Need-put-crossings-requires
+put-crossings-requires c κs = search needs
+
+put-crossings-requires-2 : tie.Need-put-crossings-requires-2
+put-crossings-requires-2 c κs = search needs
+
+gather-requires : tie.Need-gather-requires
+gather-requires c κs = (search needs, (rw (c .before .before .before .before .before .before .before .before .before .before .before .before .before .pre .1) (c .before .before .before .before .before .before .before .before .before .before .before .before .before .pre .0 .edges-rule), c .before .before .before .before .before .before .before .before .before .before .before .before .before .pre .0 .closed-rule))
+
+same-length : tie.Need-same-length
+same-length c = search needs
+
+returns : tie.Need-returns
+returns c =
+    let a = c .before .before .before .before .before .before .before .before .before .before .before .before .before .before .before .before .args in
+    let p = c .before .before .before .before .before .before .before .before .before .before .before .before .before .before .before .before .pre in
+    gathered-cell (a .nodes .now) (a .edges .now) (a .closed .now) (a .grid) (p .0) (a .n) (p .1) (modelCell (a .c)) (a .work .now) _ _ _
+    (c .before .before .before .before .before .before .before .before .before .before .put-crossings .ensures .0) (c .before .before .before .before .before .before .before .before .before .before .put-crossings .ensures .1) (c .before .before .before .before .before .before .put-crossings2 .ensures .0) (c .before .before .before .before .before .before .put-crossings2 .ensures .1) (c .before .before .gather .ensures .0) (c .before .before .gather .ensures .1)
+
+pub cell-gather-spec : {M : Type 1} → statement M
+cell-gather-spec =
+    tie.close
+    (tie.spec put-crossings-requires put-crossings-requires-2 gather-requires same-length returns)

@@ -1,0 +1,46 @@
+-- `sets::count` meets its contract.
+use mathlib.Core.Path.{_∙_, ap}
+use borrow.Author.Needs.{needs}
+use Rattle.access.proofs.Windows.{flags-part}
+use Rattle.crossing.specs.Sets.{ones}
+use Rattle.access.proofs.sets.count.Statement.{statement}
+use Rattle.access.proofs.sets.count.Tie as tie
+
+mul-a : tie.Need-mul-a
+mul-a c = search needs
+
+add-e : tie.Need-add-e
+add-e c = search needs
+
+mul-count : tie.Need-mul-count
+mul-count c = search needs
+
+sub-count : tie.Need-sub-count
+sub-count c = search needs
+
+part-count-start : tie.Need-part-count-start
+part-count-start c = search needs
+
+part-count-end : tie.Need-part-count-end
+part-count-end c = search needs
+
+count-requires : tie.Need-count-requires
+count-requires c κs = search needs
+
+returns : tie.Need-returns
+returns c =
+    let a = c .before .before .before .args in
+    c .count .ensures ∙ ap ones (flags-part (a .n) (a .k) (a .work .now))
+
+pub count-spec : {M : Type 1} → statement M
+count-spec =
+    tie.close
+    (tie.spec
+    mul-a
+    add-e
+    mul-count
+    sub-count
+    part-count-start
+    part-count-end
+    count-requires
+    returns)

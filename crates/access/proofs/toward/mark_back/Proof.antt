@@ -1,0 +1,64 @@
+-- `toward::mark_back` meets its contract: the theory's state holds between the turns.
+use Prim.Native.Nat.{_-_}
+use native.Mathlib.Omega.{arith}
+use borrow.Author.Needs.{needs}
+use Rattle.access.proofs.Fronts.{Marking, first, node-in, next, last}
+use Rattle.arcs.proofs.Bodies.{arcs-positive}
+use Rattle.arcs.specs.Arcs.{arcsIn}
+use Rattle.access.proofs.toward.mark_back.Statement.{statement}
+use Rattle.access.proofs.toward.mark_back.Tie as tie
+
+abbrev Inv-loop : tie.InvT-loop
+Inv-loop edges closed n e work₀ i₀ work i = Marking (arcsIn edges closed) n e work₀ i work
+
+abbrev μ-loop : tie.MeasureT-loop
+μ-loop edges closed n e work₀ i₀ work i = n - i
+
+clear-requires : tie.Need-clear-requires Inv-loop μ-loop
+clear-requires c κs = search needs
+
+loop-holds : tie.Need-loop-holds Inv-loop μ-loop
+loop-holds c =
+    let a = c .before .before .before .before .before .before .before .args in
+    first _ (a .n) (a .e) _ (search needs) (a .work .now) (search needs) (c .before .before .clear .ensures .1) (c .before .before .clear .ensures .0) (c .before .before .before .before .before .before .before .pre .0 .2)
+
+mark-at-requires : tie.Need-mark-at-requires Inv-loop μ-loop
+mark-at-requires c κs =
+    let l = c .before .before .loop in
+    ((search needs, omega (arith, l .inv .size, c .before .before .before .before .before .clear .kept .0), node-in _ _ _ _ (omega (arith, c .before .before .before .before .before .clear .kept .0)) (l .i) (l .work) (l .inv) (search needs)), search needs)
+
+add-i : tie.Need-add-i Inv-loop μ-loop
+add-i c = search needs
+
+loop-less : tie.Need-loop-less Inv-loop μ-loop
+loop-less c = search needs
+
+loop-again : tie.Need-loop-again Inv-loop μ-loop
+loop-again c =
+    let a = c .before .before .before .before .before .before .before .before .before .before .before .before .before .args in
+    let l = c .before .before .before .before .before .loop in
+    next _ _ _ _ (omega (arith, c .before .before .before .before .before .before .before .before .clear .kept .0)) (l .i) (l .work) (l .inv) (search needs) (arcs-positive (a .n) (a .edges .now) (c .before .before .before .before .before .before .before .before .before .before .before .before .before .pre .1 .0) (a .closed .now)) _ (search needs) (c .before .before .mark-at .ensures .1) (c .before .before .mark-at .ensures .0)
+
+same-length : tie.Need-same-length Inv-loop μ-loop
+same-length c = search needs
+
+returns : tie.Need-returns Inv-loop μ-loop
+returns c =
+    let a = c .before .before .before .before .before .before .before .before .before .args in
+    let l = c .before .loop in
+    last _ _ _ _ (omega (arith, c .before .before .before .before .clear .kept .0)) (l .i) (a .work .now) (l .work) (search needs) (c .before .before .before .before .clear .ensures .1) (l .inv)
+
+pub mark-back-spec : {M : Type 1} → statement M
+mark-back-spec =
+    tie.close
+    (tie.spec
+    Inv-loop
+    μ-loop
+    clear-requires
+    loop-holds
+    mark-at-requires
+    add-i
+    loop-less
+    loop-again
+    same-length
+    returns)
