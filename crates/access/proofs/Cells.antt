@@ -57,7 +57,7 @@ module _ (b e c : Bytes) (grid : Grid) (ground : Ground b e c grid) (n : ℕ) (s
   unfolding order nodes
   count = length-map (upTo (nodeCount b)) (node b) ∙ (length-range 0 (nodeCount b) ∙ sym size)
 
-  count-cells : length cs ≡ n
+  pub count-cells : length (cellsIn grid b) ≡ n
   unfolding model.cells order
   count-cells = length-map (nodes b) _ ∙ count
 

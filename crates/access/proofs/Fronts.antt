@@ -4,16 +4,14 @@ use native.Mathlib.Omega.{arith}
 use mathlib.Core.Path.{_≡_, refl, sym, ap, _∙_}
 use mathlib.Core.Logic.{_↔_}
 use mathlib.Core.Bool.{true}
-use mathlib.Core.List.{List, _++_}
+use mathlib.Core.List.{List}
 use lib.ListN.{length, getD, set, take, drop, replicate}
 use lib.Seq.{length-take-le, take-take, getD-take}
 use Rattle.model.specs.Walk.{Arc}
 use Rattle.theory.specs.Walks.{Positive}
 use Rattle.algorithms.specs.Pass.{Is}
-use Rattle.algorithms.specs.Rounds.{Found}
 use Rattle.bitset.specs.Bits.{flags}
 use Rattle.search.specs.Regions.{timesIn, orderIn}
-use Rattle.search.proofs.Parts.{front-times, front-others}
 use Rattle.marks.specs.Due.{Flagged, due, turned}
 use Rattle.marks.specs.Region.{marksIn, Ordered}
 use Rattle.marks.proofs.Views.{times-kept, order-kept}
@@ -84,20 +82,6 @@ module _ (arcs : List Arc) (n e : ℕ) (w₀ : List ℕ) (long : 4 * n ≤ lengt
       let same : regionFlags n want w₀ ≡ regionFlags n want w = flags-kept n want marks w w₀ (λ q. omega arith) o in
       let l = turns.last arcs n e (regionFlags n want w₀) (front n w₀) i (front n w) (front n w′) h (two-front n w₀ ∙ (o .front ∙ sym (two-front n w))) (g .standing) in
       (λ v. rw (marks-front n w′, times-front n w, order-front n w e, same) at (l .1 v), only-then n marks w w₀ w′ o (g .others))
-
--- ---- the first three regions, lent to a search
-module _ (n : ℕ) (w ys : List ℕ) (long : 4 * n ≤ length w) (k : length ys ≡ length (take (3 * n) w)) where
-  abbrev found : List ℕ
-  found = ys ++ drop (3 * n) w
-
-  front-is : front n found ≡ ys
-  front-is = front-times w ys (3 * n) (omega arith) k
-
-  pub found-in : (arcs : List Arc) (p e : ℕ) → e ≤ n → Found arcs n p (timesIn n ys) (orderIn n e ys) → Found arcs n p (timesIn n found) (orderIn n e found) × (e ≤ n)
-  found-in arcs p e h f = (rw (← times-front n found, ← order-front n found e, front-is) f, h)
-
-  pub found-others : drop (3 * n) found ≡ drop (3 * n) w
-  found-others = front-others w ys (3 * n) (omega arith) k
 
 -- What stays after a search from p and the marks made after it.
 pub rest-kept : (n : ℕ) (w x y : List ℕ) → drop (3 * n) x ≡ drop (3 * n) w → Only n marks x y → drop (3 * n) y ≡ drop (3 * n) w

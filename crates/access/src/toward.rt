@@ -7,7 +7,6 @@ ghost use lib.ListN.{length, getD, drop};
 ghost use Rattle.model.specs.Network.{maxNodes, edgeCount, someEdgeBroken, numbersBroken};
 ghost use Rattle.algorithms.specs.Marks.{Toward};
 ghost use Rattle.algorithms.specs.Pass.{Is};
-ghost use Rattle.algorithms.specs.Rounds.{Found};
 ghost use Rattle.arcs.specs.Arcs.{arcsIn};
 ghost use Rattle.search.specs.Regions.{timesIn, orderIn};
 ghost use Rattle.marks.specs.Due.{Flagged, due, turned};
@@ -19,7 +18,7 @@ use crate::regions::clear;
 use crate::regions::has;
 use crate::regions::put;
 use marks::leads::leads;
-use search::search::search;
+use search::front::search_front;
 
 // Whether v is to be marked: it is wanted itself, or leads on.
 fn is_due(edges: &[u8], closed: &[u8], n: usize, work: &[u32], v: usize) -> bool
@@ -70,17 +69,6 @@ pub fn mark_back(edges: &[u8], closed: &[u8], n: usize, e: usize, work: &mut [u3
         mark_at(edges, closed, n, work, i);
         i += 1;
     }
-}
-
-// Searches from p in the regions before WANT.
-fn search_front(edges: &[u8], closed: &[u8], n: usize, p: usize, work: &mut [u32]) -> usize
-    requires { ⌜ (n ≤ maxNodes) × (p < n) × (4 * n ≤ length (now work)) ⌝ }
-    requires { ⌜ (someEdgeBroken n (now edges) ≡ false) × (numbersBroken (edgeCount (now edges)) (now closed) ≡ false) ⌝ }
-    ensures found { λ e. ⌜ Found (arcsIn (now (edges .entry)) (now (closed .entry))) n p (timesIn n (now (work .exit))) (orderIn n e (now (work .exit))) × (e ≤ n) ⌝ }
-    ensures others { λ _. ⌜ drop (3 * n) (now (work .exit)) ≡ drop (3 * n) (now (work .entry)) ⌝ }
-{
-    let m = WANT * n;
-    search(edges, closed, n, p, &mut work[..m])
 }
 
 // Marks every node that lies on some least walk from p to a wanted node, every equally quick way counted, and no other.

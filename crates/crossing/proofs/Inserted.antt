@@ -1,18 +1,16 @@
 -- Numbers inserted into a set one after another. Assumes nothing.
-use Prim.Native.Nat.{ℕ, _+_, _*_, _/_, _≤_, _<_}
+use Prim.Native.Nat.{ℕ, _*_, _/_, _≤_, _<_}
 use native.Mathlib.Omega.{arith}
 use mathlib.Core.Path.{_≡_, refl, sym, _∙_}
-use mathlib.Core.Bool.{Bool, true, false, _||_, _&&_, cond}
+use mathlib.Core.Bool.{Bool, true, false, _||_, cond}
 use mathlib.Core.List.{List, [], _∷_, append-nil, List·Memᴰ, List·Memᴰ·head, List·Memᴰ·tail}
 use lib.Dec.{eqb}
 use lib.ListN.{length, replicate, length-set, length-replicate}
-use Rattle.model.specs.Lists.{upTo, filter, member}
-use Rattle.theory.specs.RangeLaws.{rest, rest-all, rest-step, rest-end}
-use Rattle.theory.specs.Members.{filter→, range→}
+use Rattle.model.specs.Lists.{member}
 use Rattle.bitset.specs.Bits.{wordBits, isIn, insertIn, flags}
 use Rattle.bitset.proofs.Members.{members, flags-none}
-use Rattle.crossing.specs.Sets.{memberFlags, either, both}
-use Rattle.crossing.specs.SetLaws.{flags-test, test-flags-same, either-test, both-test, no-members, either-members, filter-flags}
+use Rattle.crossing.specs.Sets.{memberFlags, either}
+use Rattle.crossing.specs.SetLaws.{flags-test, test-flags-same, either-test, no-members, either-members}
 
 -- The words of a set with all numbers of a list in it.
 unfoldable pub insertAll : List ℕ → List ℕ → List ℕ
@@ -57,37 +55,3 @@ module _ (n : ℕ) (l : List ℕ) (below : (v : ℕ) → List·Memᴰ v l → v 
   -- Into an empty set.
   pub flags-made : (k : ℕ) → n ≤ k * wordBits → flags n (insertAll l (replicate k 0)) ≡ memberFlags n l
   flags-made k h = flags-all (replicate k 0) (rw length-replicate h) ∙ rw (flags-none n k, ← no-members n, either-members n l [], append-nil)
-
-passed-below : (p : ℕ → Bool) (n v : ℕ) → List·Memᴰ v (filter p (upTo n)) → v < n
-passed-below p n v m = omega (arith, range→ 0 n v (filter→ p (upTo n) m .0))
-
--- ---- a loop over the numbers below n, which inserts those that pass a test: what is left from v on gives the whole
-
-pub record Inserting (p : ℕ → Bool) (n : ℕ) (s₀ : List ℕ) (v : ℕ) (s : List ℕ) : Type 0 where
-  pub size : length s ≡ length s₀
-  pub whole : insertAll (filter p (rest v n)) s ≡ insertAll (filter p (upTo n)) s₀
-
-module _ (p : ℕ → Bool) (n : ℕ) (s₀ : List ℕ) where
-  pub inserting-first : Inserting p n s₀ 0 s₀
-  inserting-first = record { size = refl; whole = rw (← rest-all n) }
-
-  module _ (v : ℕ) (s : List ℕ) (q : Inserting p n s₀ v s) where
-    pub inserting-next : v < n → Inserting p n s₀ (v + 1) (cond (p v) (insertIn s v) s)
-    unfolding filter
-    inserting-next h = record {
-      size = length-insert (p v) v s ∙ q .size;
-      whole = sym (insert-one (p v) v (filter p (rest (v + 1) n)) s) ∙ rw (rest-step v n h) at (q .whole);
-    }
-
-    pub inserting-last : n ≤ v → s ≡ insertAll (filter p (upTo n)) s₀
-    unfolding insertAll filter
-    inserting-last h = rw (rest-end v n h) at (q .whole)
-
--- The members of another set, and those of two sets into an empty one.
-pub united : (n : ℕ) (f s : List ℕ) → n ≤ length s * wordBits → flags n (insertAll (filter (isIn f) (upTo n)) s) ≡ either (flags n f) (flags n s)
-united n f s h = flags-all n (filter (isIn f) (upTo n)) (passed-below (isIn f) n) s h ∙ rw (filter-flags n (isIn f), ← flags-test n f)
-
-pub met : (n k : ℕ) (a b : List ℕ) → n ≤ k * wordBits → flags n (insertAll (filter (λ v. isIn a v && isIn b v) (upTo n)) (replicate k 0)) ≡ both (flags n a) (flags n b)
-met n k a b h =
-    let p : ℕ → Bool = λ v. isIn a v && isIn b v in
-    flags-made n (filter p (upTo n)) (passed-below p n) k h ∙ (filter-flags n p ∙ rw (flags-test n a, flags-test n b) (sym (both-test (isIn a) (isIn b) n)))

@@ -4,4 +4,4 @@ pub mod SetLaws
 pub mod Ground
 pub mod Cells
 pub mod AccessFlags
-pub mod TransitFlags
+pub mod FirstNodes

@@ -5,8 +5,8 @@ use native.Mathlib.Decide.{decLt}
 use native.Mathlib.Omega.{arith}
 use mathlib.Core.Path.{_≡_, refl, sym, _∙_, ap}
 use mathlib.Core.Logic.{_↔_}
-use mathlib.Core.Bool.{Bool, true, false, _&&_, _||_, cond, or-assoc, and-comm, and-true}
-use mathlib.Core.List.{List, [], _∷_, _++_, map, zipWith, List·Memᴰ}
+use mathlib.Core.Bool.{Bool, true, false, _&&_, _||_, cond, or-assoc, and-true}
+use mathlib.Core.List.{List, [], _∷_, _++_, map, zipWith}
 use lib.Dec.{eqb}
 use lib.ListN.{length, getD, replicate, length-map, length-replicate, getD-replicate, List·getD-eq-default}
 use lib.Seq.{ext-getD}
@@ -110,23 +110,6 @@ member-filter p l v = same-test
     (λ h. let b = tests.both {b = p v} h in →member v (filter p l) (→filter p l (member→ v l (b .1)) (b .0)))
 
 module _ (n : ℕ) where
-  pub length-member-flags : (l : List ℕ) → length (memberFlags n l) ≡ n
-  unfolding memberFlags
-  length-member-flags l = length-test-flags (λ v. member v l) n
-
-  pub member-flag : (l : List ℕ) (v : ℕ) → (getD (memberFlags n l) v 0 ≡ 1) ↔ ((v < n) × List·Memᴰ v l)
-  unfolding memberFlags
-  member-flag l v =
-      let f = test-flag (λ v. member v l) n v in
-      (λ e. (f .0 e .0, member→ v l (f .0 e .1)), λ h. f .1 (h .0, →member v l (h .1)))
-
-  -- Lists with the same members below n.
-  pub member-flags-same : (l m : List ℕ) → ((v : ℕ) → v < n → List·Memᴰ v l ↔ List·Memᴰ v m) → memberFlags n l ≡ memberFlags n m
-  unfolding memberFlags
-  member-flags-same l m h = test-flags-same (λ v. member v l) (λ v. member v m) n (λ v k. same-test
-      (λ e. →member v m (h v k .0 (member→ v l e)))
-      (λ e. →member v l (h v k .1 (member→ v m e))))
-
   pub no-members : memberFlags n [] ≡ replicate n 0
   unfolding memberFlags member
   no-members = ext-getD 0 (testFlags (λ v. false) n) (replicate n 0) (length-test-flags (λ v. false) n ∙ sym (length-replicate n 0))
@@ -136,14 +119,7 @@ module _ (n : ℕ) where
   unfolding memberFlags
   either-members l m = either-test (λ v. member v l) (λ v. member v m) n ∙ test-flags-same _ _ n (λ v k. sym (member-append v l m))
 
-  pub both-members : (l m : List ℕ) → both (memberFlags n l) (memberFlags n m) ≡ memberFlags n (filter (λ v. member v m) l)
-  unfolding memberFlags
-  both-members l m = both-test (λ v. member v l) (λ v. member v m) n ∙ test-flags-same _ _ n (λ v k. and-comm (member v l) (member v m) ∙ sym (member-filter (λ v. member v m) l v))
-
   -- Those of the numbers below n that pass a test: as a list, and how many.
   pub filter-flags : (p : ℕ → Bool) → memberFlags n (filter p (upTo n)) ≡ testFlags p n
   unfolding memberFlags
   filter-flags p = test-flags-same _ _ n (λ v k. member-filter p (upTo n) v ∙ rw (→member v (upTo n) (→upTo n v k)) (and-true (p v)))
-
-  pub ones-members : (p : ℕ → Bool) (f : List ℕ) → f ≡ memberFlags n (filter p (upTo n)) → ones f ≡ length (filter p (upTo n))
-  ones-members p f e = ap ones (e ∙ filter-flags p) ∙ ones-test p n

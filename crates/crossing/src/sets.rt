@@ -1,13 +1,12 @@
-// Sets of nodes below n, one bit a node: how many there are, those of either of two sets, and those of both.
+// Sets of nodes below n, one bit a node.
 ghost use mathlib.Core.Path.{_≡_};
-ghost use mathlib.Core.Bool.{_&&_, cond};
+ghost use mathlib.Core.Bool.{cond};
 ghost use Prim.Native.Nat.{_*_, _/_, _<_, _≤_};
 ghost use lib.ListN.{length};
-ghost use Rattle.bitset.specs.Bits.{wordBits, isIn, insertIn, flag, flags};
-ghost use Rattle.crossing.specs.Sets.{either, both, ones};
+ghost use Rattle.bitset.specs.Bits.{wordBits, insertIn, flag, flags};
+ghost use Rattle.crossing.specs.Sets.{ones};
 use bitset::bits::contains;
 use bitset::bits::insert;
-use bitset::words::fill;
 
 // 1 for a member, and 0 for another.
 fn bit(s: &[u32], v: usize) -> usize
@@ -37,37 +36,5 @@ pub fn insert_if(s: &mut [u32], v: usize, wanted: bool)
 {
     if wanted {
         insert(s, v);
-    }
-}
-
-// Inserts the members of `from`.
-pub fn unite(n: usize, from: &[u32], into: &mut [u32])
-    requires { ⌜ (n ≤ length (now from) * wordBits) × (n ≤ length (now into) * wordBits) ⌝ }
-    ensures { λ _. ⌜ flags n (now (into .exit)) ≡ either (flags n (now (from .entry))) (flags n (now (into .entry))) ⌝ }
-{
-    let mut v = 0;
-    while v < n {
-        insert_if(into, v, contains(from, v));
-        v += 1;
-    }
-}
-
-fn in_both<'a>(a: &'a [u32], b: &'a [u32], v: usize) -> bool
-    requires { ⌜ (v / wordBits < length (now a)) × (v / wordBits < length (now b)) ⌝ }
-    ensures { λ r. ⌜ r ≡ isIn (now (a .entry)) v && isIn (now (b .entry)) v ⌝ }
-{
-    contains(a, v) && contains(b, v)
-}
-
-// Makes `into` the set of those that are in a and in b.
-pub fn meet<'a>(n: usize, a: &'a [u32], b: &'a [u32], into: &mut [u32])
-    requires { ⌜ (n ≤ length (now a) * wordBits) × (n ≤ length (now b) * wordBits) × (n ≤ length (now into) * wordBits) ⌝ }
-    ensures { λ _. ⌜ flags n (now (into .exit)) ≡ both (flags n (now (a .entry))) (flags n (now (b .entry))) ⌝ }
-{
-    fill(into, 0);
-    let mut v = 0;
-    while v < n {
-        insert_if(into, v, in_both(a, b, v));
-        v += 1;
     }
 }

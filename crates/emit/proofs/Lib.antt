@@ -1,7 +1,7 @@
--- The laws that the proofs cite.
-mod Writing
-mod Comparing
-mod Turns
+-- The laws that the proofs cite; `Writing`, `Comparing` and `Turns` have those for callers.
+pub mod Writing
+pub mod Comparing
+pub mod Turns
 mod Ranks
 mod Indexes
 mod Offsets

@@ -17,11 +17,11 @@ module _ (old : Bytes) (at : ℕ) (r : Bytes) (h : at + length r ≤ length old)
   length-front : length (take at old ++ r) ≡ at + length r
   length-front = length-append (take at old) r ∙ rw (length-take-le at old (omega arith))
 
-  take-splice : take (at + length r) (splice at r old) ≡ take at old ++ r
+  pub take-splice : take (at + length r) (splice at r old) ≡ take at old ++ r
   unfolding splice
   take-splice = take-at (take at old ++ r) (drop (at + length r) old) (at + length r) length-front
 
-  drop-splice : (n : ℕ) → drop (at + length r + n) (splice at r old) ≡ drop (at + length r + n) old
+  pub drop-splice : (n : ℕ) → drop (at + length r + n) (splice at r old) ≡ drop (at + length r + n) old
   unfolding splice
   drop-splice n =
       sym (drop-drop n (at + length r) (splice at r old)) ∙

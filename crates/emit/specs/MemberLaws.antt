@@ -5,7 +5,7 @@ use mathlib.Core.Path.{_≡_, refl}
 use mathlib.Core.Bool.{Bool}
 use mathlib.Core.List.{List, [], _∷_, List·Memᴰ, List·Memᴰ·head, List·Memᴰ·tail}
 use Rattle.model.specs.Lists.{filter, upTo}
-use Rattle.theory.specs.Members.{filter→, range→}
+use Rattle.theory.specs.Members.{range→}
 use Rattle.bitset.specs.Bits.{isIn}
 use Rattle.emit.specs.Members.{membersOf}
 
@@ -13,10 +13,6 @@ filter-same : (p q : ℕ → Bool) (l : List ℕ) → ((x : ℕ) → List·Mem�
 unfolding filter
 filter-same p q [] h = refl
 filter-same p q (x ∷ l) h = rw (h x (List·Memᴰ·head refl), filter-same p q l (λ y m. h y (List·Memᴰ·tail m)))
-
-pub members-below : (n : ℕ) (s : List ℕ) (v : ℕ) → List·Memᴰ v (membersOf n s) → v < n
-unfolding membersOf
-members-below n s v m = omega (arith, range→ 0 n v (filter→ (isIn s) (upTo n) m .0) .1)
 
 -- A set that has those of the numbers below n that pass a test.
 pub members-passing : (n : ℕ) (s : List ℕ) (p : ℕ → Bool) → ((v : ℕ) → v < n → isIn s v ≡ p v) → membersOf n s ≡ filter p (upTo n)

@@ -13,7 +13,7 @@ use codec::records::LIST_ENTRY_SIZE;
 use codec::records::START_SIZE;
 
 // The size of list v.
-fn list_size(counts: &[u32], v: usize) -> usize
+pub fn list_size(counts: &[u32], v: usize) -> usize
     requires { ⌜ v < length (now counts) ⌝ }
     ensures { λ r. ⌜ r ≡ listSize (getD (now (counts .entry)) v 0) ⌝ }
 {

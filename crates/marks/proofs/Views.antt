@@ -6,7 +6,7 @@ use native.Mathlib.Omega.{arith}
 use mathlib.Core.Path.{_≡_, sym, ap, _∙_}
 use mathlib.Core.Bool.{Bool, true, false}
 use mathlib.Core.List.{List, [], _∷_, _++_, append-nil}
-use borrow.Rule.Slice.PartMut.{midOf, postOf, putMid, take-put, post-is}
+use borrow.Rule.Slice.PartMut.{midOf, postOf, putMid, post-is}
 use lib.ListN.{length, getD, take, drop, replicate, length-take, length-drop, drop-of-length-le}
 use lib.Seq.{length-take-le, take-all, take-take, drop-at, take-nil, drop-nil, drop-cons, getD-take, getD-drop}
 use Rattle.model.specs.Lists.{any}
@@ -56,9 +56,6 @@ back-is w ys a h =
 module _ (w ys : List ℕ) (n : ℕ) (size : length w ≡ 3 * n) where
   two : 2 * n ≤ length w
   two = omega arith
-
-  pub front-kept : take (2 * n) (putMid (2 * n) (length w - 2 * n) w ys) ≡ take (2 * n) w
-  front-kept = take-put (2 * n) (length w - 2 * n) w ys two
 
   pub cleared : ys ≡ replicate (length (midOf (2 * n) (length w - 2 * n) w)) 0 → marksIn n (putMid (2 * n) (length w - 2 * n) w ys) ≡ replicate n 0
   cleared q = ap (flags n) (back-is w ys (2 * n) two ∙ q) ∙ flags-none n (length (midOf (2 * n) (length w - 2 * n) w))

@@ -1,4 +1,2 @@
-// The nodes on least walks from one node to wanted ones: one search, then backward marks.
-pub mod back;
+// Which nodes lead on to a marked node over a tight arc.
 pub mod leads;
-pub mod toward;

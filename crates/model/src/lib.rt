@@ -22,7 +22,9 @@ pub enum Answer {
     },
 }
 
+// Both cross to other languages as they stand.
 // What building hands back: the number of the broken rule and zeros, or 0 with the oracle's size in bytes and its number of transit nodes.
+#[repr(C)]
 pub struct Built {
     pub rule: u32,
     pub size: u32,
@@ -30,6 +32,7 @@ pub struct Built {
 }
 
 // What the way hands back: the number of the broken rule and a zero, or 0 with the number of nodes written.
+#[repr(C)]
 pub struct Route {
     pub rule: u32,
     pub nodes: u32,

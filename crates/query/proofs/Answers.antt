@@ -51,7 +51,7 @@ unfoldable pub upTo14 : List Rule → Bool
 upTo14 [] = true
 upTo14 (r ∷ rs) = leb (r .number) 14 && upTo14 rs
 
-first-most : (rs : List Rule) → upTo14 rs ≡ true → firstBroken rs ≤ 14
+pub first-most : (rs : List Rule) → upTo14 rs ≡ true → firstBroken rs ≤ 14
 unfolding upTo14 firstBroken
 first-most [] h = omega arith
 first-most (r ∷ rs) h = let b = both {b = leb (r .number) 14} h in step (r .broken) (leb-true (r .number) 14 (b .0)) (first-most rs (b .1))

@@ -38,7 +38,7 @@ pub both-there : {a b : Bool} → a ≡ false → b ≡ false → a || b ≡ fal
 both-there e q = rw (e, q)
 
 -- A list of rules that is kept, and one rule more: both are kept.
-split : (xs : List Rule) (n : ℕ) (b : Bool) → counted xs ≡ true → 0 < n → firstBroken (xs ++ (rule n b ∷ [])) ≡ 0 → (firstBroken xs ≡ 0) × (b ≡ false)
+pub split : (xs : List Rule) (n : ℕ) (b : Bool) → counted xs ≡ true → 0 < n → firstBroken (xs ++ (rule n b ∷ [])) ≡ 0 → (firstBroken xs ≡ 0) × (b ≡ false)
 split xs n b c p h = pick (ℕ-discrete (firstBroken xs) 0)
   where
     pick : Dec (firstBroken xs ≡ 0) → (firstBroken xs ≡ 0) × (b ≡ false)

@@ -1,7 +1,7 @@
--- The laws that the proofs cite; `Kept` has those for callers.
+-- The laws that the proofs cite; those of `pub` modules are for callers too.
 pub mod Kept
-mod Cells
-mod Words
-mod Answers
+pub mod Cells
+pub mod Words
+pub mod Answers
 mod WayLaws
-mod Routes
+pub mod Routes

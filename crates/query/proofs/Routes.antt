@@ -19,7 +19,7 @@ use Rattle.theory.specs.BuiltCalls.{time-counted}
 use Rattle.query.proofs.Answers.{words-kept, time-most}
 
 -- Success and rule 15 alike set the first words to zero.
-both-clear : (b : Bool) (f : Bytes) (work mid : List ℕ) → drop (wordsNeeded f) mid ≡ drop (wordsNeeded f) work → cleared (wordsNeeded f) mid ≡ workAfter (cond b 15 0) f work
+pub both-clear : (b : Bool) (f : Bytes) (work mid : List ℕ) → drop (wordsNeeded f) mid ≡ drop (wordsNeeded f) work → cleared (wordsNeeded f) mid ≡ workAfter (cond b 15 0) f work
 unfolding workAfter clears cleared
 both-clear true f work mid d = rw d
 both-clear false f work mid d = rw d

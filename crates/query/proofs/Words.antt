@@ -4,8 +4,8 @@ use native.Mathlib.Nat.{zero-add}
 use native.Mathlib.Omega.{arith}
 use mathlib.Core.Path.{_≡_, sym, _∙_, ap}
 use mathlib.Core.List.{List, _++_}
-use lib.ListN.{length, getD, take, drop, replicate, List·getD-append}
-use lib.Seq.{take-append-le, length-take-le, getD-take, drop-drop}
+use lib.ListN.{length, getD, take, drop, replicate}
+use lib.Seq.{length-take-le, getD-take, drop-drop}
 use Rattle.model.specs.Bytes.{Bytes}
 use Rattle.model.specs.Contents.{nodeBody, edgeBody, closedBody}
 use Rattle.model.specs.Distance.{dist}
@@ -17,10 +17,6 @@ use Rattle.theory.specs.RangeLaws.{getD-map-range}
 use Rattle.theory.specs.Sound.{count-nodes}
 use Rattle.algorithms.specs.Rounds.{Found, distanceWords}
 use Rattle.arcs.specs.Arcs.{arcsIn, arcs-in}
-
--- A word of the front, after it came back as ys.
-pub front-word : (w ys : List ℕ) (m t : ℕ) → m ≤ length w → length ys ≡ length (take m w) → t < m → getD (ys ++ drop m w) t 0 ≡ getD ys t 0
-front-word w ys m t h e l = List·getD-append ys (drop m w) 0 t (omega (arith, e, length-take-le m w h))
 
 -- The word of t that a search from s has left.
 pub found-word : (arcs : List Arc) (n s t : ℕ) (ys order : List ℕ) → Found arcs n s (take n ys) order → t < n → getD ys t 0 ≡ coded (dist arcs n s t)
@@ -42,7 +38,3 @@ behind a b w v h e =
 pub distance-in : (o : Bytes) (s t : ℕ) → distance (network o) s t ≡ dist (arcsIn (edgeBody o) (closedBody o)) (nodeCount (nodeBody o)) s t
 unfolding distance
 distance-in o s t = rw (arcs-in o, count-nodes o)
-
--- A front of the front, after that came back as ys.
-pub front-times : (w ys : List ℕ) (m n : ℕ) → m ≤ length w → length ys ≡ length (take m w) → n ≤ m → take n (ys ++ drop m w) ≡ take n ys
-front-times w ys m n h e l = take-append-le n ys (drop m w) (omega (arith, e, length-take-le m w h))

@@ -33,7 +33,7 @@ use tables::far::far_answer;
 use tables::lists::list_part;
 
 // The far answer, from the lists and the table alone.
-fn far_of(o: &[u8], s: usize, t: usize) -> Answer
+pub fn far_of(o: &[u8], s: usize, t: usize) -> Answer
     requires { ⌜ (wellShaped (now o) ≡ true) × (s < nodeCount (nodeBody (now o))) × (t < nodeCount (nodeBody (now o))) ⌝ }
     ensures { λ r. ⌜ r ≡ farAnswer (now (o .entry)) s t ⌝ }
 {

@@ -15,7 +15,7 @@ use reader::oracle::CLOSED;
 use reader::oracle::EDGES;
 use reader::oracle::node_count;
 use reader::oracle::oracle_body;
-use search::search::search;
+use search::front::search_front;
 
 // The distance from s to t over the bodies of edges and closed edges. The search leaves what it likes in the first 3 n words.
 fn search_seconds(
@@ -31,8 +31,7 @@ fn search_seconds(
     ensures seconds { λ r. ⌜ r ≡ coded (dist (arcsIn (now (edges .entry)) (now (closed .entry))) n s t) ⌝ }
     ensures rest { λ _. ⌜ drop (3 * n) (now (work .exit)) ≡ drop (3 * n) (now (work .entry)) ⌝ }
 {
-    let m = 3 * n;
-    search(edges, closed, n, s, &mut work[..m]);
+    search_front(edges, closed, n, s, work);
     work[t]
 }
 

@@ -43,7 +43,7 @@ pub fn pair_refusal(o: &[u8], s: u32, t: u32) -> u32
 }
 
 // Rule 14, of an oracle that keeps 1 to 11.
-fn work_too_small(o: &[u8], words: usize) -> bool
+pub fn work_too_small(o: &[u8], words: usize) -> bool
     requires { ⌜ wellShaped (now o) ≡ true ⌝ }
     ensures { λ r. ⌜ r ≡ workTooSmall (now (o .entry)) words ⌝ }
 {

@@ -3,14 +3,11 @@ ghost use mathlib.Core.Path.{_≡_};
 ghost use mathlib.Core.Bool.{true};
 ghost use mathlib.Core.List.{_++_};
 ghost use Prim.Native.Nat.{_*_, _<_, _≤_};
-ghost use lib.ListN.{length, take, drop};
+ghost use lib.ListN.{length, drop};
 ghost use Rattle.model.specs.Bytes.{bytes16};
 ghost use Rattle.model.specs.Contents.{nodeBody};
 ghost use Rattle.model.specs.Lists.{concatMap};
-ghost use mathlib.Core.Bool.{false};
-ghost use Rattle.model.specs.Network.{network, nodeCount, maxNodes, edgeCount, someEdgeBroken, numbersBroken};
-ghost use Rattle.algorithms.specs.Rounds.{distanceWords};
-ghost use Rattle.arcs.specs.Arcs.{arcsIn};
+ghost use Rattle.model.specs.Network.{network, nodeCount};
 ghost use Rattle.model.specs.Query.{way};
 ghost use Rattle.model.specs.Rules.{wellShaped, wordsNeeded};
 ghost use Rattle.query.specs.Toward.{Toward};
@@ -18,28 +15,17 @@ use reader::oracle::CLOSED;
 use reader::oracle::EDGES;
 use reader::oracle::node_count;
 use reader::oracle::oracle_body;
-use search::search::search;
+use search::front::search_front;
 use way::whole::way_size;
 use way::whole::write_whole;
 
-// A search from t, over n nodes. As edges run both ways, its times are those to t.
-fn search_from(edges: &[u8], closed: &[u8], n: usize, t: usize, work: &mut [u32])
-    requires { ⌜ (n ≤ maxNodes) × (t < n) × (3 * n ≤ length (now work)) ⌝ }
-    requires { ⌜ (someEdgeBroken n (now edges) ≡ false) × (numbersBroken (edgeCount (now edges)) (now closed) ≡ false) ⌝ }
-    ensures times { λ _. ⌜ take n (now (work .exit)) ≡ distanceWords (arcsIn (now (edges .entry)) (now (closed .entry))) n t ⌝ }
-    ensures rest { λ _. ⌜ drop (3 * n) (now (work .exit)) ≡ drop (3 * n) (now (work .entry)) ⌝ }
-{
-    let m = 3 * n;
-    search(edges, closed, n, t, &mut work[..m]);
-}
-
-// The times to t stand in the first words afterwards.
+// The times to t stand in the first words afterwards. As edges run both ways, they are those from t.
 pub fn times_to(o: &[u8], t: usize, work: &mut [u32])
     requires { ⌜ (wellShaped (now o) ≡ true) × (t < nodeCount (nodeBody (now o))) × (wordsNeeded (now o) ≤ length (now work)) ⌝ }
     ensures times { λ _. ⌜ Toward (now (o .entry)) t (now (work .exit)) ⌝ }
     ensures rest { λ _. ⌜ drop (wordsNeeded (now (o .entry))) (now (work .exit)) ≡ drop (wordsNeeded (now (o .entry))) (now (work .entry)) ⌝ }
 {
-    search_from(
+    search_front(
         oracle_body(o, EDGES),
         oracle_body(o, CLOSED),
         node_count(o),

@@ -2,3 +2,4 @@
 mod Scans
 pub mod Parts
 mod Turns
+mod Fronts

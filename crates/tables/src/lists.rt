@@ -11,7 +11,7 @@ use codec::records::LIST_ENTRY_SIZE;
 use codec::records::NUMBER_SIZE;
 use codec::records::START_SIZE;
 
-fn list_start(access: &[u8], u: usize) -> usize
+pub fn list_start(access: &[u8], u: usize) -> usize
     requires { ⌜ Listed (now access) u ⌝ }
     ensures { λ r. ⌜ r ≡ listStart (now (access .entry)) u ⌝ }
 {

@@ -24,7 +24,7 @@ use Rattle.theory.specs.Accepted.{good-of}
 use Rattle.theory.specs.Whole.{AreBytes, whole-file}
 
 -- The bytes of a body are bytes.
-part-bytes : (f : Bytes) → AreBytes f → (k : ℕ) → AreBytes (body f k)
+pub part-bytes : (f : Bytes) → AreBytes f → (k : ℕ) → AreBytes (body f k)
 unfolding body cut
 part-bytes f small k i = pick (decLt i (bodyPart f k .size))
   where

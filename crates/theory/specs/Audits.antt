@@ -27,12 +27,12 @@ use Rattle.theory.specs.Sound.{node-bytes, edge-bytes, closed-bytes}
 use Rattle.theory.specs.Shape.{contents-fine, bodies-fine}
 use lib.Dec.{eqb}
 
-equal-self : (l : List ℕ) → equal l l ≡ true
+pub equal-self : (l : List ℕ) → equal l l ≡ true
 unfolding equal
 equal-self [] = refl
 equal-self (x ∷ l) = and (eq-eqb x x refl) (equal-self l)
 
-equal→ : (l m : List ℕ) → equal l m ≡ true → l ≡ m
+pub equal→ : (l m : List ℕ) → equal l m ≡ true → l ≡ m
 unfolding equal
 equal→ [] [] h = refl
 equal→ [] (y ∷ m) h = absurd (true≢false (sym h))

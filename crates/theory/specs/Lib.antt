@@ -40,4 +40,4 @@ pub mod BuiltCalls
 -- ---- the way
 pub mod Way
 pub mod Ways
-pub mod Demands
+pub mod Theorems

@@ -115,7 +115,7 @@ unfolding starts bytes32 bytes16
 length-starts at [] = refl
 length-starts at (l ∷ ls) = omega (arith, length-starts (at + length l) ls)
 
-start-read : (at j : ℕ) (ls : List Bytes) (rest : Bytes) → j < length ls → startOf at ls j < 4294967296 → word32 (starts at ls ++ rest) (4 * j) ≡ startOf at ls j
+pub start-read : (at j : ℕ) (ls : List Bytes) (rest : Bytes) → j < length ls → startOf at ls j < 4294967296 → word32 (starts at ls ++ rest) (4 * j) ≡ startOf at ls j
 start-read at j [] rest h s = absurd (omega arith)
 start-read at zero (l ∷ ls) rest h s = unfold starts bytes32 bytes16 word32 word16 concat in omega arith
 start-read at (suc j) (l ∷ ls) rest h s =

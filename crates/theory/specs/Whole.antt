@@ -41,7 +41,7 @@ word-back a b c d ha hb hc hd n e =
 
 module _ (f : Bytes) (small : AreBytes f) where
   -- Four bytes from p on are those of the number that they are.
-  four : (p : ℕ) → p + 4 ≤ length f → take 4 (drop p f) ≡ bytes32 (word32 f p)
+  pub four : (p : ℕ) → p + 4 ≤ length f → take 4 (drop p f) ≡ bytes32 (word32 f p)
   unfolding word32 word16
   four p h =
       let e : drop p f ≡ byte f p ∷ byte f (p + 1) ∷ byte f (p + 2) ∷ byte f (p + 3) ∷ drop (p + 4) f = next p (omega arith) ∙ ap (λ (l : Bytes). byte f p ∷ l) (next (p + 1) (omega arith) ∙ ap (λ (l : Bytes). byte f (p + 1) ∷ l) (step₂ ∙ ap (λ (l : Bytes). byte f (p + 2) ∷ l) step₃)) in

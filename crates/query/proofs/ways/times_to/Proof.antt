@@ -3,7 +3,6 @@ use Rattle.theory.specs.Sound.{node-bytes}
 use Rattle.theory.specs.Passed.{all-shaped}
 use Rattle.model.specs.Rules.{wordsNeeded}
 use Prim.Native.Nat.{_*_}
-use mathlib.Core.Path.{_∙_}
 use native.Mathlib.Omega.{arith}
 use borrow.Author.Needs.{needs}
 use Rattle.query.proofs.ways.times_to.Statement.{statement}
@@ -18,16 +17,16 @@ oracle-body-requires-2 c κs = search needs
 node-count-requires : tie.Need-node-count-requires
 node-count-requires c κs = search needs
 
-search-from-requires : tie.Need-search-from-requires
+search-front-requires : tie.Need-search-front-requires
 unfolding wordsNeeded
-search-from-requires c κs = let k = all-shaped _ (c .before .before .before .before .before .before .pre .0) .sound in ((omega (arith, c .before .node-count .ensures, node-bytes _ k .0), omega (arith, c .before .node-count .ensures), omega (arith, c .before .node-count .ensures)), (rw (c .before .node-count .ensures, c .before .before .before .oracle-body .ensures) (k .some-edge), rw (c .before .before .before .oracle-body .ensures, c .before .before .oracle-body2 .ensures) (k .closed)))
+search-front-requires c κs = let k = all-shaped _ (c .before .before .before .before .before .before .pre .0) .sound in ((omega (arith, c .before .node-count .ensures, node-bytes _ k .0), omega (arith, c .before .node-count .ensures), omega (arith, c .before .node-count .ensures)), (rw (c .before .node-count .ensures, c .before .before .before .oracle-body .ensures) (k .some-edge), rw (c .before .before .before .oracle-body .ensures, c .before .before .oracle-body2 .ensures) (k .closed)))
 
 same-length : tie.Need-same-length
 same-length c = search needs
 
 returns : tie.Need-returns
 unfolding wordsNeeded
-returns c = let a = c .before .before .before .before .before .before .before .before .before .args in (record { times = rw (← c .before .before .before .before .node-count .ensures, ← c .before .before .before .before .before .before .oracle-body .ensures, ← c .before .before .before .before .before .oracle-body2 .ensures) (c .before .before .search-from .ensures .0); room = omega (arith, c .before .before .search-from .kept .1 .1 .1 .1 .0) }, behind (3 * c .before .before .before .before .node-count .result) (wordsNeeded (a .o .now)) _ _ (omega (arith, c .before .before .before .before .node-count .ensures)) (c .before .before .search-from .ensures .1))
+returns c = let a = c .before .before .before .before .before .before .before .before .before .args in (record { times = rw (← c .before .before .before .before .node-count .ensures, ← c .before .before .before .before .before .before .oracle-body .ensures, ← c .before .before .before .before .before .oracle-body2 .ensures) (c .before .before .search-front .ensures .0 .0 .times); room = omega (arith, c .before .before .search-front .kept .1 .1 .1 .1 .0) }, behind (3 * c .before .before .before .before .node-count .result) (wordsNeeded (a .o .now)) _ _ (omega (arith, c .before .before .before .before .node-count .ensures)) (c .before .before .search-front .ensures .1))
 
 pub times-to-spec : {M : Type 1} → statement M
 times-to-spec =
@@ -36,6 +35,6 @@ times-to-spec =
     oracle-body-requires
     oracle-body-requires-2
     node-count-requires
-    search-from-requires
+    search-front-requires
     same-length
     returns)

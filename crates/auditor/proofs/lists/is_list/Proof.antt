@@ -1,0 +1,72 @@
+-- `lists::is_list` meets its contract: the parts are the regions.
+use mathlib.Core.Path.{sym, _∙_}
+use borrow.Author.Needs.{needs}
+use lib.Seq.{length-take-le}
+use Rattle.auditor.proofs.Shown.{list-asked, list-shown}
+use Rattle.auditor.proofs.lists.is_list.Statement.{statement}
+use Rattle.auditor.proofs.lists.is_list.Tie as tie
+
+mul-a : tie.Need-mul-a
+mul-a c = search needs
+
+mul-t : tie.Need-mul-t
+mul-t c = search needs
+
+add-same-list : tie.Need-add-same-list
+add-same-list c = search needs
+
+mul-same-list : tie.Need-mul-same-list
+mul-same-list c = search needs
+
+sub-same-list : tie.Need-sub-same-list
+sub-same-list c = search needs
+
+part-same-list-start : tie.Need-part-same-list-start
+part-same-list-start c = search needs
+
+part-same-list-end : tie.Need-part-same-list-end
+part-same-list-end c = search needs
+
+add-same-list-2 : tie.Need-add-same-list-2
+add-same-list-2 c = search needs
+
+mul-same-list-2 : tie.Need-mul-same-list-2
+mul-same-list-2 c = search needs
+
+sub-same-list-2 : tie.Need-sub-same-list-2
+sub-same-list-2 c = search needs
+
+part-same-list-start-2 : tie.Need-part-same-list-start-2
+part-same-list-start-2 c = search needs
+
+part-same-list-end-2 : tie.Need-part-same-list-end-2
+part-same-list-end-2 c = search needs
+
+slice-aggregate-same-list : tie.Need-slice-aggregate-same-list
+slice-aggregate-same-list c = let a = c .before .before .before .before .before .args in sym (length-take-le (a .n) (a .work .now) (search needs))
+
+same-list-requires : tie.Need-same-list-requires
+same-list-requires c κs = let a = c .before .before .before .before .before .args in list-asked (a .n) (a .work .now) (search needs) (search needs) (c .before .before .before .before .before .pre .2)
+
+returns : tie.Need-returns
+returns c = let a = c .before .before .before .before .before .before .args in c .same-list .ensures ∙ list-shown (a .n) (a .work .now) (search needs) (a .b .now)
+
+pub is-list-spec : {M : Type 1} → statement M
+is-list-spec =
+    tie.close
+    (tie.spec
+    mul-a
+    mul-t
+    add-same-list
+    mul-same-list
+    sub-same-list
+    part-same-list-start
+    part-same-list-end
+    add-same-list-2
+    mul-same-list-2
+    sub-same-list-2
+    part-same-list-start-2
+    part-same-list-end-2
+    slice-aggregate-same-list
+    same-list-requires
+    returns)

@@ -1,0 +1,45 @@
+-- What the audit compares, over the bodies of an oracle and a grid over its nodes. Assumes nothing.
+use Prim.Native.Nat.{ℕ}
+use mathlib.Core.Path.{_≡_}
+use mathlib.Core.Bool.{Bool, false, not, _&&_, _||_}
+use mathlib.Core.List.{List, [], _∷_, _++_}
+use Rattle.model.specs.Lists.{all, equal, upTo, concatMap}
+use Rattle.model.specs.Bytes.{Bytes, bytes16, cut}
+use Rattle.model.specs.Network.{nodeCount, distance}
+use Rattle.model.specs.Oracle.{listPart, accessBroken, tableBytes}
+use Rattle.model.specs.Rules.{Rule, rule, shapeRules, workTooSmall}
+use Rattle.grid.specs.declared.Grid.{Grid}
+use Rattle.crossing.specs.Ground.{cellsIn}
+use Rattle.crossing.specs.Cells.{sameCell, firstOfCell}
+use Rattle.access.specs.Networks.{networkIn}
+use Rattle.passes.specs.Building.{transitIn, listIn}
+
+-- The access body keeps rule 10 for n nodes and some number of transit nodes.
+abbrev pub KeepsLists : ℕ → Bytes → Type 0
+KeepsLists n access = (T : ℕ) × (accessBroken n T access ≡ false)
+
+-- The list of v in the access body is the built one.
+unfoldable pub sameList : Bytes → Bytes → Bytes → Grid → Bytes → ℕ → Bool
+sameList nodes edges closed grid access v = equal (cut (listPart access v) access) (listIn nodes edges closed grid v)
+
+-- It is, where v has the cell of u.
+unfoldable pub sameBeside : Bytes → Bytes → Bytes → Grid → Bytes → ℕ → ℕ → Bool
+sameBeside nodes edges closed grid access u v = not (sameCell (cellsIn grid nodes) u v) || sameList nodes edges closed grid access v
+
+-- All lists of the cell of u are, where u is its first node.
+unfoldable pub sameOfCell : Bytes → Bytes → Bytes → Grid → Bytes → ℕ → Bool
+sameOfCell nodes edges closed grid access u = not (firstOfCell (cellsIn grid nodes) u) || all (sameBeside nodes edges closed grid access u) (upTo (nodeCount nodes))
+
+-- All lists are.
+unfoldable pub sameLists : Bytes → Bytes → Bytes → Grid → Bytes → Bool
+sameLists nodes edges closed grid access = all (sameList nodes edges closed grid access) (upTo (nodeCount nodes))
+
+-- The last three bodies are those that building writes, the access body list by list.
+unfoldable pub sameBodies : Bytes → Bytes → Bytes → Grid → Bytes → Bytes → Bytes → Bool
+sameBodies nodes edges closed grid transit access table =
+    equal transit (concatMap bytes16 (transitIn nodes edges closed grid)) &&
+    (sameLists nodes edges closed grid access && equal table (tableBytes (distance (networkIn nodes edges closed)) (transitIn nodes edges closed grid)))
+
+-- The rules of the audit before 16.
+unfoldable pub roomRules : Bytes → ℕ → List Rule
+roomRules o words = shapeRules o ++ (rule 14 (workTooSmall o words) ∷ [])

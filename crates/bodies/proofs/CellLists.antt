@@ -1,0 +1,173 @@
+-- The lists of one cell after another, each at its place. Assumes nothing.
+use Prim.Native.Nat.{ℕ, _+_, _-_, _*_, _≤_, _<_}
+use native.Mathlib.Decide.{decLt}
+use native.Mathlib.Omega.{arith}
+use mathlib.Core.Path.{_≡_, sym, _∙_, ap}
+use mathlib.Core.Bool.{true, false}
+use mathlib.Core.List.{List}
+use lib.ListN.{length, take, drop}
+use lib.Seq.{length-take-le, take-append-le, take-take, drop-at}
+use Rattle.model.specs.Bytes.{Bytes, word32, bytes16, cut, splice}
+use Rattle.model.specs.Network.{maxNodes, edgeCount, someEdgeBroken, numbersBroken, distance}
+use Rattle.model.specs.Oracle.{startSize, entrySize, listBytes, entryBytes}
+use Rattle.theory.specs.ReadLaws.{length-concatMap, length-value}
+use Rattle.algorithms.specs.Rounds.{distanceWords}
+use Rattle.arcs.specs.Arcs.{arcsIn}
+use Rattle.grid.specs.declared.Grid.{Grid}
+use Rattle.crossing.specs.Ground.{cellsIn}
+use Rattle.crossing.specs.Cells.{sameCell, firstOfCell, same-cell}
+use Rattle.access.specs.Networks.{networkIn}
+use Rattle.access.specs.Regions.{region, own}
+use Rattle.access.proofs.Windows.{take-drop, drop-more}
+use Rattle.emit.specs.Members.{membersOf, Among}
+use Rattle.emit.specs.Parts.{listSize, listBytesOf}
+use Rattle.emit.proofs.Writing.{take-splice, drop-splice, length-splice}
+use Rattle.passes.specs.Building.{accessOf, transitIn, listIn, membersIn, transit}
+use Rattle.passes.specs.BuildingLaws.{list-words, among, same-access}
+use Rattle.passes.specs.Covered.{seen-none, seen-all, seen-later, to-none, to-all, to-other, to-same}
+use Rattle.passes.specs.Placed.{Placed, offset, whole, length-whole, offset-above, offset-within, offset-order, assembled, read-start}
+use Rattle.bodies.specs.Listed.{Based, Begun, Listed, ListedTo}
+use Rattle.bodies.proofs.OwnLists.{own-later}
+
+-- ---- bytes written over others, and what stands apart from them
+module _ (old : Bytes) (p : ℕ) (new : Bytes) (h : p + length new ≤ length old) where
+  take-before : (m : ℕ) → m ≤ p → take m (splice p new old) ≡ take m old
+  take-before m l =
+      sym (take-take m (p + length new) (splice p new old) (omega arith)) ∙
+      (ap (take m) (take-splice old p new h) ∙
+      (take-append-le m (take p old) new (omega (arith, length-take-le p old (omega arith))) ∙ take-take m p old l))
+
+  drop-after : (a : ℕ) → p + length new ≤ a → drop a (splice p new old) ≡ drop a old
+  drop-after a l = let e : a ≡ p + length new + (a - (p + length new)) = omega arith in rw e (drop-splice old p new h (a - (p + length new)))
+
+  cut-here : take (length new) (drop p (splice p new old)) ≡ new
+  cut-here =
+      take-drop p (length new) (splice p new old) ∙
+      (ap (drop p) (take-splice old p new h) ∙ drop-at (take p old) new p (length-take-le p old (omega arith)))
+
+-- ---- one list, at its place
+module _ (n : ℕ) (list : ℕ → Bytes) (body : Bytes) (g : Begun n list body) (v : ℕ) (h : v < n) where
+  start-at : word32 body (startSize * v) ≡ offset n list v
+  start-at = read-start n list body (g .starts) (g .small) v h
+
+  start-fits : 4 * v + 4 ≤ length body
+  start-fits = omega (arith, g .size, length-whole n list)
+
+  fits-at : offset n list v + length (list v) ≤ length body
+  fits-at = omega (arith, g .size, offset-within n list v h)
+
+  abbrev with-it : Bytes
+  with-it = splice (offset n list v) (list v) body
+
+  begun-still : Begun n list with-it
+  begun-still = record {
+    size = length-splice body (offset n list v) (list v) fits-at ∙ g .size;
+    small = g .small;
+    starts = take-before body (offset n list v) (list v) fits-at (startSize * n) (offset-above n list v) ∙ g .starts;
+  }
+
+  placed-here : Placed n list with-it v
+  unfolding cut
+  placed-here = cut-here body (offset n list v) (list v) fits-at
+
+  placed-still : (w : ℕ) → w < n → (w ≡ v → ⊥) → Placed n list body w → Placed n list with-it w
+  unfolding cut
+  placed-still w l d p = pick (decLt w v)
+    where
+      pick : Dec (w < v) → take (length (list w)) (drop (offset n list w) with-it) ≡ list w
+      pick (yes q) =
+          take-drop (offset n list w) (length (list w)) with-it ∙
+          (ap (drop (offset n list w)) (take-before body (offset n list v) (list v) fits-at (offset n list w + length (list w)) (offset-order n list w v q h)) ∙
+          (sym (take-drop (offset n list w) (length (list w)) body) ∙ p))
+      pick (no q) = ap (take (length (list w))) (drop-after body (offset n list v) (list v) fits-at (offset n list w) (offset-order n list v w (omega (arith, d)) l)) ∙ p
+
+-- ---- the lists of a network
+module _ (b e c : Bytes) (grid : Grid) (n : ℕ) where
+  pub length-its : (v : ℕ) → length (listIn b e c grid v) ≡ listSize (length (accessOf b e c grid v))
+  unfolding listIn listBytes listSize bytes16
+  length-its v =
+      let d = distance (networkIn b e c) v in
+      let size : (a : ℕ) → length (entryBytes (transitIn b e c grid) a (d a)) ≡ entrySize = λ a. unfold entryBytes in omega (arith, length-value (d a)) in
+      omega (arith, length-concatMap (λ a. entryBytes (transitIn b e c grid) a (d a)) entrySize size (accessOf b e c grid v))
+
+  -- The words go on to serve where the transit nodes stay.
+  module _ (w w′ : List ℕ) (based : Based b e c grid n w) (k : length w′ ≡ length w) where
+    pub based-still : drop (6 * n) w′ ≡ drop (6 * n) w → Based b e c grid n w′
+    based-still q = record { ground = based .ground; count = based .count; few = based .few; words = omega (arith, based .words, k); transits = ap (λ (l : List ℕ). membersOf n (take n l)) q ∙ based .transits }
+
+    pub based-later : drop (3 * n) w′ ≡ drop (3 * n) w → Based b e c grid n w′
+    based-later q = based-still (drop-more (3 * n) (6 * n) w w′ (omega arith) q)
+
+  -- ---- the list of v, where the words are those for the cell of u
+  module _ (w : List ℕ) (based : Based b e c grid n w) (u v : ℕ) (u-in : u < n) (v-in : v < n) (os : membersIn n own w ≡ accessOf b e c grid u) (body : Bytes) (l : ListedTo b e c grid n u v body) where
+    pub list-other : sameCell (cellsIn grid b) u v ≡ false → ListedTo b e c grid n u (v + 1) body
+    list-other other = record { begun = l .begun; seen = to-other (cellsIn grid b) (Placed n (listIn b e c grid) body) n u v other (l .seen) }
+
+    module _ (same : sameCell (cellsIn grid b) u v ≡ true) where
+      same-nodes : accessOf b e c grid u ≡ accessOf b e c grid v
+      same-nodes = same-access b e c grid u v (same-cell (cellsIn grid b) u v .0 same)
+
+      its-size : length (listIn b e c grid v) ≡ listSize (length (membersIn n own w))
+      its-size = length-its v ∙ rw (os, same-nodes)
+
+      pub list-room : (size : ℕ) → size ≡ listSize (length (membersIn n own w))
+          → ((n ≤ maxNodes) × (v < n) × (8 * n ≤ length w) × Among n (region n own w) (region n transit w) × (size ≡ listSize (length (membersIn n own w))))
+          × (((someEdgeBroken n e ≡ false) × (numbersBroken (edgeCount e) c ≡ false))
+          × ((4 * v + 4 ≤ length body) × (word32 body (4 * v) + size ≤ length body)))
+      list-room size s = (
+        (based .few, v-in, based .words, among b e c grid n (based .count) w u u-in (based .transits) os, s),
+        (
+          (rw (based .count) (based .ground .edges-rule), based .ground .closed-rule),
+          (start-fits n (listIn b e c grid) body (l .begun) v v-in, omega (arith, s, its-size, start-at n (listIn b e c grid) body (l .begun) v v-in, fits-at n (listIn b e c grid) body (l .begun) v v-in)),
+        ),
+      )
+
+      pub list-done : (w′ : List ℕ) (new : Bytes) → length w′ ≡ length w → take n w′ ≡ distanceWords (arcsIn e c) n v → drop (3 * n) w′ ≡ drop (3 * n) w
+          → new ≡ splice (word32 body (4 * v)) (listBytesOf (take n w′) (membersIn n transit w′) (membersIn n own w′)) body → ListedTo b e c grid n u (v + 1) new
+      list-done w′ new k times q s =
+          let list = listIn b e c grid in
+          let after = based-later w w′ based k q in
+          let its : listBytesOf (take n w′) (membersIn n transit w′) (membersIn n own w′) ≡ list v = list-words b e c grid n (based .count) w′ v times (after .transits) u same-nodes (own-later n w w′ q ∙ os) in
+          let is : new ≡ with-it n list body (l .begun) v v-in = s ∙ rw (start-at n list body (l .begun) v v-in, its) in
+          rw is
+          (record {
+            begun = begun-still n list body (l .begun) v v-in;
+            seen = to-same (cellsIn grid b) (Placed n list body) (Placed n list (with-it n list body (l .begun) v v-in)) n u v (l .seen) (placed-here n list body (l .begun) v v-in) (placed-still n list body (l .begun) v v-in);
+          })
+
+  -- ---- cell by cell
+  module _ (body : Bytes) where
+    pub listed-first : Begun n (listIn b e c grid) body → Listed b e c grid n 0 body
+    listed-first g = record { begun = g; seen = seen-none (cellsIn grid b) (Placed n (listIn b e c grid) body) n }
+
+    module _ (u : ℕ) where
+      pub cell-none : Listed b e c grid n u body → ListedTo b e c grid n u 0 body
+      cell-none l = record { begun = l .begun; seen = to-none (cellsIn grid b) (Placed n (listIn b e c grid) body) n u (l .seen) }
+
+      pub cell-all : (v : ℕ) → n ≤ v → ListedTo b e c grid n u v body → Listed b e c grid n (u + 1) body
+      cell-all v h l = record { begun = l .begun; seen = to-all (cellsIn grid b) (Placed n (listIn b e c grid) body) n u v h (l .seen) }
+
+      pub listed-later : firstOfCell (cellsIn grid b) u ≡ false → Listed b e c grid n u body → Listed b e c grid n (u + 1) body
+      listed-later later l = record { begun = l .begun; seen = seen-later (cellsIn grid b) (Placed n (listIn b e c grid) body) n u later (l .seen) }
+
+      pub listed-all : n ≤ u → Listed b e c grid n u body → body ≡ whole n (listIn b e c grid)
+      listed-all h l = assembled n (listIn b e c grid) body (l .begun .size) (l .begun .starts) (seen-all (cellsIn grid b) (Placed n (listIn b e c grid) body) n u h (l .seen))
+
+-- ---- the words for the cell of u, while its lists are written
+pub record Working (b e c : Bytes) (grid : Grid) (n u size : ℕ) (w₀ w : List ℕ) : Type 0 where
+  pub based : Based b e c grid n w
+  pub owns : membersIn n own w ≡ accessOf b e c grid u
+  pub sized : size ≡ listSize (length (membersIn n own w))
+  pub kept : length w ≡ length w₀
+  pub others : drop (6 * n) w ≡ drop (6 * n) w₀
+
+pub working-next : (b e c : Bytes) (grid : Grid) (n u size : ℕ) (w₀ w w′ : List ℕ) → Working b e c grid n u size w₀ w → length w′ ≡ length w → drop (3 * n) w′ ≡ drop (3 * n) w → Working b e c grid n u size w₀ w′
+working-next b e c grid n u size w₀ w w′ g k q =
+    let same = own-later n w w′ q in
+    record {
+      based = based-later b e c grid n w w′ (g .based) k q;
+      owns = same ∙ g .owns;
+      sized = rw same (g .sized);
+      kept = k ∙ g .kept;
+      others = drop-more (3 * n) (6 * n) w w′ (omega arith) q ∙ g .others;
+    }

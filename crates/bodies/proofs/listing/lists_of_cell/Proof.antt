@@ -1,0 +1,63 @@
+-- `bodies::listing::lists_of_cell` meets its contract. Assumes nothing.
+use Prim.Native.Nat.{_-_}
+use native.Mathlib.Omega.{arith}
+use mathlib.Core.Path.{_≡_, refl, _∙_}
+use lib.ListN.{length}
+use borrow.Author.Needs.{needs}
+use Rattle.bodies.proofs.CellLists.{Working, working-next, based-still, cell-none, cell-all}
+use Rattle.bodies.specs.Listed.{ListedTo}
+use Rattle.bodies.proofs.listing.lists_of_cell.Statement.{statement}
+use Rattle.bodies.proofs.listing.lists_of_cell.Tie as tie
+
+abbrev Inv-loop : tie.InvT-loop
+Inv-loop nodes edges closed grid n u work₀ body₀ size v₀ work body v = (length body ≡ length body₀) × Working nodes edges closed grid n u size work₀ work × ListedTo nodes edges closed grid n u v body
+
+abbrev μ-loop : tie.MeasureT-loop
+μ-loop nodes edges closed grid n u work₀ body₀ size v₀ work body v = n - v
+
+own-access-requires : tie.Need-own-access-requires Inv-loop μ-loop
+own-access-requires c κs = let b = c .before .before .before .before .before .before .pre .0 in (b .ground, b .count, b .few, c .before .before .before .before .before .before .pre .1, omega (arith, b .words))
+
+own-size-requires : tie.Need-own-size-requires Inv-loop μ-loop
+own-size-requires c κs = let b = c .before .before .before .before .before .before .before .before .before .before .pre .0 in (b .few, omega (arith, b .words, c .before .before .before .own-access .kept .1 .1 .1 .1 .1 .1 .0))
+
+loop-holds : tie.Need-loop-holds Inv-loop μ-loop
+loop-holds c = let a = c .before .before .before .before .before .before .before .before .before .before .before .args in (refl, record { based = based-still (a .nodes .now) (a .edges .now) (a .closed .now) (a .grid) (a .n) (a .work .now) _ (c .before .before .before .before .before .before .before .before .before .before .before .pre .0) (search needs) (c .before .before .before .before .own-access .ensures .1); owns = c .before .before .before .before .own-access .ensures .0; sized = c .own-size .ensures; kept = refl; others = refl }, cell-none (a .nodes .now) (a .edges .now) (a .closed .now) (a .grid) (a .n) (a .body .now) (a .u) (c .before .before .before .before .before .before .before .before .before .before .before .pre .2))
+
+list-beside-requires : tie.Need-list-beside-requires Inv-loop μ-loop
+list-beside-requires c κs = let g = c .before .before .before .loop .inv .1 in ((g .based, search needs, search needs), ((g .owns, g .sized), c .before .before .before .loop .inv .2))
+
+add-v : tie.Need-add-v Inv-loop μ-loop
+add-v c = search needs
+
+loop-less : tie.Need-loop-less Inv-loop μ-loop
+loop-less c = search needs
+
+loop-again : tie.Need-loop-again Inv-loop μ-loop
+loop-again c = let a = c .before .before .before .before .before .before .before .before .before .before .before .before .before .before .before .before .before .before .before .before .args in (search needs, working-next (a .nodes .now) (a .edges .now) (a .closed .now) (a .grid) (a .n) (a .u) _ _ _ _ (c .before .before .before .before .before .before .before .before .loop .inv .1) (search needs) (c .before .before .before .before .list-beside .ensures .1), c .before .before .before .before .list-beside .ensures .0)
+
+same-length : tie.Need-same-length Inv-loop μ-loop
+same-length c = omega (arith, c .before .loop .inv .1 .kept)
+
+same-length-2 : tie.Need-same-length-2 Inv-loop μ-loop
+same-length-2 c = search needs
+
+returns : tie.Need-returns Inv-loop μ-loop
+returns c = let a = c .before .before .before .before .before .before .before .before .before .before .before .before .before .args in (cell-all (a .nodes .now) (a .edges .now) (a .closed .now) (a .grid) (a .n) _ (a .u) _ (c .loop-test .left) (c .before .loop .inv .2), c .before .loop .inv .1 .others ∙ c .before .before .before .before .before .before .own-access .ensures .1)
+
+pub lists-of-cell-spec : {M : Type 1} → statement M
+lists-of-cell-spec =
+    tie.close
+    (tie.spec
+    Inv-loop
+    μ-loop
+    own-access-requires
+    own-size-requires
+    loop-holds
+    list-beside-requires
+    add-v
+    loop-less
+    loop-again
+    same-length
+    same-length-2
+    returns)

@@ -1,0 +1,72 @@
+-- `bodies::table::write_times` meets its contract. Assumes nothing.
+use mathlib.Core.Path.{sym}
+use lib.Seq.{length-take-le}
+use borrow.Author.Needs.{needs}
+use Rattle.bodies.proofs.Tables.{row-room, row-written}
+use Rattle.bodies.proofs.table.write_times.Statement.{statement}
+use Rattle.bodies.proofs.table.write_times.Tie as tie
+
+mul-a : tie.Need-mul-a
+mul-a c = search needs
+
+add-e : tie.Need-add-e
+add-e c = search needs
+
+mul-end : tie.Need-mul-end
+mul-end c = search needs
+
+add-end : tie.Need-add-end
+add-end c = search needs
+
+mul-write-row : tie.Need-mul-write-row
+mul-write-row c = search needs
+
+sub-write-row : tie.Need-sub-write-row
+sub-write-row c = search needs
+
+part-write-row-start : tie.Need-part-write-row-start
+part-write-row-start c = search needs
+
+part-write-row-end : tie.Need-part-write-row-end
+part-write-row-end c = search needs
+
+slice-aggregate-write-row : tie.Need-slice-aggregate-write-row
+slice-aggregate-write-row c = let a = c .before .before .before .before .args in sym (length-take-le (a .n) (a .work .now) (search needs))
+
+sub-write-row-2 : tie.Need-sub-write-row-2
+sub-write-row-2 c = search needs
+
+part-write-row-start-2 : tie.Need-part-write-row-start-2
+part-write-row-start-2 c = search needs
+
+part-write-row-end-2 : tie.Need-part-write-row-end-2
+part-write-row-end-2 c = search needs
+
+write-row-requires : tie.Need-write-row-requires
+write-row-requires c κs = let a = c .before .before .before .before .before .args in row-room (a .n) (a .at) (a .t) (a .work .now) (a .out .now) (c .before .before .before .before .before .pre .0) (c .before .before .before .before .before .pre .1) (c .before .before .before .before .before .pre .2)
+
+same-length : tie.Need-same-length
+same-length c = search needs
+
+returns : tie.Need-returns
+returns c = let a = c .before .before .before .before .before .before .before .before .args in row-written (a .n) (a .at) (a .t) (a .work .now) (a .out .now) (c .before .before .before .before .before .before .before .before .pre .0) (c .before .before .before .before .before .before .before .before .pre .1) (c .before .before .before .before .before .before .before .before .pre .2) (c .before .before .write-row .last .1 .1 .1 .0) (c .before .before .write-row .kept .1 .1 .1 .0) (c .before .before .write-row .ensures)
+
+pub write-times-spec : {M : Type 1} → statement M
+write-times-spec =
+    tie.close
+    (tie.spec
+    mul-a
+    add-e
+    mul-end
+    add-end
+    mul-write-row
+    sub-write-row
+    part-write-row-start
+    part-write-row-end
+    slice-aggregate-write-row
+    sub-write-row-2
+    part-write-row-start-2
+    part-write-row-end-2
+    write-row-requires
+    same-length
+    returns)

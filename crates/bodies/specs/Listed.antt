@@ -1,0 +1,41 @@
+-- Body 6 while its lists are written, cell by cell. Assumes nothing.
+use Prim.Native.Nat.{ℕ, _+_, _*_, _<_, _≤_}
+use mathlib.Core.Path.{_≡_}
+use mathlib.Core.List.{List}
+use lib.ListN.{length, getD, take}
+use Rattle.model.specs.Bytes.{Bytes}
+use Rattle.model.specs.Network.{maxNodes, nodeCount}
+use Rattle.model.specs.Oracle.{startSize}
+use Rattle.grid.specs.declared.Grid.{Grid}
+use Rattle.crossing.specs.Ground.{cellsIn, Ground}
+use Rattle.passes.specs.Building.{accessOf, transitIn, listIn, membersIn, transit}
+use Rattle.passes.specs.Covered.{Seen, SeenTo}
+use Rattle.passes.specs.Placed.{Placed, front, whole}
+
+-- What the lists are worked out by: an accepted network of n nodes with a grid, and working words with its transit nodes.
+pub record Based (nodes edges closed : Bytes) (grid : Grid) (n : ℕ) (work : List ℕ) : Type 0 where
+  pub ground : Ground nodes edges closed grid
+  pub count : n ≡ nodeCount nodes
+  pub few : n ≤ maxNodes
+  pub words : 8 * n ≤ length work
+  pub transits : membersIn n transit work ≡ transitIn nodes edges closed grid
+
+-- A body with the size of the whole one, and with its starts.
+pub record Begun (n : ℕ) (list : ℕ → Bytes) (body : Bytes) : Type 0 where
+  pub size : length body ≡ length (whole n list)
+  pub small : length (whole n list) < 4294967296
+  pub starts : take (startSize * n) body ≡ front n list
+
+-- The lists of the nodes of all cells met before u are written.
+pub record Listed (nodes edges closed : Bytes) (grid : Grid) (n u : ℕ) (body : Bytes) : Type 0 where
+  pub begun : Begun n (listIn nodes edges closed grid) body
+  pub seen : Seen (cellsIn grid nodes) (Placed n (listIn nodes edges closed grid) body) n u
+
+-- And those of the nodes below v of the cell of u.
+pub record ListedTo (nodes edges closed : Bytes) (grid : Grid) (n u v : ℕ) (body : Bytes) : Type 0 where
+  pub begun : Begun n (listIn nodes edges closed grid) body
+  pub seen : SeenTo (cellsIn grid nodes) (Placed n (listIn nodes edges closed grid) body) n u v
+
+-- Region 7 of the working words has the number of access nodes of each node.
+abbrev pub Counts : Bytes → Bytes → Bytes → Grid → ℕ → List ℕ → Type 0
+Counts nodes edges closed grid n work = (v : ℕ) → v < n → getD work (7 * n + v) 0 ≡ length (accessOf nodes edges closed grid v)

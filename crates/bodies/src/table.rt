@@ -1,0 +1,72 @@
+// Body 7: the table, a row for each transit node, by a search from it.
+ghost use mathlib.Core.Path.{_≡_};
+ghost use mathlib.Core.Bool.{false};
+ghost use Prim.Native.Nat.{_+_, _*_, _<_, _≤_};
+ghost use lib.ListN.{length, drop};
+ghost use Rattle.model.specs.Bytes.{splice};
+ghost use Rattle.model.specs.Lists.{concatMap};
+ghost use Rattle.model.specs.Network.{maxNodes, edgeCount, someEdgeBroken, numbersBroken};
+ghost use Rattle.search.specs.Regions.{timesIn};
+ghost use Rattle.access.specs.Regions.{region};
+ghost use Rattle.emit.specs.Members.{ifIn};
+ghost use Rattle.emit.specs.Parts.{rowBytes};
+ghost use Rattle.emit.specs.Records.{Wrote};
+ghost use Rattle.passes.specs.Building.{membersIn, transit};
+ghost use Rattle.bodies.specs.Rows.{rowIn};
+use access::regions::TRANSIT;
+use access::regions::has;
+use codec::records::VALUE_SIZE;
+use emit::rows::write_row;
+use search::front::search_front;
+
+// Writes the row of the node whose times stand in the first region, from `at` on.
+fn write_times(n: usize, t: usize, work: &[u32], out: &mut [u8], at: usize)
+    requires { ⌜ (8 * n ≤ length (now work)) × (t ≡ length (membersIn n transit (now work))) × (at + 4 * t ≤ length (now out)) ⌝ }
+    ensures { λ _. ⌜ now (out .exit) ≡ splice at (rowBytes (timesIn n (now (work .entry))) (membersIn n transit (now (work .entry)))) (now (out .entry)) ⌝ }
+{
+    let a = TRANSIT * n;
+    let e = a + n;
+    let end = at + VALUE_SIZE * t;
+    write_row(n, &work[a..e], &work[..n], &mut out[at..end]);
+}
+
+// Writes the row of v, if it is a transit node, from `at` on, and answers where it ends.
+fn put_row(
+    edges: &[u8],
+    closed: &[u8],
+    n: usize,
+    v: usize,
+    t: usize,
+    work: &mut [u32],
+    out: &mut [u8],
+    at: usize,
+) -> usize
+    requires { ⌜ (n ≤ maxNodes) × (v < n) × (8 * n ≤ length (now work)) ⌝ }
+    requires { ⌜ (someEdgeBroken n (now edges) ≡ false) × (numbersBroken (edgeCount (now edges)) (now closed) ≡ false) ⌝ }
+    requires { ⌜ (t ≡ length (membersIn n transit (now work))) × (at + length (ifIn (region n transit (now work)) v (rowIn (now edges) (now closed) n (membersIn n transit (now work)) v)) ≤ length (now out)) ⌝ }
+    ensures bytes { λ r. ⌜ Wrote (now (out .entry)) at (ifIn (region n transit (now (work .entry))) v (rowIn (now (edges .entry)) (now (closed .entry)) n (membersIn n transit (now (work .entry))) v)) r (now (out .exit)) ⌝ }
+    ensures others { λ _. ⌜ drop (3 * n) (now (work .exit)) ≡ drop (3 * n) (now (work .entry)) ⌝ }
+{
+    if !has(work, n, TRANSIT, v) {
+        return at;
+    }
+    search_front(edges, closed, n, v, work);
+    write_times(n, t, work, out, at);
+    at + VALUE_SIZE * t
+}
+
+// The rows of the t transit nodes.
+pub fn put_table(edges: &[u8], closed: &[u8], n: usize, t: usize, work: &mut [u32], out: &mut [u8])
+    requires { ⌜ (n ≤ maxNodes) × (8 * n ≤ length (now work)) ⌝ }
+    requires { ⌜ (someEdgeBroken n (now edges) ≡ false) × (numbersBroken (edgeCount (now edges)) (now closed) ≡ false) ⌝ }
+    requires { ⌜ (t ≡ length (membersIn n transit (now work))) × (length (now out) ≡ 4 * t * t) ⌝ }
+    ensures bytes { λ _. ⌜ now (out .exit) ≡ concatMap (rowIn (now (edges .entry)) (now (closed .entry)) n (membersIn n transit (now (work .entry)))) (membersIn n transit (now (work .entry))) ⌝ }
+    ensures others { λ _. ⌜ drop (3 * n) (now (work .exit)) ≡ drop (3 * n) (now (work .entry)) ⌝ }
+{
+    let mut at = 0;
+    let mut v = 0;
+    while v < n {
+        at = put_row(edges, closed, n, v, t, work, out, at);
+        v += 1;
+    }
+}

@@ -1,0 +1,51 @@
+-- Parts of the output, written one after the other. Assumes nothing.
+use Prim.Native.Nat.{ℕ, _+_, _-_, _*_, _≤_}
+use native.Mathlib.Nat.{zero-add}
+use native.Mathlib.Omega.{arith}
+use mathlib.Core.Path.{_≡_, _∙_, ap}
+use mathlib.Core.List.{List, _++_}
+use borrow.Rule.Slice.PartMut.{midOf, putMid, mid-len}
+use lib.ListN.{length, take, drop, length-append}
+use lib.Seq.{length-take-le}
+use Rattle.model.specs.Bytes.{Bytes, splice}
+use Rattle.access.proofs.Windows.{part-is, part-length}
+use Rattle.emit.specs.Members.{membersOf, HasBits}
+use Rattle.emit.specs.Parts.{numbersBytes}
+use Rattle.emit.specs.Records.{Wrote}
+use Rattle.emit.proofs.Writing.{splice-then}
+use Rattle.passes.specs.Building.{membersIn, transit}
+use Rattle.bodies.proofs.Lent.{part-written}
+
+-- One part after another is one of both.
+pub wrote-then : {old mid new x y : Bytes} {at m end : ℕ} → Wrote old at x m mid → Wrote mid m y end new → m ≤ length old → Wrote old at (x ++ y) end new
+wrote-then {old} {x = x} {y = y} {at = at} p q h =
+    let l : at + length x ≤ length old = omega (arith, p .ends) in
+    record {
+      ends = omega (arith, p .ends, q .ends, length-append x y);
+      spliced = q .spliced ∙ rw (p .ends, p .spliced) (splice-then old at x l y);
+    }
+
+-- A part that was lent and came back as these bytes.
+pub wrote-part : (a e : ℕ) (out ys bytes : Bytes) → a ≤ e → e ≤ length out → length ys ≡ length (midOf a (e - a) out) → ys ≡ bytes → Wrote out a bytes e (putMid a (e - a) out ys)
+wrote-part a e out ys bytes h l k q = record {
+  ends = omega (arith, k, mid-len a e out l, ap length q);
+  spliced = part-written a e out ys h l k ∙ ap (λ (b : Bytes). splice a b out) q;
+}
+
+-- The same, of the front.
+pub wrote-front : (m : ℕ) (out ys bytes : Bytes) → m ≤ length out → length ys ≡ length (take m out) → ys ≡ bytes → Wrote out 0 bytes m (ys ++ drop m out)
+unfolding splice
+wrote-front m out ys bytes h k q =
+    let l : length ys ≡ m = k ∙ length-take-le m out h in
+    record { ends = omega (arith, l, ap length q); spliced = rw (← q, zero-add, l) }
+
+-- ---- the transit nodes
+module _ (n t at : ℕ) (work : List ℕ) (out : Bytes) (long : 8 * n ≤ length work) (e : t ≡ length (membersIn n transit work)) (h : at + 2 * t ≤ length out) where
+  pub numbers-room : HasBits n (midOf (6 * n) (6 * n + n - 6 * n) work) × (length (midOf at (at + 2 * t - at) out) ≡ 2 * length (membersOf n (midOf (6 * n) (6 * n + n - 6 * n) work)))
+  numbers-room =
+      let z : at + 2 * t - at ≡ 2 * t = omega arith in
+      (omega (arith, part-length (6 * n) n work (omega arith)), mid-len at (at + 2 * t) out h ∙ (z ∙ rw (part-is (6 * n) n work) (ap (λ (m : ℕ). 2 * m) e)))
+
+  pub numbers-written : (ys : Bytes) → length ys ≡ length (midOf at (at + 2 * t - at) out) → ys ≡ numbersBytes (membersOf n (midOf (6 * n) (6 * n + n - 6 * n) work))
+      → Wrote out at (numbersBytes (membersIn n transit work)) (at + 2 * t) (putMid at (at + 2 * t - at) out ys)
+  numbers-written ys k q = wrote-part at (at + 2 * t) out ys (numbersBytes (membersIn n transit work)) (omega arith) h k (q ∙ rw (part-is (6 * n) n work))

@@ -1,0 +1,57 @@
+-- The size of lists, summed up one after the other. Assumes nothing.
+use Prim.Native.Nat.{ℕ, _+_, _-_, _*_, _≤_, _<_}
+use native.Mathlib.Omega.{arith}
+use mathlib.Core.Path.{_≡_, refl, _∙_, ap}
+use mathlib.Core.List.{List, [], _∷_, map, map-map}
+use borrow.Rule.Slice.PartMut.{midOf}
+use lib.ListN.{length, getD, length-append}
+use Rattle.model.specs.Lists.{concat, upTo}
+use Rattle.model.specs.Bytes.{Bytes}
+use Rattle.theory.specs.RangeLaws.{rest, rest-all, rest-step, rest-end}
+use Rattle.theory.specs.Members.{range→}
+use Rattle.access.specs.Regions.{region}
+use Rattle.access.proofs.Windows.{part-is}
+use Rattle.emit.specs.Parts.{Counted, listSize, listSizes, total}
+use Rattle.emit.specs.PartLaws.{map-same}
+use Rattle.passes.specs.Building.{counts}
+
+module _ (counts : List ℕ) (n : ℕ) where
+  -- The size of the lists from list v on.
+  abbrev pub left : ℕ → ℕ
+  left v = total (map (λ u. listSize (getD counts u 0)) (rest v n))
+
+  pub sum-all : total (listSizes n counts) ≡ left 0
+  unfolding listSizes
+  sum-all = rw (← rest-all n)
+
+  pub sum-step : (v : ℕ) → v < n → left v ≡ listSize (getD counts v 0) + left (v + 1)
+  unfolding total
+  sum-step v h = rw (rest-step v n h)
+
+  pub sum-end : (v : ℕ) → n ≤ v → left v ≡ 0
+  unfolding total
+  sum-end v h = rw (rest-end v n h)
+
+pub size-most : (k : ℕ) → k ≤ 4096 → listSize k ≤ 24578
+unfolding listSize
+size-most k h = omega arith
+
+-- ---- the lists that have these sizes
+length-concat : (ls : List Bytes) → length (concat ls) ≡ total (map length ls)
+unfolding concat total
+length-concat [] = refl
+length-concat (l ∷ ls) = omega (arith, length-append l (concat ls), length-concat ls)
+
+pub length-lists : (f : ℕ → Bytes) (n : ℕ) (counts : List ℕ) → ((v : ℕ) → v < n → length (f v) ≡ listSize (getD counts v 0)) → length (concat (map f (upTo n))) ≡ total (listSizes n counts)
+unfolding listSizes
+length-lists f n counts h =
+    length-concat (map f (upTo n)) ∙
+    ap total (map-map length f (upTo n) ∙ map-same _ _ (upTo n) (λ v m. h v (omega (arith, range→ 0 n v m .1))))
+
+-- ---- the numbers as a part of the words
+module _ (n : ℕ) (work : List ℕ) where
+  pub counted-part : Counted n (region n counts work) → Counted n (midOf (7 * n) (7 * n + n - 7 * n) work)
+  counted-part c = rw (part-is (7 * n) n work) c
+
+  pub sized-part : (r : ℕ) → r ≡ total (listSizes n (midOf (7 * n) (7 * n + n - 7 * n) work)) → 4 * n + r ≡ 4 * n + total (listSizes n (region n counts work))
+  sized-part r e = rw (e, part-is (7 * n) n work)

@@ -1,0 +1,66 @@
+-- `builder::parts::put_transit` meets its contract. Assumes nothing.
+use borrow.Author.Needs.{needs}
+use Rattle.builder.proofs.Pieces.{numbers-room, numbers-written}
+use Rattle.builder.proofs.parts.put_transit.Statement.{statement}
+use Rattle.builder.proofs.parts.put_transit.Tie as tie
+
+mul-a : tie.Need-mul-a
+mul-a c = search needs
+
+add-e : tie.Need-add-e
+add-e c = search needs
+
+mul-end : tie.Need-mul-end
+mul-end c = search needs
+
+add-end : tie.Need-add-end
+add-end c = search needs
+
+mul-write-numbers : tie.Need-mul-write-numbers
+mul-write-numbers c = search needs
+
+sub-write-numbers : tie.Need-sub-write-numbers
+sub-write-numbers c = search needs
+
+part-write-numbers-start : tie.Need-part-write-numbers-start
+part-write-numbers-start c = search needs
+
+part-write-numbers-end : tie.Need-part-write-numbers-end
+part-write-numbers-end c = search needs
+
+sub-write-numbers-2 : tie.Need-sub-write-numbers-2
+sub-write-numbers-2 c = search needs
+
+part-write-numbers-start-2 : tie.Need-part-write-numbers-start-2
+part-write-numbers-start-2 c = search needs
+
+part-write-numbers-end-2 : tie.Need-part-write-numbers-end-2
+part-write-numbers-end-2 c = search needs
+
+write-numbers-requires : tie.Need-write-numbers-requires
+write-numbers-requires c κs = let a = c .before .before .before .before .args in let r = numbers-room (a .n) (a .t) (a .at) (a .work .now) (a .out .now) (c .before .before .before .before .pre .1) (c .before .before .before .before .pre .2) (c .before .before .before .before .pre .3) in (c .before .before .before .before .pre .0, r .0, r .1)
+
+same-length : tie.Need-same-length
+same-length c = search needs
+
+returns : tie.Need-returns
+returns c = let a = c .before .before .before .before .before .before .before .args in numbers-written (a .n) (a .t) (a .at) (a .work .now) (a .out .now) (c .before .before .before .before .before .before .before .pre .1) (c .before .before .before .before .before .before .before .pre .2) (c .before .before .before .before .before .before .before .pre .3) (c .before .before .write-numbers .last .1 .1 .0) (c .before .before .write-numbers .kept .1 .1 .0) (c .before .before .write-numbers .ensures)
+
+pub put-transit-spec : {M : Type 1} → statement M
+put-transit-spec =
+    tie.close
+    (tie.spec
+    mul-a
+    add-e
+    mul-end
+    add-end
+    mul-write-numbers
+    sub-write-numbers
+    part-write-numbers-start
+    part-write-numbers-end
+    sub-write-numbers-2
+    part-write-numbers-start-2
+    part-write-numbers-end-2
+    write-numbers-requires
+    same-length
+    returns)

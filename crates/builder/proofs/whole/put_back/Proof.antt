@@ -1,0 +1,38 @@
+-- `builder::whole::put_back` meets its contract. Assumes nothing.
+use Prim.Native.Nat.{_*_}
+use native.Mathlib.Omega.{arith}
+use mathlib.Core.Path.{_∙_}
+use borrow.Author.Needs.{needs}
+use Rattle.access.proofs.Windows.{drop-more}
+use Rattle.builder.proofs.Joins.{transit-room, access-room, table-room, back-written}
+use Rattle.builder.proofs.whole.put_back.Statement.{statement}
+use Rattle.builder.proofs.whole.put_back.Tie as tie
+
+put-transit-requires : tie.Need-put-transit-requires
+put-transit-requires c κs = let a = c .before .before .before .before .before .before .before .args in transit-room (a .nodes .now) (a .edges .now) (a .closed .now) (a .grid) (a .n) (a .t) (a .a) (a .work .now) (c .before .before .before .before .before .before .before .pre .0) (a .at) _ (c .before .before .before .before .before .before .before .pre .1)
+
+access-part-requires : tie.Need-access-part-requires
+access-part-requires c κs = let a = c .before .before .before .before .before .before .before .before .before .before .before .before .args in access-room (a .nodes .now) (a .edges .now) (a .closed .now) (a .grid) (a .n) (a .t) (a .a) (a .work .now) (c .before .before .before .before .before .before .before .before .before .before .before .before .pre .0) (a .at) _ (a .out .now) _ (c .before .before .before .before .put-transit .ensures) (c .before .before .before .before .before .before .before .before .before .before .before .before .pre .1) (search needs) (c .before .before .before .before .before .before .before .before .before .before .before .before .pre .2)
+
+table-part-requires : tie.Need-table-part-requires
+table-part-requires c κs = let a = c .before .before .before .before .before .before .before .before .before .before .before .before .before .before .before .before .before .before .before .args in table-room (a .nodes .now) (a .edges .now) (a .closed .now) (a .grid) (a .n) (a .t) (a .a) (a .work .now) (c .before .before .before .before .before .before .before .before .before .before .before .before .before .before .before .before .before .before .before .pre .0) (a .at) _ (a .out .now) _ (c .before .before .before .before .before .before .before .before .before .before .before .put-transit .ensures) (c .before .before .before .before .before .before .before .before .before .before .before .before .before .before .before .before .before .before .before .pre .1) _ (search needs) (c .before .before .before .before .before .before .access-part .ensures .1) _ _ (c .before .before .before .before .before .before .access-part .ensures .0) (search needs)
+
+same-length : tie.Need-same-length
+same-length c = search needs
+
+same-length-2 : tie.Need-same-length-2
+same-length-2 c = search needs
+
+returns : tie.Need-returns
+returns c = let a = c .before .before .before .before .before .before .before .before .before .before .before .before .before .before .before .before .before .before .before .before .before .before .before .before .args in (back-written (a .nodes .now) (a .edges .now) (a .closed .now) (a .grid) (a .n) (a .t) (a .a) (a .work .now) (c .before .before .before .before .before .before .before .before .before .before .before .before .before .before .before .before .before .before .before .before .before .before .before .before .pre .0) (a .at) _ (a .out .now) _ (c .before .before .before .before .before .before .before .before .before .before .before .before .before .before .before .before .put-transit .ensures) (c .before .before .before .before .before .before .before .before .before .before .before .before .before .before .before .before .before .before .before .before .before .before .before .before .pre .1) _ (search needs) (c .before .before .before .before .before .before .before .before .before .before .before .access-part .ensures .1) _ _ (c .before .before .before .before .before .before .before .before .before .before .before .access-part .ensures .0) (search needs) (c .before .before .before .before .table-part .ensures .0), drop-more (3 * a .n) (6 * a .n) _ _ (omega arith) (c .before .before .before .before .table-part .ensures .1) ∙ c .before .before .before .before .before .before .before .before .before .before .before .access-part .ensures .1)
+
+pub put-back-spec : {M : Type 1} → statement M
+put-back-spec =
+    tie.close
+    (tie.spec
+    put-transit-requires
+    access-part-requires
+    table-part-requires
+    same-length
+    same-length-2
+    returns)

@@ -1,0 +1,53 @@
+-- `builder::whole::table_part` meets its contract. Assumes nothing.
+use Prim.Native.Nat.{_*_}
+use native.Mathlib.Omega.{arith}
+use borrow.Author.Needs.{needs}
+use Rattle.bodies.proofs.OwnLists.{part-size}
+use Rattle.builder.proofs.Pieces.{wrote-part}
+use Rattle.builder.proofs.whole.table_part.Statement.{statement}
+use Rattle.builder.proofs.whole.table_part.Tie as tie
+
+mul-end : tie.Need-mul-end
+mul-end c = search needs
+
+mul-end-2 : tie.Need-mul-end-2
+mul-end-2 c = search needs
+
+add-end : tie.Need-add-end
+add-end c = search needs
+
+sub-put-table : tie.Need-sub-put-table
+sub-put-table c = search needs
+
+part-put-table-start : tie.Need-part-put-table-start
+part-put-table-start c = search needs
+
+part-put-table-end : tie.Need-part-put-table-end
+part-put-table-end c = search needs
+
+put-table-requires : tie.Need-put-table-requires
+put-table-requires c κs = let a = c .before .before .before .before .before .before .args in ((c .before .before .before .before .before .before .pre .0 .0, c .before .before .before .before .before .before .pre .0 .1), (c .before .before .before .before .before .before .pre .1, (c .before .before .before .before .before .before .pre .0 .2, part-size (a .at) (4 * a .t * a .t) (a .out .now) (c .before .before .before .before .before .before .pre .0 .3))))
+
+same-length : tie.Need-same-length
+same-length c = search needs
+
+same-length-2 : tie.Need-same-length-2
+same-length-2 c = search needs
+
+returns : tie.Need-returns
+returns c = let a = c .before .before .before .before .before .before .before .before .before .before .before .args in (wrote-part (a .at) _ (a .out .now) (c .before .before .before .before .put-table .last .1 .1 .1 .1 .1 .0) _ (omega arith) (omega arith) (c .before .before .before .before .put-table .kept .1 .1 .1 .1 .1 .0) (c .before .before .before .before .put-table .ensures .0), c .before .before .before .before .put-table .ensures .1)
+
+pub table-part-spec : {M : Type 1} → statement M
+table-part-spec =
+    tie.close
+    (tie.spec
+    mul-end
+    mul-end-2
+    add-end
+    sub-put-table
+    part-put-table-start
+    part-put-table-end
+    put-table-requires
+    same-length
+    same-length-2
+    returns)

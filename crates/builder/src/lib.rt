@@ -1,0 +1,6 @@
+// Building: the oracle of a network under a g, or why there is none.
+pub mod calls;
+mod network;
+mod parts;
+mod sizes;
+mod whole;

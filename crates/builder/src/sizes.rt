@@ -1,0 +1,78 @@
+// The sizes of the bodies, and of the whole oracle, from the numbers of transit nodes and of access nodes.
+ghost use mathlib.Core.Path.{_≡_};
+ghost use Prim.Native.Nat.{_+_, _*_, _<_, _≤_};
+ghost use lib.ListN.{length};
+ghost use Rattle.access.specs.Regions.{region};
+ghost use Rattle.emit.specs.Parts.{Counted, listSizes, total};
+ghost use Rattle.passes.specs.Building.{counts};
+ghost use Rattle.builder.specs.Plan.{sizesIn, wholeSize};
+use access::regions::COUNTS;
+use codec::records::NUMBER_SIZE;
+use codec::records::START_SIZE;
+use codec::records::VALUE_SIZE;
+use contents::ENTRY_SIZE;
+use contents::HEAD_SIZE;
+use contents::NETWORK_ENTRIES;
+use contents::ORACLE_ENTRIES;
+use emit::starts::list_size;
+
+// Where the first body of a network stands, and that of an oracle.
+pub const NETWORK_HEAD: usize = HEAD_SIZE + ENTRY_SIZE * NETWORK_ENTRIES;
+
+pub const ORACLE_HEAD: usize = HEAD_SIZE + ENTRY_SIZE * ORACLE_ENTRIES;
+
+// The size of n lists with these numbers of entries.
+fn lists_size(counts: &[u32], n: usize) -> usize
+    requires { ⌜ Counted n (now counts) ⌝ }
+    ensures { λ r. ⌜ (r ≡ total (listSizes n (now (counts .entry)))) × (r ≤ 24578 * n) ⌝ }
+{
+    let mut sum = 0;
+    let mut v = 0;
+    while v < n {
+        sum += list_size(counts, v);
+        v += 1;
+    }
+    sum
+}
+
+// The size of body 6, its starts included.
+pub fn access_size(n: usize, work: &[u32]) -> usize
+    requires { ⌜ (8 * n ≤ length (now work)) × Counted n (region n counts (now work)) ⌝ }
+    ensures { λ r. ⌜ r ≡ 4 * n + total (listSizes n (region n counts (now (work .entry)))) ⌝ }
+{
+    let a = COUNTS * n;
+    let e = a + n;
+    let lists = lists_size(&work[a..e], n);
+    START_SIZE * n + lists
+}
+
+// The size of the oracle of a network of `size` bytes, with t transit nodes and this size of body 6.
+pub fn whole_size(size: usize, t: usize, access: usize) -> usize
+    requires { ⌜ (29 ≤ size) × (wholeSize size t access < 4294967296) ⌝ }
+    ensures { λ r. ⌜ r ≡ wholeSize size t access ⌝ }
+{
+    let front = ORACLE_HEAD + (size - NETWORK_HEAD) + NUMBER_SIZE;
+    front + NUMBER_SIZE * t + access + VALUE_SIZE * t * t
+}
+
+// The sizes of the bodies, as they stand in the head.
+pub fn head_sizes(
+    nodes: usize,
+    edges: usize,
+    closed: usize,
+    t: usize,
+    access: usize,
+) -> [u32; ORACLE_ENTRIES]
+    requires { ⌜ total (sizesIn nodes edges closed t access) < 4294967296 ⌝ }
+    ensures { λ r. ⌜ r ≡ sizesIn nodes edges closed t access ⌝ }
+{
+    [
+        nodes as u32,
+        edges as u32,
+        closed as u32,
+        NUMBER_SIZE as u32,
+        (NUMBER_SIZE * t) as u32,
+        access as u32,
+        (VALUE_SIZE * t * t) as u32,
+    ]
+}

@@ -1,0 +1,124 @@
+// The whole oracle, part by part.
+ghost use mathlib.Core.Path.{_≡_};
+ghost use mathlib.Core.Bool.{false};
+ghost use mathlib.Core.List.{_++_};
+ghost use Prim.Native.Nat.{_+_, _*_, _<_, _≤_};
+ghost use lib.ListN.{length, drop};
+ghost use Rattle.model.specs.Contents.{entryAt, oracleEntries};
+ghost use Rattle.model.specs.Lists.{concatMap};
+ghost use Rattle.model.specs.Network.{maxNodes, edgeCount, someEdgeBroken, numbersBroken};
+ghost use Rattle.emit.specs.Parts.{total};
+ghost use Rattle.emit.specs.Records.{Wrote};
+ghost use Rattle.passes.specs.Building.{listIn, membersIn, transit};
+ghost use Rattle.passes.specs.Placed.{whole};
+ghost use Rattle.bodies.specs.Listed.{Based, Counts};
+ghost use Rattle.bodies.specs.Rows.{rowIn};
+ghost use Rattle.builder.specs.Plan.{sizesIn, wholeSize, frontBytes, backBytes, Planned};
+use crate::parts::put_grid;
+use crate::parts::put_head;
+use crate::parts::put_network;
+use crate::parts::put_transit;
+use crate::sizes::head_sizes;
+use bodies::listing::put_access;
+use bodies::table::put_table;
+use codec::records::VALUE_SIZE;
+use contents::ORACLE_ENTRIES;
+use grid::Grid;
+
+// The head, bodies 1 to 3 and body 4. Answers where they end.
+fn put_front(network: &[u8], g: u32, sizes: [u32; ORACLE_ENTRIES], out: &mut [u8]) -> usize
+    requires { ⌜ (29 ≤ length (now network)) × (38 + length (now network) ≤ length (now out)) × (entryAt oracleEntries + total sizes < 4294967296) ⌝ }
+    ensures { λ r. ⌜ Wrote (now (out .entry)) 0 (frontBytes (now (network .entry)) g sizes) r (now (out .exit)) ⌝ }
+{
+    put_head(sizes, out);
+    let at = put_network(network, out);
+    put_grid(g, out, at)
+}
+
+// Body 6, of the size a.
+fn access_part(
+    nodes: &[u8],
+    edges: &[u8],
+    closed: &[u8],
+    grid: Grid,
+    n: usize,
+    a: usize,
+    work: &mut [u32],
+    out: &mut [u8],
+    at: usize,
+) -> usize
+    requires { ⌜ Based (now nodes) (now edges) (now closed) grid n (now work) × Counts (now nodes) (now edges) (now closed) grid n (now work) ⌝ }
+    requires { ⌜ (a ≡ length (whole n (listIn (now nodes) (now edges) (now closed) grid))) × (a < 4294967296) × (at + a ≤ length (now out)) ⌝ }
+    ensures bytes { λ r. ⌜ Wrote (now (out .entry)) at (whole n (listIn (now (nodes .entry)) (now (edges .entry)) (now (closed .entry)) grid)) r (now (out .exit)) ⌝ }
+    ensures others { λ _. ⌜ drop (6 * n) (now (work .exit)) ≡ drop (6 * n) (now (work .entry)) ⌝ }
+{
+    let end = at + a;
+    put_access(nodes, edges, closed, grid, n, work, &mut out[at..end]);
+    end
+}
+
+// Body 7, for t transit nodes.
+fn table_part(
+    edges: &[u8],
+    closed: &[u8],
+    n: usize,
+    t: usize,
+    work: &mut [u32],
+    out: &mut [u8],
+    at: usize,
+) -> usize
+    requires { ⌜ (n ≤ maxNodes) × (8 * n ≤ length (now work)) × (t ≡ length (membersIn n transit (now work))) × (at + 4 * t * t ≤ length (now out)) × (t ≤ maxNodes) ⌝ }
+    requires { ⌜ (someEdgeBroken n (now edges) ≡ false) × (numbersBroken (edgeCount (now edges)) (now closed) ≡ false) ⌝ }
+    ensures bytes { λ r. ⌜ Wrote (now (out .entry)) at (concatMap (rowIn (now (edges .entry)) (now (closed .entry)) n (membersIn n transit (now (work .entry)))) (membersIn n transit (now (work .entry)))) r (now (out .exit)) ⌝ }
+    ensures others { λ _. ⌜ drop (3 * n) (now (work .exit)) ≡ drop (3 * n) (now (work .entry)) ⌝ }
+{
+    let end = at + VALUE_SIZE * t * t;
+    put_table(edges, closed, n, t, work, &mut out[at..end]);
+    end
+}
+
+// Bodies 5 to 7. Answers where they end.
+fn put_back(
+    nodes: &[u8],
+    edges: &[u8],
+    closed: &[u8],
+    grid: Grid,
+    n: usize,
+    t: usize,
+    a: usize,
+    work: &mut [u32],
+    out: &mut [u8],
+    at: usize,
+) -> usize
+    requires { ⌜ Planned (now nodes) (now edges) (now closed) grid n t a (now work) × (at + 2 * t + a + 4 * t * t ≤ length (now out)) × (a < 4294967296) ⌝ }
+    ensures bytes { λ r. ⌜ Wrote (now (out .entry)) at (backBytes (now (nodes .entry)) (now (edges .entry)) (now (closed .entry)) grid n) r (now (out .exit)) ⌝ }
+    ensures others { λ _. ⌜ drop (6 * n) (now (work .exit)) ≡ drop (6 * n) (now (work .entry)) ⌝ }
+{
+    let lists = put_transit(n, t, work, out, at);
+    let table = access_part(nodes, edges, closed, grid, n, a, work, out, lists);
+    table_part(edges, closed, n, t, work, out, table)
+}
+
+// All of it. Answers where it ends.
+pub fn write_oracle(
+    network: &[u8],
+    nodes: &[u8],
+    edges: &[u8],
+    closed: &[u8],
+    grid: Grid,
+    g: u32,
+    n: usize,
+    t: usize,
+    a: usize,
+    work: &mut [u32],
+    out: &mut [u8],
+) -> usize
+    requires { ⌜ Planned (now nodes) (now edges) (now closed) grid n t a (now work) × (29 + length (now nodes) + length (now edges) + length (now closed) ≡ length (now network)) ⌝ }
+    requires { ⌜ (wholeSize (length (now network)) t a ≤ length (now out)) × (wholeSize (length (now network)) t a < 4294967296) ⌝ }
+    ensures bytes { λ r. ⌜ Wrote (now (out .entry)) 0 (frontBytes (now (network .entry)) g (sizesIn (length (now (nodes .entry))) (length (now (edges .entry))) (length (now (closed .entry))) t a) ++ backBytes (now (nodes .entry)) (now (edges .entry)) (now (closed .entry)) grid n) r (now (out .exit)) ⌝ }
+    ensures others { λ _. ⌜ drop (6 * n) (now (work .exit)) ≡ drop (6 * n) (now (work .entry)) ⌝ }
+{
+    let sizes = head_sizes(nodes.len(), edges.len(), closed.len(), t, a);
+    let at = put_front(network, g, sizes, out);
+    put_back(nodes, edges, closed, grid, n, t, a, work, out, at)
+}

@@ -1,0 +1,1 @@
+// The demands, stated over the calls. There is no code here.

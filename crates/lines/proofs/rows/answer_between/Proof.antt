@@ -1,0 +1,52 @@
+-- `rows::answer_between` meets its contract. Assumes nothing.
+use mathlib.Core.Path.{_∙_, sym}
+use Rattle.lines.proofs.Turns.{word-of}
+use Rattle.query.proofs.Answers.{local-is}
+use Rattle.theory.specs.Passed.{all-shaped}
+use Rattle.model.specs.Query.{timeAnswer, answerOf}
+use borrow.Author.Needs.{needs}
+use Rattle.lines.proofs.rows.answer_between.Statement.{statement}
+use Rattle.lines.proofs.rows.answer_between.Tie as tie
+
+kind-between-requires : tie.Need-kind-between-requires
+kind-between-requires c κs = search needs
+
+enum-told : tie.Need-enum-told
+enum-told c = search needs
+
+far-of-requires : tie.Need-far-of-requires
+far-of-requires c κs = search needs
+
+enum-told-2 : tie.Need-enum-told-2
+enum-told-2 c = search needs
+
+mul-answer-of : tie.Need-mul-answer-of
+mul-answer-of c = search needs
+
+shared-slice-read-answer-of : tie.Need-shared-slice-read-answer-of
+shared-slice-read-answer-of c = search needs
+
+answer-of-requires : tie.Need-answer-of-requires
+answer-of-requires c κs = search needs
+
+returns : tie.Need-returns
+unfolding timeAnswer answerOf
+returns c = rw (sym (c .before .before .before .kind-between .ensures) ∙ c .before .enum-told .given .1) (c .far-of .ensures)
+
+returns-2 : tie.Need-returns-2
+unfolding timeAnswer answerOf
+returns-2 c = rw (sym (c .before .before .before .before .kind-between .ensures) ∙ c .before .before .enum-told2 .given .1) (c .answer-of .ensures ∙ local-is _ (all-shaped _ (c .before .before .before .before .before .before .before .pre .0)) _ _ _ (c .before .before .before .before .before .before .before .pre .1) (word-of _ _ _ _ (c .before .before .before .before .before .before .before .pre .3) (c .before .before .before .before .before .before .before .pre .2)))
+
+pub answer-between-spec : {M : Type 1} → statement M
+answer-between-spec =
+    tie.close
+    (tie.spec
+    kind-between-requires
+    enum-told
+    far-of-requires
+    enum-told-2
+    mul-answer-of
+    shared-slice-read-answer-of
+    answer-of-requires
+    returns
+    returns-2)

@@ -1,0 +1,4 @@
+// The listing program, on the oracle of Fork.
+fn main() {
+    lines::program::run();
+}

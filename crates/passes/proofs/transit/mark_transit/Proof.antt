@@ -1,0 +1,66 @@
+-- `transit::mark_transit` meets its contract: the nodes below u are passed.
+use Prim.Native.Nat.{_+_, _-_, _*_, _≤_}
+use native.Mathlib.Omega.{arith}
+use mathlib.Core.Path.{_≡_, refl, _∙_}
+use borrow.Author.Needs.{needs}
+use lib.ListN.{length, drop}
+use Rattle.access.proofs.Windows.{drop-more}
+use Rattle.passes.specs.Passed.{Passed}
+use Rattle.passes.proofs.Passing.{passed-none, passed-all}
+use Rattle.passes.proofs.transit.mark_transit.Statement.{statement}
+use Rattle.passes.proofs.transit.mark_transit.Tie as tie
+
+abbrev Inv-loop : tie.InvT-loop
+Inv-loop nodes edges closed grid n work₀ u₀ work u = (u ≤ n) × (length work ≡ length work₀) × Passed nodes edges closed grid n u work × (drop (8 * n) work ≡ drop (8 * n) work₀)
+
+abbrev μ-loop : tie.MeasureT-loop
+μ-loop nodes edges closed grid n work₀ u₀ work u = n - u
+
+clear-requires : tie.Need-clear-requires Inv-loop μ-loop
+clear-requires c κs = search needs
+
+loop-holds : tie.Need-loop-holds Inv-loop μ-loop
+loop-holds c =
+    let a = c .before .before .before .before .before .before .before .before .args in
+    (omega arith, refl, passed-none (a .nodes .now) (a .edges .now) (a .closed .now) (a .grid) (a .n) _ (c .before .before .clear .ensures .0), refl)
+
+pass-cell-requires : tie.Need-pass-cell-requires Inv-loop μ-loop
+pass-cell-requires c κs =
+    let p = c .before .before .before .before .before .before .before .before .before .before .before .pre in
+    ((p .0, p .1, p .2, c .before .loop-test .taken, omega (arith, p .3, c .before .before .loop .inv .1, c .before .before .before .before .before .clear .kept .0)), c .before .before .loop .inv .2)
+
+add-u : tie.Need-add-u Inv-loop μ-loop
+add-u c = search needs
+
+loop-less : tie.Need-loop-less Inv-loop μ-loop
+loop-less c = search needs
+
+loop-again : tie.Need-loop-again Inv-loop μ-loop
+loop-again c =
+    (omega (arith, c .before .before .before .before .loop-test .taken), c .before .before .pass-cell .kept .1 .1 .1 .1 .1 .1 .0 ∙ c .before .before .before .before .before .loop .inv .1, c .before .before .pass-cell .ensures .0, c .before .before .pass-cell .ensures .1 ∙ c .before .before .before .before .before .loop .inv .3)
+
+same-length : tie.Need-same-length Inv-loop μ-loop
+same-length c = search needs
+
+returns : tie.Need-returns Inv-loop μ-loop
+returns c =
+    let a = c .before .before .before .before .before .before .before .before .before .before .args in
+    let p = c .before .before .before .before .before .before .before .before .before .before .pre in
+    let l = c .before .loop in
+    let r = passed-all (a .nodes .now) (a .edges .now) (a .closed .now) (a .grid) (a .n) (p .0) (p .1) (l .u) (l .work) (c .loop-test .left) (l .inv .2) in
+    (r .0, (r .1, l .inv .3 ∙ drop-more (6 * a .n + a .n) (8 * a .n) (a .work .now) _ (omega arith) (c .before .before .before .before .clear .ensures .1 .back)))
+
+pub mark-transit-spec : {M : Type 1} → statement M
+mark-transit-spec =
+    tie.close
+    (tie.spec
+    Inv-loop
+    μ-loop
+    clear-requires
+    loop-holds
+    pass-cell-requires
+    add-u
+    loop-less
+    loop-again
+    same-length
+    returns)

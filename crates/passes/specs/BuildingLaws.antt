@@ -1,0 +1,144 @@
+-- What building goes by: the words of a search and the sets in the regions give the bytes of lists and rows. Assumes nothing.
+use Prim.Native.Nat.{ℕ, zero, suc, _+_, _*_, _≤_, _<_}
+use native.Mathlib.Nat.{zero-add}
+use native.Mathlib.Omega.{arith}
+use mathlib.Core.Path.{_≡_, refl, sym, _∙_, ap, subst}
+use mathlib.Core.List.{List, [], _++_, map, List·Memᴰ}
+use lib.ListN.{length, getD, take, length-map}
+use Rattle.model.specs.Lists.{any, concat, concatMap, member, range, upTo}
+use Rattle.model.specs.Bytes.{Bytes}
+use Rattle.model.specs.Network.{Network, node, nodes, nodeCount, order, arcs, distance}
+use Rattle.model.specs.Grid.{Cell, cells, cellAt}
+use Rattle.model.specs.Access.{accessNodes, accessLists, transitNodes}
+use Rattle.model.specs.Oracle.{coded, valueBytes, listBytes, accessBytes, tableBytes, startSize, starts}
+use Rattle.theory.specs.RangeLaws.{length-range}
+use Rattle.theory.specs.Members.{length-filter, filter→, →filter, →any, →member, →upTo, range→, getD-mem}
+use Rattle.theory.specs.Built.{getD-map-in}
+use Rattle.algorithms.specs.Rounds.{distanceWords}
+use Rattle.bitset.specs.Bits.{isIn}
+use Rattle.arcs.specs.Arcs.{arcsIn}
+use Rattle.grid.specs.Stored.{gridOf}
+use Rattle.grid.specs.declared.Grid.{Grid}
+use Rattle.crossing.specs.Ground.{cellsIn}
+use Rattle.access.specs.Networks.{networkIn}
+use Rattle.access.specs.Regions.{region, own}
+use Rattle.emit.specs.Members.{membersOf, Among}
+use Rattle.emit.specs.Parts.{listBytesOf, rowBytes}
+use Rattle.emit.specs.PartLaws.{list-values, row-values}
+use Rattle.passes.specs.Building.{accessOf, transitIn, listIn, membersIn, transit}
+use Rattle.passes.specs.Placed.{whole}
+
+-- Lists made node by node.
+map-range-same : {A : Type 0} (f g : ℕ → A) (s n : ℕ) → ((i : ℕ) → i < n → f (s + i) ≡ g (s + i)) → map f (range s n) ≡ map g (range s n)
+unfolding range
+map-range-same f g s zero h = refl
+map-range-same {A} f g s (suc n) h =
+    let z : s + 0 ≡ s = omega arith in
+    let head : f s ≡ g s = rw z at (h 0 (omega arith)) in
+    let shift : (i : ℕ) → suc s + i ≡ s + suc i = λ i. omega arith in
+    rw (head, map-range-same f g (suc s) n (λ i l. rw (shift i) (h (suc i) (omega arith))))
+
+map-upTo : {A : Type 0} (n : ℕ) (f g : ℕ → A) → ((i : ℕ) → i < n → f i ≡ g i) → map f (upTo n) ≡ map g (upTo n)
+map-upTo n f g h = map-range-same f g 0 n (λ i l. rw zero-add (h i l))
+
+-- Nodes of one cell have the same access nodes.
+pub same-access : (b e c : Bytes) (grid : Grid) (u v : ℕ) → cellAt (cellsIn grid b) u ≡ cellAt (cellsIn grid b) v → accessOf b e c grid u ≡ accessOf b e c grid v
+unfolding accessOf
+same-access b e c grid u v q = rw q
+
+module _ (b e c : Bytes) (grid : Grid) (n : ℕ) (size : n ≡ nodeCount b) where
+  abbrev net : Network
+  net = networkIn b e c
+
+  abbrev cs : List Cell
+  cs = cellsIn grid b
+
+  -- ---- how many
+
+  pub count-order : order net ≡ n
+  unfolding order nodes
+  count-order = length-map (upTo (nodeCount b)) (node b) ∙ (length-range 0 (nodeCount b) ∙ sym size)
+
+  pub count-cells : length cs ≡ n
+  unfolding cells order
+  count-cells = length-map (nodes b) _ ∙ count-order
+
+  -- ---- the access nodes and the transit nodes
+
+  -- An access node is a node.
+  pub access-below : (u v : ℕ) → List·Memᴰ v (accessOf b e c grid u) → v < n
+  unfolding accessOf accessNodes
+  access-below u v m = omega (arith, count-cells, range→ 0 (length cs) v (filter→ _ (upTo (length cs)) m .0))
+
+  pub access-few : (u : ℕ) → length (accessOf b e c grid u) ≤ n
+  unfolding accessOf accessNodes
+  access-few u =
+      let l : length (accessOf b e c grid u) ≤ length (upTo (length cs)) = length-filter _ (upTo (length cs)) in
+      omega (arith, length-range 0 (length cs), count-cells)
+
+  pub transit-few : length (transitIn b e c grid) ≤ n
+  unfolding transitIn transitNodes
+  transit-few = omega (arith, size, length-filter (λ a. any (member a) (accessLists net (gridOf grid))) (upTo (nodeCount b)), length-range 0 (nodeCount b))
+
+  pub transit-below : (v : ℕ) → List·Memᴰ v (transitIn b e c grid) → v < n
+  unfolding transitIn transitNodes
+  transit-below v m = omega (arith, size, range→ 0 (nodeCount b) v (filter→ _ (upTo (nodeCount b)) m .0))
+
+  list-of : (u : ℕ) → u < n → getD (accessLists net (gridOf grid)) u [] ≡ accessOf b e c grid u
+  unfolding accessLists cellAt accessOf
+  list-of u h = getD-map-in (accessNodes (distance net) cs (net .edges)) cs u (record { column = 0; row = 0 }) [] (rw count-cells h)
+
+  pub count-lists : length (accessLists net (gridOf grid)) ≡ n
+  unfolding accessLists
+  count-lists = length-map cs (accessNodes (distance net) cs (net .edges)) ∙ count-cells
+
+  -- An access node is a transit node.
+  pub in-transit : (u : ℕ) → u < n → (v : ℕ) → List·Memᴰ v (accessOf b e c grid u) → List·Memᴰ v (transitIn b e c grid)
+  unfolding transitIn transitNodes
+  in-transit u h v m =
+      let ls = accessLists net (gridOf grid) in
+      →filter (λ a. any (member a) ls) (upTo (nodeCount b)) (→upTo (nodeCount b) v (omega (arith, size, access-below u v m)))
+      (→any (member v) ls (getD-mem ls u [] (rw count-lists h)) (rw (list-of u h) (→member v (accessOf b e c grid u) m)))
+
+  -- ---- the words of a search from u, with the sets in the regions
+
+  pub distance-words : (u : ℕ) → distanceWords (arcsIn e c) n u ≡ map (λ v. coded (distance net u v)) (upTo n)
+  unfolding distanceWords distance arcs arcsIn
+  distance-words u = rw count-order
+
+  module _ (w : List ℕ) (u : ℕ) (times : take n w ≡ distanceWords (arcsIn e c) n u) (ts : membersIn n transit w ≡ transitIn b e c grid) where
+    same-times : take n w ≡ map (λ v. coded (distance net u v)) (upTo n)
+    same-times = times ∙ distance-words u
+
+    module _ (x : ℕ) (same : accessOf b e c grid x ≡ accessOf b e c grid u) (os : membersIn n own w ≡ accessOf b e c grid x) where
+      pub list-words : listBytesOf (take n w) (membersIn n transit w) (membersIn n own w) ≡ listIn b e c grid u
+      unfolding listIn
+      list-words = rw (ts, os, same) (list-values (distance net) u n (take n w) (transitIn b e c grid) (accessOf b e c grid u) same-times (access-below u))
+
+  -- ---- the sets in the regions
+
+  -- Each access node stands among the transit nodes.
+  pub among : (w : List ℕ) (u : ℕ) → u < n → membersIn n transit w ≡ transitIn b e c grid → membersIn n own w ≡ accessOf b e c grid u → Among n (region n own w) (region n transit w)
+  unfolding membersOf
+  among w u h ts os v l f =
+      let m : List·Memᴰ v (accessOf b e c grid u) = subst (List·Memᴰ v) os (→filter (isIn (region n own w)) (upTo n) (→upTo n v l) f) in
+      filter→ (isIn (region n transit w)) (upTo n) (subst (List·Memᴰ v) (sym ts) (in-transit u h v m)) .1
+
+  -- ---- the bodies
+
+  pub access-body : accessBytes (distance net) (transitIn b e c grid) (accessLists net (gridOf grid)) ≡ whole n (listIn b e c grid)
+  unfolding accessBytes
+  access-body =
+      rw count-lists
+      (ap (λ (ls : List Bytes). starts (startSize * n) ls ++ concat ls)
+      (map-upTo n (λ u. listBytes (distance net) (transitIn b e c grid) u (getD (accessLists net (gridOf grid)) u [])) (listIn b e c grid)
+      (λ u h. unfold listIn in ap (listBytes (distance net) (transitIn b e c grid) u) (list-of u h))))
+
+  -- Rows of the times from each transit node, the columns being the transit nodes.
+  pub table-words : (l : List ℕ) → l ≡ transitIn b e c grid → concatMap (λ u. rowBytes (distanceWords (arcsIn e c) n u) l) l ≡ tableBytes (distance net) (transitIn b e c grid)
+  unfolding tableBytes
+  table-words l q =
+      let t = transitIn b e c grid in
+      let row : (u : ℕ) → rowBytes (distanceWords (arcsIn e c) n u) t ≡ concatMap (λ v. valueBytes (distance net u v)) t =
+      λ u. row-values (distance net u) n (distanceWords (arcsIn e c) n u) (distance-words u) t transit-below in
+      rw q (λ i. concatMap (λ u. row u i) t)

@@ -1,0 +1,5 @@
+pub mod Building
+pub mod Covered
+pub mod Placed
+pub mod BuildingLaws
+pub mod Passed

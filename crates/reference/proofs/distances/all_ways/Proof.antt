@@ -1,0 +1,56 @@
+-- `distances::all_ways` meets its contract. Assumes nothing.
+use Prim.Native.Nat.{_-_}
+use mathlib.Core.Path.{_≡_}
+use lib.ListN.{length}
+use borrow.Author.Needs.{needs}
+use Rattle.reference.proofs.distances.all_ways.Statement.{statement}
+use Rattle.reference.proofs.distances.all_ways.Tie as tie
+
+abbrev Inv-loop : tie.InvT-loop
+Inv-loop mem₀ n end i₀ mem i = (length mem ≡ length mem₀)
+
+abbrev μ-loop : tie.MeasureT-loop
+μ-loop mem₀ n end i₀ mem i = end - i
+
+times-requires : tie.Need-times-requires Inv-loop μ-loop
+times-requires c κs = search needs
+
+at-requires : tie.Need-at-requires Inv-loop μ-loop
+at-requires c κs = search needs
+
+loop-holds : tie.Need-loop-holds Inv-loop μ-loop
+loop-holds c = search needs
+
+by-way-requires : tie.Need-by-way-requires Inv-loop μ-loop
+by-way-requires c κs = search needs
+
+add-i : tie.Need-add-i Inv-loop μ-loop
+add-i c = search needs
+
+loop-less : tie.Need-loop-less Inv-loop μ-loop
+loop-less c = search needs
+
+loop-again : tie.Need-loop-again Inv-loop μ-loop
+loop-again c = search needs
+
+same-length : tie.Need-same-length Inv-loop μ-loop
+same-length c = search needs
+
+returns : tie.Need-returns Inv-loop μ-loop
+returns c = search needs
+
+pub all-ways-spec : {M : Type 1} → statement M
+all-ways-spec =
+    tie.close
+    (tie.spec
+    Inv-loop
+    μ-loop
+    times-requires
+    at-requires
+    loop-holds
+    by-way-requires
+    add-i
+    loop-less
+    loop-again
+    same-length
+    returns)

@@ -1,0 +1,48 @@
+-- `distances::take_roads` meets its contract. Assumes nothing.
+use Prim.Native.Nat.{_-_}
+use mathlib.Core.Path.{_≡_}
+use lib.ListN.{length}
+use borrow.Author.Needs.{needs}
+use Rattle.reference.proofs.distances.take_roads.Statement.{statement}
+use Rattle.reference.proofs.distances.take_roads.Tie as tie
+
+abbrev Inv-loop : tie.InvT-loop
+Inv-loop net shape mem₀ end i₀ mem i = (length mem ≡ length mem₀)
+
+abbrev μ-loop : tie.MeasureT-loop
+μ-loop net shape mem₀ end i₀ mem i = end - i
+
+loop-holds : tie.Need-loop-holds Inv-loop μ-loop
+loop-holds c = search needs
+
+take-road-requires : tie.Need-take-road-requires Inv-loop μ-loop
+take-road-requires c κs = search needs
+
+add-i : tie.Need-add-i Inv-loop μ-loop
+add-i c = search needs
+
+loop-less : tie.Need-loop-less Inv-loop μ-loop
+loop-less c = search needs
+
+loop-again : tie.Need-loop-again Inv-loop μ-loop
+loop-again c = search needs
+
+same-length : tie.Need-same-length Inv-loop μ-loop
+same-length c = search needs
+
+returns : tie.Need-returns Inv-loop μ-loop
+returns c = search needs
+
+pub take-roads-spec : {M : Type 1} → statement M
+take-roads-spec =
+    tie.close
+    (tie.spec
+    Inv-loop
+    μ-loop
+    loop-holds
+    take-road-requires
+    add-i
+    loop-less
+    loop-again
+    same-length
+    returns)

@@ -1,0 +1,35 @@
+-- `memory::zero_then` meets its contract. Assumes nothing.
+use Prim.Native.Nat.{_-_}
+use Prim.{Unit, tt}
+use borrow.Author.Needs.{needs}
+use Rattle.reference.proofs.memory.zero_then.Statement.{statement}
+use Rattle.reference.proofs.memory.zero_then.Tie as tie
+
+abbrev Inv-loop : tie.InvT-loop
+Inv-loop w m x end ok₀ i₀ ok i = Unit {0}
+
+abbrev μ-loop : tie.MeasureT-loop
+μ-loop w m x end ok₀ i₀ ok i = end - i
+
+loop-holds : tie.Need-loop-holds Inv-loop μ-loop
+loop-holds c = tt
+
+still-word-requires : tie.Need-still-word-requires Inv-loop μ-loop
+still-word-requires c κs = search needs
+
+add-i : tie.Need-add-i Inv-loop μ-loop
+add-i c = search needs
+
+loop-less : tie.Need-loop-less Inv-loop μ-loop
+loop-less c = search needs
+
+loop-again : tie.Need-loop-again Inv-loop μ-loop
+loop-again c = tt
+
+returns : tie.Need-returns Inv-loop μ-loop
+returns c = search needs
+
+pub zero-then-spec : {M : Type 1} → statement M
+zero-then-spec =
+    tie.close
+    (tie.spec Inv-loop μ-loop loop-holds still-word-requires add-i loop-less loop-again returns)

@@ -1,0 +1,52 @@
+-- `run::check_grids` meets its contract. Assumes nothing.
+use Prim.Native.Nat.{_-_}
+use mathlib.Core.Path.{_≡_}
+use lib.ListN.{length}
+use borrow.Author.Needs.{needs}
+use Rattle.trials.proofs.run.check_grids.Statement.{statement}
+use Rattle.trials.proofs.run.check_grids.Tie as tie
+
+abbrev Inv-loop : tie.InvT-loop
+Inv-loop tally₀ net shape mem₀ end i₀ tally mem i = (length tally ≡ length tally₀) × (length mem ≡ length mem₀)
+
+abbrev μ-loop : tie.MeasureT-loop
+μ-loop tally₀ net shape mem₀ end i₀ tally mem i = end - i
+
+loop-holds : tie.Need-loop-holds Inv-loop μ-loop
+loop-holds c = search needs
+
+check-some-grid-requires : tie.Need-check-some-grid-requires Inv-loop μ-loop
+check-some-grid-requires c κs = search needs
+
+add-i : tie.Need-add-i Inv-loop μ-loop
+add-i c = search needs
+
+loop-less : tie.Need-loop-less Inv-loop μ-loop
+loop-less c = search needs
+
+loop-again : tie.Need-loop-again Inv-loop μ-loop
+loop-again c = search needs
+
+same-length : tie.Need-same-length Inv-loop μ-loop
+same-length c = search needs
+
+same-length-2 : tie.Need-same-length-2 Inv-loop μ-loop
+same-length-2 c = search needs
+
+returns : tie.Need-returns Inv-loop μ-loop
+returns c = search needs
+
+pub check-grids-spec : {M : Type 1} → statement M
+check-grids-spec =
+    tie.close
+    (tie.spec
+    Inv-loop
+    μ-loop
+    loop-holds
+    check-some-grid-requires
+    add-i
+    loop-less
+    loop-again
+    same-length
+    same-length-2
+    returns)
