@@ -1,0 +1,177 @@
+//! The calls of the proved core, as safe functions. Nothing is decided here: what a call refuses, answers and leaves in lent memory is the core's
+//! promise (see `include/jukesogbi.h` and docs/READING.md).
+
+use std::fmt;
+
+/// The number of the first rule that a call found broken.
+#[derive(Clone, Copy, Debug, PartialEq, Eq)]
+pub struct Refused(pub u32);
+
+/// What each rule says, as in the scope document.
+pub fn rule_text(rule: u32) -> &'static str {
+    match rule {
+        1 => "the file is too short, has a wrong edition or a wrong entry count, or its contents are incomplete",
+        2 => "a kind, offset or length breaks the order or the joins of the bodies",
+        3 => "the places body is no multiple of 8 bytes, or there are not 1 to 4,096 places",
+        4 => "a coordinate is outside -1,000,000 to 1,000,000",
+        5 => "the roads body is no multiple of 8 bytes, or there are over 16,384 roads",
+        6 => "a road has an end that is no place, equal ends, or seconds outside 1 to 100,000",
+        7 => "the closed list has an odd length, does not rise, or names no road",
+        8 => "the grid body is not 2 bytes, or g is outside 1 to 64",
+        9 => "the transit body has an odd length, does not rise, or names no place",
+        10 => "the access body breaks its layout, has an index not below T, or a value out of range",
+        11 => "the table is not of 4 x T x T bytes, or has a value out of range",
+        12 => "a place number in the call is not below the number of places",
+        13 => "the far question was asked of a local pair",
+        14 => "working memory is below 8 x N words",
+        15 => "output is shorter than the whole result",
+        16 => "the oracle differs from the one built from its bodies 1 to 4",
+        _ => "no such rule",
+    }
+}
+
+impl fmt::Display for Refused {
+    fn fmt(&self, f: &mut fmt::Formatter<'_>) -> fmt::Result {
+        write!(f, "rule {}: {}", self.0, rule_text(self.0))
+    }
+}
+
+/// Document 01's "far" and "local".
+#[derive(Clone, Copy, Debug, PartialEq, Eq)]
+pub enum Kind {
+    Far,
+    Local,
+}
+
+impl fmt::Display for Kind {
+    fn fmt(&self, f: &mut fmt::Formatter<'_>) -> fmt::Result {
+        f.write_str(match self {
+            Kind::Far => "far",
+            Kind::Local => "local",
+        })
+    }
+}
+
+/// A time (or none), with the kind of the pair and the pairs tried.
+#[derive(Clone, Copy, Debug, PartialEq, Eq)]
+pub struct Answer {
+    pub seconds: Option<u32>,
+    pub kind: Kind,
+    pub pairs: u32,
+}
+
+/// The size of an oracle in bytes, and its number of transit nodes.
+#[derive(Clone, Copy, Debug, PartialEq, Eq)]
+pub struct Built {
+    pub size: usize,
+    pub transit: usize,
+}
+
+/// The functions of the static library. A slice crosses as a pointer and a length.
+pub mod raw {
+    #[repr(C)]
+    #[derive(Clone, Copy, Debug, PartialEq, Eq)]
+    pub struct Built {
+        pub rule: u32,
+        pub size: u32,
+        pub transit: u32,
+    }
+
+    #[repr(C)]
+    #[derive(Clone, Copy, Debug, PartialEq, Eq)]
+    pub struct Answer {
+        pub rule: u32,
+        pub kind: u32,
+        pub seconds: u32,
+        pub pairs: u32,
+    }
+
+    #[repr(C)]
+    #[derive(Clone, Copy, Debug, PartialEq, Eq)]
+    pub struct Route {
+        pub rule: u32,
+        pub nodes: u32,
+    }
+
+    /// A part of the oracle; empty, at 0, where it is refused.
+    #[repr(C)]
+    #[derive(Clone, Copy, Debug, PartialEq, Eq)]
+    pub struct Part {
+        pub start: usize,
+        pub size: usize,
+    }
+
+    extern "C" {
+        pub fn jukesogbi_build(network: *const u8, network_size: usize, g: u32, work: *mut u32, words: usize, out: *mut u8, room: usize) -> Built;
+        pub fn jukesogbi_audit(oracle: *const u8, oracle_size: usize, work: *mut u32, words: usize) -> u32;
+        pub fn jukesogbi_time(oracle: *const u8, oracle_size: usize, s: u32, t: u32, work: *mut u32, words: usize) -> Answer;
+        pub fn jukesogbi_far(oracle: *const u8, oracle_size: usize, s: u32, t: u32) -> Answer;
+        pub fn jukesogbi_list(oracle: *const u8, oracle_size: usize, u: u32) -> Part;
+        pub fn jukesogbi_list_rule(oracle: *const u8, oracle_size: usize, u: u32) -> u32;
+        pub fn jukesogbi_way(oracle: *const u8, oracle_size: usize, s: u32, t: u32, work: *mut u32, words: usize, out: *mut u8, room: usize) -> Route;
+    }
+}
+
+/// In `raw::Answer`, and in an oracle's bodies 6 and 7: no walk.
+pub const NO_WALK: u32 = u32::MAX;
+
+fn answer(a: raw::Answer) -> Result<Answer, Refused> {
+    if a.rule != 0 {
+        return Err(Refused(a.rule));
+    }
+    Ok(Answer {
+        seconds: (a.seconds != NO_WALK).then_some(a.seconds),
+        kind: if a.kind == 1 { Kind::Far } else { Kind::Local },
+        pairs: a.pairs,
+    })
+}
+
+// In each call below the pointers and lengths are those of slices that live through the call, and the core writes to `work` and `out` alone,
+// within their lengths.
+
+pub fn build(network: &[u8], g: u32, work: &mut [u32], out: &mut [u8]) -> Result<Built, Refused> {
+    let b = unsafe { raw::jukesogbi_build(network.as_ptr(), network.len(), g, work.as_mut_ptr(), work.len(), out.as_mut_ptr(), out.len()) };
+    if b.rule != 0 {
+        return Err(Refused(b.rule));
+    }
+    Ok(Built { size: b.size as usize, transit: b.transit as usize })
+}
+
+pub fn audit(oracle: &[u8], work: &mut [u32]) -> Result<(), Refused> {
+    match unsafe { raw::jukesogbi_audit(oracle.as_ptr(), oracle.len(), work.as_mut_ptr(), work.len()) } {
+        0 => Ok(()),
+        rule => Err(Refused(rule)),
+    }
+}
+
+pub fn time(oracle: &[u8], s: u32, t: u32, work: &mut [u32]) -> Result<Answer, Refused> {
+    answer(unsafe { raw::jukesogbi_time(oracle.as_ptr(), oracle.len(), s, t, work.as_mut_ptr(), work.len()) })
+}
+
+pub fn far(oracle: &[u8], s: u32, t: u32) -> Result<Answer, Refused> {
+    answer(unsafe { raw::jukesogbi_far(oracle.as_ptr(), oracle.len(), s, t) })
+}
+
+/// The access list of u, as that part of the oracle, its count included.
+pub fn list(oracle: &[u8], u: u32) -> Result<&[u8], Refused> {
+    let part = unsafe { raw::jukesogbi_list(oracle.as_ptr(), oracle.len(), u) };
+    // No list is empty: it has its count.
+    if part.size == 0 {
+        return Err(Refused(list_rule(oracle, u)));
+    }
+    Ok(&oracle[part.start..][..part.size])
+}
+
+/// The number of the rule for which the list of u is refused, or 0.
+pub fn list_rule(oracle: &[u8], u: u32) -> u32 {
+    unsafe { raw::jukesogbi_list_rule(oracle.as_ptr(), oracle.len(), u) }
+}
+
+/// Writes the nodes of the way as 16-bit numbers at the front of `out`, and answers how many they are.
+pub fn way(oracle: &[u8], s: u32, t: u32, work: &mut [u32], out: &mut [u8]) -> Result<usize, Refused> {
+    let r = unsafe { raw::jukesogbi_way(oracle.as_ptr(), oracle.len(), s, t, work.as_mut_ptr(), work.len(), out.as_mut_ptr(), out.len()) };
+    if r.rule != 0 {
+        return Err(Refused(r.rule));
+    }
+    Ok(r.nodes as usize)
+}

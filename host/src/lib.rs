@@ -1,0 +1,8 @@
+//! The host of the proved core: a safe wrapper of its calls, and what a map desk needs around them.
+
+pub mod core;
+pub mod draw;
+pub mod files;
+pub mod listing;
+pub mod plain;
+pub mod sample;

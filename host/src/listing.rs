@@ -1,0 +1,34 @@
+//! The text of the listing program, for an oracle of any size.
+
+use crate::core::{self, Refused};
+use crate::files;
+use std::io::{self, Write};
+
+/// One answer as text: seconds or `-`, and the kind.
+pub fn answer_text(a: &core::Answer) -> String {
+    match a.seconds {
+        Some(seconds) => format!("{seconds} {}", a.kind),
+        None => format!("- {}", a.kind),
+    }
+}
+
+/// Writes the listing, or `refused R`. The inner result is the refusal.
+pub fn write(oracle: &[u8], out: &mut impl Write) -> io::Result<Result<(), Refused>> {
+    // The list of node 0 is refused for rules 1 to 11 alone: there is at least one node.
+    if let Err(refused) = core::list(oracle, 0) {
+        writeln!(out, "refused {}", refused.0)?;
+        return Ok(Err(refused));
+    }
+    let n = files::node_count(oracle) as u32;
+    let mut work = vec![0; files::words_needed(oracle)];
+    writeln!(out, "places {n} transit {}", files::transit_nodes(oracle).len())?;
+    for s in 0..n {
+        for t in s + 1..n {
+            match core::time(oracle, s, t, &mut work) {
+                Ok(a) => writeln!(out, "{s} {t} {}", answer_text(&a))?,
+                Err(refused) => return Ok(Err(refused)),
+            }
+        }
+    }
+    Ok(Ok(()))
+}

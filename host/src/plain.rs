@@ -1,0 +1,234 @@
+//! Building in plain Rust with all the memory it likes, to measure the proved core against: adjacency lists, a binary heap, one search per crossing
+//! node, backward marks. It serves the benchmark alone.
+
+use crate::files::{self, Network};
+use std::cmp::Reverse;
+use std::collections::BinaryHeap;
+
+pub const NONE: u32 = u32::MAX;
+
+/// The open edges at each node.
+pub struct Graph {
+    pub start: Vec<usize>,
+    pub arcs: Vec<(u32, u32)>,
+}
+
+impl Graph {
+    pub fn of(net: &Network) -> Graph {
+        let mut lists = vec![Vec::new(); net.nodes.len()];
+        for (i, e) in net.edges.iter().enumerate() {
+            if net.closed.binary_search(&(i as u16)).is_err() {
+                lists[e.first as usize].push((e.second as u32, e.seconds));
+                lists[e.second as usize].push((e.first as u32, e.seconds));
+            }
+        }
+        let mut start = vec![0];
+        let mut arcs = Vec::new();
+        for l in lists {
+            arcs.extend(l);
+            start.push(arcs.len());
+        }
+        Graph { start, arcs }
+    }
+
+    pub fn at(&self, u: usize) -> &[(u32, u32)] {
+        &self.arcs[self.start[u]..self.start[u + 1]]
+    }
+}
+
+/// A search's memory: times, and the nodes in the order in which they were settled.
+pub struct Search {
+    pub times: Vec<u32>,
+    pub order: Vec<u32>,
+    heap: BinaryHeap<Reverse<(u32, u32)>>,
+}
+
+impl Search {
+    pub fn new(n: usize) -> Search {
+        Search { times: vec![NONE; n], order: Vec::with_capacity(n), heap: BinaryHeap::new() }
+    }
+
+    /// From s, until `stop` says so of a node just settled.
+    pub fn run(&mut self, graph: &Graph, s: usize, mut stop: impl FnMut(u32) -> bool) {
+        self.times.fill(NONE);
+        self.order.clear();
+        self.heap.clear();
+        self.times[s] = 0;
+        self.heap.push(Reverse((0, s as u32)));
+        while let Some(Reverse((d, u))) = self.heap.pop() {
+            if d > self.times[u as usize] {
+                continue;
+            }
+            self.order.push(u);
+            if stop(u) {
+                return;
+            }
+            for &(v, c) in graph.at(u as usize) {
+                if d + c < self.times[v as usize] {
+                    self.times[v as usize] = d + c;
+                    self.heap.push(Reverse((d + c, v)));
+                }
+            }
+        }
+    }
+
+    pub fn all(&mut self, graph: &Graph, s: usize) {
+        self.run(graph, s, |_| false);
+    }
+}
+
+pub struct Cells {
+    pub of: Vec<(i64, i64)>,
+}
+
+impl Cells {
+    pub fn over(nodes: &[(i32, i32)], g: u32) -> Cells {
+        let (left, right) = (nodes.iter().map(|n| n.0).min().unwrap() as i64, nodes.iter().map(|n| n.0).max().unwrap() as i64);
+        let (bottom, top) = (nodes.iter().map(|n| n.1).min().unwrap() as i64, nodes.iter().map(|n| n.1).max().unwrap() as i64);
+        let spread = (right - left).max(top - bottom);
+        let of = nodes.iter().map(|&(x, y)| ((x as i64 - left) * g as i64 / (spread + 1), (y as i64 - bottom) * g as i64 / (spread + 1))).collect();
+        Cells { of }
+    }
+
+    fn within(&self, r: i64, c: (i64, i64), v: usize) -> bool {
+        (self.of[v].0 - c.0).abs() <= r && (self.of[v].1 - c.1).abs() <= r
+    }
+
+    pub fn far(&self, s: usize, t: usize) -> bool {
+        !self.within(4, self.of[s], t)
+    }
+}
+
+/// The crossing nodes of the square of radius r about c, as marks and as a list.
+fn crossing(net: &Network, cells: &Cells, open: &[usize], r: i64, c: (i64, i64)) -> Vec<u32> {
+    let mut nodes: Vec<u32> = open
+        .iter()
+        .map(|&i| &net.edges[i])
+        .filter(|e| cells.within(r, c, e.first as usize) != cells.within(r, c, e.second as usize))
+        .map(|e| e.first.min(e.second) as u32)
+        .collect();
+    nodes.sort_unstable();
+    nodes.dedup();
+    nodes
+}
+
+/// The oracle's bytes.
+pub fn build(network: &[u8], g: u32) -> Vec<u8> {
+    let net = files::network(network);
+    let n = net.nodes.len();
+    let graph = Graph::of(&net);
+    let cells = Cells::over(&net.nodes, g);
+    let open: Vec<usize> = (0..net.edges.len()).filter(|&i| net.closed.binary_search(&(i as u16)).is_err()).collect();
+    let mut search = Search::new(n);
+    let mut access: Vec<Vec<u32>> = vec![Vec::new(); n];
+    let mut first = std::collections::HashMap::new();
+    for u in 0..n {
+        let at = *first.entry(cells.of[u]).or_insert(u);
+        if at == u {
+            access[u] = cell_access(&net, &graph, &cells, &open, cells.of[u], &mut search);
+        } else {
+            access[u] = access[at].clone();
+        }
+    }
+    let mut is_transit = vec![false; n];
+    access.iter().flatten().for_each(|&a| is_transit[a as usize] = true);
+    let transit: Vec<u32> = (0..n as u32).filter(|&v| is_transit[v as usize]).collect();
+    let mut index = vec![0u16; n];
+    transit.iter().enumerate().for_each(|(i, &v)| index[v as usize] = i as u16);
+    let mut bodies = net.bodies();
+    bodies.push((g as u16).to_le_bytes().to_vec());
+    bodies.push(transit.iter().flat_map(|&v| (v as u16).to_le_bytes()).collect());
+    let (mut starts, mut lists) = (Vec::new(), Vec::new());
+    for u in 0..n {
+        search.all(&graph, u);
+        starts.extend(((4 * n + lists.len()) as u32).to_le_bytes());
+        lists.extend((access[u].len() as u16).to_le_bytes());
+        for &a in &access[u] {
+            lists.extend(index[a as usize].to_le_bytes());
+            lists.extend(search.times[a as usize].to_le_bytes());
+        }
+    }
+    starts.extend(lists);
+    bodies.push(starts);
+    let mut table = Vec::with_capacity(4 * transit.len() * transit.len());
+    for &a in &transit {
+        search.all(&graph, a as usize);
+        for &b in &transit {
+            table.extend(search.times[b as usize].to_le_bytes());
+        }
+    }
+    bodies.push(table);
+    files::file(&bodies)
+}
+
+/// One search per crossing node of the cell, then marks backward over the settle order: a node is marked when it is wanted or leads on to a marked one.
+fn cell_access(net: &Network, graph: &Graph, cells: &Cells, open: &[usize], c: (i64, i64), search: &mut Search) -> Vec<u32> {
+    let n = net.nodes.len();
+    let (own, inner, outer) = (crossing(net, cells, open, 0, c), crossing(net, cells, open, 2, c), crossing(net, cells, open, 4, c));
+    let mut wanted = vec![false; n];
+    outer.iter().for_each(|&q| wanted[q as usize] = true);
+    let mut through = vec![false; n];
+    let mut marked = vec![false; n];
+    for p in own {
+        search.all(graph, p as usize);
+        marked.fill(false);
+        for &u in search.order.iter().rev() {
+            let d = search.times[u as usize];
+            let leads = || graph.at(u as usize).iter().any(|&(v, cost)| marked[v as usize] && d + cost == search.times[v as usize]);
+            if wanted[u as usize] || leads() {
+                marked[u as usize] = true;
+                through[u as usize] = true;
+            }
+        }
+    }
+    inner.into_iter().filter(|&a| through[a as usize]).collect()
+}
+
+/// A far answer from an oracle's lists and table, without checking it.
+pub struct Tables<'a> {
+    access: &'a [u8],
+    table: &'a [u8],
+    transit: usize,
+}
+
+impl<'a> Tables<'a> {
+    pub fn of(oracle: &'a [u8]) -> Tables<'a> {
+        Tables { access: files::body(oracle, 5).unwrap(), table: files::body(oracle, 6).unwrap(), transit: files::transit_nodes(oracle).len() }
+    }
+
+    fn list(&self, u: usize) -> impl Iterator<Item = (usize, u32)> + '_ {
+        let at = files::read32(self.access, 4 * u) as usize;
+        let count = files::read16(self.access, at) as usize;
+        self.access[at + 2..at + 2 + 6 * count].chunks_exact(6).map(|e| (files::read16(e, 0) as usize, files::read32(e, 2)))
+    }
+
+    pub fn far(&self, s: usize, t: usize) -> Option<u32> {
+        let mut least = NONE;
+        let entering: Vec<(usize, u32)> = self.list(t).filter(|e| e.1 != NONE).collect();
+        for (i, a) in self.list(s).filter(|e| e.1 != NONE) {
+            for &(j, b) in &entering {
+                let between = files::read32(self.table, 4 * (i * self.transit + j));
+                if between != NONE {
+                    least = least.min(a + between + b);
+                }
+            }
+        }
+        (least != NONE).then_some(least)
+    }
+}
+
+/// The first least walk by node numbers.
+pub fn way(graph: &Graph, search: &mut Search, s: usize, t: usize) -> Vec<u16> {
+    search.all(graph, t);
+    let d = &search.times;
+    if d[s] == NONE {
+        return Vec::new();
+    }
+    let mut nodes = vec![s as u16];
+    let mut u = s;
+    while u != t {
+        u = graph.at(u).iter().filter(|&&(v, c)| d[v as usize] != NONE && c + d[v as usize] == d[u]).map(|&(v, _)| v).min().unwrap() as usize;
+        nodes.push(u as u16);
+    }
+    nodes
+}

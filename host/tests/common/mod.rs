@@ -1,0 +1,318 @@
+//! What the tests share: lent memory with guards about it, and each call of the core held against the reference in everything it hands back and
+//! leaves in lent memory.
+
+// Each test file uses its own part of this.
+#![allow(dead_code)]
+
+pub mod networks;
+pub mod reference;
+
+use jukesogbi::core::raw;
+use reference::{Answer, Built, Outcome, Part, WORDS};
+use std::cell::Cell;
+use std::fmt::Debug;
+use std::rc::Rc;
+
+// ---- Lent memory ----
+
+/// Elements before and after what is lent, which no call may change.
+const GUARD: usize = 16;
+
+/// Something to fill memory with that is never 0, so that a zeroed element shows.
+pub trait Filler: Copy + PartialEq + Debug {
+    fn filler(salt: u64, at: usize) -> Self;
+}
+
+fn mixed(salt: u64, at: usize) -> u64 {
+    let z = (salt.wrapping_mul(0x9e37_79b9_7f4a_7c15) ^ at as u64).wrapping_mul(0xbf58_476d_1ce4_e5b9);
+    z ^ (z >> 29)
+}
+
+impl Filler for u8 {
+    fn filler(salt: u64, at: usize) -> u8 {
+        (mixed(salt, at) >> 32) as u8 | 1
+    }
+}
+
+impl Filler for u32 {
+    fn filler(salt: u64, at: usize) -> u32 {
+        (mixed(salt, at) >> 24) as u32 | 1
+    }
+}
+
+thread_local! {
+    /// Each lending gets another filling, so that nothing can hang on what lent memory held before.
+    static SALT: Cell<u64> = const { Cell::new(0) };
+}
+
+/// Memory lent from the middle of a larger vector.
+pub struct Lent<T> {
+    whole: Vec<T>,
+    size: usize,
+    /// The guards as they were.
+    before: Vec<T>,
+    after: Vec<T>,
+}
+
+impl<T: Filler> Lent<T> {
+    /// Filled all over.
+    pub fn new(size: usize) -> Lent<T> {
+        let salt = SALT.with(|s| s.replace(s.get() + 1));
+        let whole: Vec<T> = (0..GUARD + size + GUARD).map(|at| T::filler(salt, at)).collect();
+        Lent { before: whole[..GUARD].to_vec(), after: whole[GUARD + size..].to_vec(), whole, size }
+    }
+
+    pub fn holding(content: &[T]) -> Lent<T> {
+        let Lent { before, after, .. } = Lent::new(0);
+        Lent { whole: [&before, content, &after].concat(), size: content.len(), before, after }
+    }
+
+    pub fn part(&self) -> &[T] {
+        &self.whole[GUARD..GUARD + self.size]
+    }
+
+    fn part_mut(&mut self) -> &mut [T] {
+        &mut self.whole[GUARD..GUARD + self.size]
+    }
+
+    fn check_guards(&self, at: &dyn Fn() -> String) {
+        assert!(self.whole[..GUARD] == self.before, "{}: memory before what was lent has changed", at());
+        assert!(self.whole[GUARD + self.size..] == self.after, "{}: memory after what was lent has changed", at());
+    }
+}
+
+/// Working words and output for one call.
+struct Memory {
+    words: Lent<u32>,
+    out: Lent<u8>,
+    words_before: Vec<u32>,
+    out_before: Vec<u8>,
+}
+
+impl Memory {
+    fn lend(words: usize, room: usize) -> Memory {
+        let (words, out) = (Lent::<u32>::new(words), Lent::<u8>::new(room));
+        Memory { words_before: words.part().to_vec(), out_before: out.part().to_vec(), words, out }
+    }
+
+    /// Compares all of it with what the outcome promises.
+    fn check<V>(&self, expected: &Outcome<V>, at: &dyn Fn() -> String) {
+        let (words, out) = (expected.expected_words(&self.words_before), expected.expected_out(&self.out_before));
+        if let Some(i) = (0..words.len()).find(|&i| self.words.part()[i] != words[i]) {
+            panic!("{}: working word {i} of {} is {}, not {}", at(), words.len(), self.words.part()[i], words[i]);
+        }
+        if let Some(i) = (0..out.len()).find(|&i| self.out.part()[i] != out[i]) {
+            panic!("{}: byte {i} of {} of output is {}, not {}", at(), out.len(), self.out.part()[i], out[i]);
+        }
+        self.words.check_guards(at);
+        self.out.check_guards(at);
+    }
+}
+
+/// A file lent to be read, which no call may change.
+pub struct Input {
+    pub name: Rc<dyn Fn() -> String>,
+    lent: Lent<u8>,
+}
+
+impl Input {
+    pub fn new(name: impl Fn() -> String + 'static, bytes: &[u8]) -> Input {
+        Input { name: Rc::new(name), lent: Lent::holding(bytes) }
+    }
+
+    fn check(&self, bytes: &[u8], at: &dyn Fn() -> String) {
+        assert!(self.lent.part() == bytes, "{}: the file that was lent has changed", at());
+        self.lent.check_guards(at);
+    }
+
+    fn bytes(&self) -> &[u8] {
+        self.lent.part()
+    }
+}
+
+// ---- A call's record as the reference has it: all zeros beside a refusal ----
+
+fn built_record(result: Result<Built, u32>) -> raw::Built {
+    match result {
+        Ok(b) => raw::Built { rule: 0, size: b.length as u32, transit: b.transit as u32 },
+        Err(rule) => raw::Built { rule, size: 0, transit: 0 },
+    }
+}
+
+fn answer_record(result: Result<Answer, u32>) -> raw::Answer {
+    match result {
+        Ok(a) => raw::Answer {
+            rule: 0,
+            kind: if a.far { 1 } else { 2 },
+            seconds: a.seconds.map_or(reference::NO_WALK, |s| s as u32),
+            pairs: a.pairs as u32,
+        },
+        Err(rule) => raw::Answer { rule, kind: 0, seconds: 0, pairs: 0 },
+    }
+}
+
+/// The part, empty beside a refusal, and what the companion question says.
+fn list_record(result: Result<Part, u32>) -> (raw::Part, u32) {
+    match result {
+        Ok(p) => (raw::Part { start: p.start, size: p.size }, 0),
+        Err(rule) => (raw::Part { start: 0, size: 0 }, rule),
+    }
+}
+
+fn route_record(result: Result<usize, u32>) -> raw::Route {
+    match result {
+        Ok(nodes) => raw::Route { rule: 0, nodes: nodes as u32 },
+        Err(rule) => raw::Route { rule, nodes: 0 },
+    }
+}
+
+fn same<T: PartialEq + Debug>(got: T, expected: T, at: &dyn Fn() -> String) {
+    assert!(got == expected, "{}:\n  the core says      {got:?}\n  the reference says {expected:?}", at());
+}
+
+// ---- Each call against an outcome. In all of them the pointers and lengths are those of memory that lives through the call. ----
+
+pub fn check_build(input: &Input, g: u32, words: usize, room: usize, expected: &Outcome<Built>) {
+    let at = || format!("{}: build under {g} with {words} words and {room} bytes", (input.name)());
+    let (file, mut memory) = (input.bytes(), Memory::lend(words, room));
+    let (work, out) = (memory.words.part_mut().as_mut_ptr(), memory.out.part_mut().as_mut_ptr());
+    let got = unsafe { raw::jukesogbi_build(file.as_ptr(), file.len(), g, work, words, out, room) };
+    same(got, built_record(expected.result), &at);
+    memory.check(expected, &at);
+}
+
+pub fn check_audit(input: &Input, words: usize, expected: &Outcome<()>) {
+    let at = || format!("{}: audit with {words} words", (input.name)());
+    let (file, mut memory) = (input.bytes(), Memory::lend(words, 0));
+    let got = unsafe { raw::jukesogbi_audit(file.as_ptr(), file.len(), memory.words.part_mut().as_mut_ptr(), words) };
+    same(got, expected.result.err().unwrap_or(0), &at);
+    memory.check(expected, &at);
+}
+
+pub fn check_time(input: &Input, s: u32, t: u32, words: usize, expected: &Outcome<Answer>) {
+    let at = || format!("{}: time {s} to {t} with {words} words", (input.name)());
+    let (file, mut memory) = (input.bytes(), Memory::lend(words, 0));
+    let got = unsafe { raw::jukesogbi_time(file.as_ptr(), file.len(), s, t, memory.words.part_mut().as_mut_ptr(), words) };
+    same(got, answer_record(expected.result), &at);
+    memory.check(expected, &at);
+}
+
+pub fn check_far(input: &Input, s: u32, t: u32, expected: &Outcome<Answer>) {
+    let at = || format!("{}: far {s} to {t}", (input.name)());
+    let file = input.bytes();
+    let got = unsafe { raw::jukesogbi_far(file.as_ptr(), file.len(), s, t) };
+    same(got, answer_record(expected.result), &at);
+}
+
+pub fn check_list(input: &Input, u: u32, expected: &Outcome<Part>) {
+    let at = || format!("{}: list of {u}", (input.name)());
+    let file = input.bytes();
+    let got = unsafe { (raw::jukesogbi_list(file.as_ptr(), file.len(), u), raw::jukesogbi_list_rule(file.as_ptr(), file.len(), u)) };
+    same(got, list_record(expected.result), &at);
+}
+
+pub fn check_way(input: &Input, s: u32, t: u32, words: usize, room: usize, expected: &Outcome<usize>) {
+    let at = || format!("{}: way {s} to {t} with {words} words and {room} bytes", (input.name)());
+    let (file, mut memory) = (input.bytes(), Memory::lend(words, room));
+    let (work, out) = (memory.words.part_mut().as_mut_ptr(), memory.out.part_mut().as_mut_ptr());
+    let got = unsafe { raw::jukesogbi_way(file.as_ptr(), file.len(), s, t, work, words, out, room) };
+    same(got, route_record(expected.result), &at);
+    memory.check(expected, &at);
+}
+
+// ---- Each call against the reference. They answer with the reference's outcome, for counting. ----
+
+/// A file asked as a network.
+pub struct NetworkCase {
+    pub input: Input,
+    pub reference: reference::Network,
+}
+
+impl NetworkCase {
+    pub fn new(name: impl Fn() -> String + 'static, bytes: Vec<u8>) -> NetworkCase {
+        NetworkCase { input: Input::new(name, &bytes), reference: reference::Network::of(bytes) }
+    }
+
+    /// The working words needed, by the reference.
+    pub fn words(&self) -> usize {
+        WORDS * self.reference.size()
+    }
+
+    pub fn build(&self, g: u32, words: usize, room: usize) -> Outcome<Built> {
+        let expected = self.reference.build(g, words, room);
+        check_build(&self.input, g, words, room, &expected);
+        expected
+    }
+}
+
+impl Drop for NetworkCase {
+    /// Once for all calls: the file is as it was.
+    fn drop(&mut self) {
+        if !std::thread::panicking() {
+            self.input.check(&self.reference.bytes, &*self.input.name);
+        }
+    }
+}
+
+/// A file asked as an oracle.
+pub struct OracleCase {
+    pub input: Input,
+    pub reference: reference::Questions,
+}
+
+impl OracleCase {
+    pub fn new(name: impl Fn() -> String + 'static, bytes: Vec<u8>) -> OracleCase {
+        OracleCase { input: Input::new(name, &bytes), reference: reference::Questions::of(bytes) }
+    }
+
+    /// The working words needed, by the reference.
+    pub fn words(&self) -> usize {
+        WORDS * self.reference.size()
+    }
+
+    pub fn audit(&self, words: usize) -> Outcome<()> {
+        let expected = self.reference.audit(words);
+        check_audit(&self.input, words, &expected);
+        expected
+    }
+
+    pub fn time(&self, s: u32, t: u32, words: usize) -> Outcome<Answer> {
+        let expected = self.reference.time(s, t, words);
+        check_time(&self.input, s, t, words, &expected);
+        expected
+    }
+
+    pub fn far(&self, s: u32, t: u32) -> Outcome<Answer> {
+        let expected = self.reference.far(s, t);
+        check_far(&self.input, s, t, &expected);
+        expected
+    }
+
+    pub fn list(&self, u: u32) -> Outcome<Part> {
+        let expected = self.reference.list(u);
+        check_list(&self.input, u, &expected);
+        expected
+    }
+
+    pub fn way(&self, s: u32, t: u32, words: usize, room: usize) -> Outcome<usize> {
+        let expected = self.reference.way(s, t, words, room);
+        check_way(&self.input, s, t, words, room, &expected);
+        expected
+    }
+}
+
+impl Drop for OracleCase {
+    /// Once for all calls: the file is as it was.
+    fn drop(&mut self) {
+        if !std::thread::panicking() {
+            self.input.check(&self.reference.bytes, &*self.input.name);
+        }
+    }
+}
+
+// ---- Counts ----
+
+/// How many random networks: `JUKESOGBI_NETWORKS`, or the default.
+pub fn networks_to_try(default: u64) -> u64 {
+    std::env::var("JUKESOGBI_NETWORKS").ok().and_then(|v| v.parse().ok()).unwrap_or(default)
+}

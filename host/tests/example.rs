@@ -1,0 +1,42 @@
+//! The C example: compiled against the header and the static library, and run.
+
+use std::path::Path;
+use std::process::Command;
+
+#[test]
+fn the_c_example_runs() {
+    let root = Path::new(env!("CARGO_MANIFEST_DIR")).parent().unwrap();
+    let program = Path::new(env!("CARGO_TARGET_TMPDIR")).join("line");
+    let compiled = Command::new("cc")
+        .args(["-std=c11", "-Wall", "-Wextra", "-Werror", "-pedantic"])
+        .arg("-I")
+        .arg(root.join("include"))
+        .arg(root.join("examples/line.c"))
+        .arg(root.join("target/staticlib/libcapi.a"))
+        .arg("-o")
+        .arg(&program)
+        .output()
+        .expect("there is a C compiler");
+    assert!(compiled.status.success(), "{}", String::from_utf8_lossy(&compiled.stderr));
+    let run = Command::new(&program).output().unwrap();
+    assert!(run.status.success());
+    let text = "built: rule 0, 143 bytes, 1 transit\n\
+        audit: rule 0\n\
+        time 0 to 2: 16 seconds, far, 1 pairs\n\
+        way 0 to 2: 0 1 2\n\
+        list of 0: 8 bytes from 121 on\n\
+        too few words: rule 14\n";
+    assert_eq!(String::from_utf8_lossy(&run.stdout), text);
+}
+
+/// The header compiles as C++ too.
+#[test]
+fn the_header_is_for_cpp_too() {
+    let root = Path::new(env!("CARGO_MANIFEST_DIR")).parent().unwrap();
+    let compiled = Command::new("c++")
+        .args(["-std=c++17", "-Wall", "-Wextra", "-Werror", "-fsyntax-only", "-x", "c++"])
+        .arg(root.join("include/jukesogbi.h"))
+        .output()
+        .expect("there is a C++ compiler");
+    assert!(compiled.status.success(), "{}", String::from_utf8_lossy(&compiled.stderr));
+}

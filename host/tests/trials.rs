@@ -1,0 +1,244 @@
+//! The trials of document 01, in its order, through the core's safe functions and held to the numbers in its text.
+
+mod common;
+
+use common::networks::{self, Plan};
+use common::{NetworkCase, OracleCase};
+use jukesogbi::core::{self, Answer, Built, Kind, Refused};
+use jukesogbi::{files, listing};
+
+fn far(seconds: Option<u32>, pairs: u32) -> Result<Answer, Refused> {
+    Ok(Answer { seconds, kind: Kind::Far, pairs })
+}
+
+fn local(seconds: Option<u32>) -> Result<Answer, Refused> {
+    Ok(Answer { seconds, kind: Kind::Local, pairs: 0 })
+}
+
+/// Builds with as much as is needed.
+fn build(plan: &Plan, g: u32) -> Result<(Built, Vec<u8>), Refused> {
+    let network = plan.bytes();
+    let mut out = vec![0; files::most_room(&network)];
+    let built = core::build(&network, g, &mut vec![0; files::words_needed(&network)], &mut out)?;
+    out.truncate(built.size);
+    Ok((built, out))
+}
+
+fn oracle(plan: &Plan, g: u32) -> Vec<u8> {
+    build(plan, g).expect("the network is accepted").1
+}
+
+fn time(oracle: &[u8], s: u32, t: u32) -> Result<Answer, Refused> {
+    core::time(oracle, s, t, &mut vec![0; files::words_needed(oracle)])
+}
+
+fn way(oracle: &[u8], s: u32, t: u32) -> Vec<u16> {
+    let mut out = vec![0; 100];
+    let count = core::way(oracle, s, t, &mut vec![0; files::words_needed(oracle)], &mut out).expect("the way is given");
+    out[..2 * count].chunks(2).map(|c| files::read16(c, 0)).collect()
+}
+
+#[test]
+fn trial_1_line_has_one_transit_place() {
+    let (built, bytes) = build(&networks::line(), 6).unwrap();
+    assert_eq!(built, Built { size: 143, transit: 1 });
+    assert_eq!(files::transit_nodes(&bytes), [1]);
+    // Columns 0, 2, 5: 0 and 2 are far, the other pairs local.
+    for (s, t, is_far) in [(0, 1, false), (1, 2, false), (0, 2, true)] {
+        assert_eq!(core::far(&bytes, s, t).is_ok(), is_far);
+    }
+    core::audit(&bytes, &mut [0; 24]).unwrap();
+}
+
+/// The 143 bytes of Line, written out by hand from the document's layout.
+#[test]
+fn trial_1_line_byte_by_byte() {
+    #[rustfmt::skip]
+    let expected = [
+        1, 7,
+        1, 65, 0, 0, 0, 24, 0, 0, 0,
+        2, 89, 0, 0, 0, 16, 0, 0, 0,
+        3, 105, 0, 0, 0, 0, 0, 0, 0,
+        4, 105, 0, 0, 0, 2, 0, 0, 0,
+        5, 107, 0, 0, 0, 2, 0, 0, 0,
+        6, 109, 0, 0, 0, 30, 0, 0, 0,
+        7, 139, 0, 0, 0, 4, 0, 0, 0,
+        // Places (0,0), (30,0), (60,0).
+        0, 0, 0, 0, 0, 0, 0, 0, 30, 0, 0, 0, 0, 0, 0, 0, 60, 0, 0, 0, 0, 0, 0, 0,
+        // Roads 0-1 of 7 and 1-2 of 9; none closed; g 6; transit place 1.
+        0, 0, 1, 0, 7, 0, 0, 0, 1, 0, 2, 0, 9, 0, 0, 0,
+        6, 0,
+        1, 0,
+        // Starts, then the lists: place 1 has none, since no road leaves the outer square of its cell.
+        12, 0, 0, 0, 20, 0, 0, 0, 22, 0, 0, 0,
+        1, 0, 0, 0, 7, 0, 0, 0,
+        0, 0,
+        1, 0, 0, 0, 9, 0, 0, 0,
+        0, 0, 0, 0,
+    ];
+    assert_eq!(oracle(&networks::line(), 6), expected);
+}
+
+#[test]
+fn trial_2_line_0_to_2() {
+    let line = oracle(&networks::line(), 6);
+    assert_eq!(time(&line, 0, 2), far(Some(16), 1));
+    assert_eq!(core::far(&line, 0, 2), far(Some(16), 1));
+    assert_eq!(core::far(&line, 2, 0), far(Some(16), 1));
+}
+
+#[test]
+fn trial_3_fork_0_to_4() {
+    let fork = oracle(&networks::fork(), 6);
+    assert_eq!(time(&fork, 0, 4), far(Some(11), 4));
+    assert_eq!(core::far(&fork, 0, 4), far(Some(11), 4));
+    // Access places 1 and 2 on both sides.
+    assert_eq!(files::transit_nodes(&fork), [1, 2]);
+    assert_eq!(core::list(&fork, 0).unwrap(), [2, 0, 0, 0, 5, 0, 0, 0, 1, 0, 5, 0, 0, 0]);
+    assert_eq!(core::list(&fork, 4).unwrap(), [2, 0, 0, 0, 6, 0, 0, 0, 1, 0, 6, 0, 0, 0]);
+}
+
+#[test]
+fn trial_4_fork_way_0_to_4() {
+    assert_eq!(way(&oracle(&networks::fork(), 6), 0, 4), [0, 1, 3, 4]);
+}
+
+#[test]
+fn trial_5_fork_0_to_3_is_local() {
+    let fork = oracle(&networks::fork(), 6);
+    assert_eq!(time(&fork, 0, 3), local(Some(10)));
+    assert_eq!(core::far(&fork, 0, 3), Err(Refused(13)));
+}
+
+#[test]
+fn trial_6_fork_with_road_4_closed() {
+    let closed = oracle(&networks::fork_closed(), 6);
+    assert_eq!(time(&closed, 0, 4), far(None, 0));
+    assert_eq!(core::far(&closed, 0, 4), far(None, 0));
+    assert_eq!(way(&closed, 0, 4), []);
+}
+
+#[test]
+fn trial_7_line_1_to_1() {
+    let line = oracle(&networks::line(), 6);
+    assert_eq!(time(&line, 1, 1), local(Some(0)));
+    assert_eq!(way(&line, 1, 1), [1]);
+}
+
+#[test]
+fn trial_8_one_place() {
+    let (built, bytes) = build(&networks::one_place(), 64).unwrap();
+    assert_eq!(built, Built { size: 81, transit: 0 });
+    assert_eq!(time(&bytes, 0, 0), local(Some(0)));
+    assert_eq!(core::list(&bytes, 0).unwrap(), [0, 0]);
+}
+
+/// Columns are not handed back, so they are seen by what is far: the same four places with two more behind them, under a grid that keeps the
+/// cells' width, are far from those where their column is 0 and local where it is 1.
+#[test]
+fn trial_9_columns_of_negative_and_positive_x() {
+    // x of -7, 0, 1, 8 under 2: spread 15, cells of 8 metres: -7..0 and 1..8.
+    let (built, bytes) = build(&networks::four_in_a_row(), 2).unwrap();
+    assert_eq!(built.transit, 0);
+    assert!((0..4).all(|s| (0..4).all(|t| core::far(&bytes, s, t) == Err(Refused(13)))));
+    // 48 metres and so 6 cells of 8: columns 0, 0, 1, 1, 5, 5.
+    let mut longer = networks::four_in_a_row();
+    longer.places.extend([(33, 0), (40, 0)]);
+    let bytes = oracle(&longer, 6);
+    for (s, is_far) in [(0, true), (1, true), (2, false), (3, false)] {
+        for t in [4, 5] {
+            assert_eq!(core::far(&bytes, s, t).is_ok(), is_far, "{s} to {t}");
+            assert_eq!(core::far(&bytes, t, s).is_ok(), is_far, "{t} to {s}");
+        }
+    }
+}
+
+#[test]
+fn trial_10_seconds() {
+    for (seconds, expected) in [(100_000, None), (0, Some(6)), (100_001, Some(6))] {
+        let mut plan = networks::line();
+        plan.roads[0].2 = seconds;
+        assert_eq!(build(&plan, 6).err().map(|r| r.0), expected, "{seconds} seconds");
+    }
+}
+
+#[test]
+fn trial_11_coordinates() {
+    for (x, expected) in [(-1_000_000, None), (-1_000_001, Some(4)), (1_000_000, None), (1_000_001, Some(4))] {
+        let mut plan = networks::line();
+        plan.places[0].0 = x;
+        assert_eq!(build(&plan, 6).err().map(|r| r.0), expected, "x of {x}");
+    }
+}
+
+#[test]
+fn trial_12_words_and_output() {
+    let case = NetworkCase::new(|| "Line".to_string(), networks::line().bytes());
+    assert!(case.build(6, 24, 143).result.is_ok());
+    assert_eq!(case.build(6, 23, 143).result, Err(14));
+    assert_eq!(case.build(6, 24, 142).result, Err(15));
+    let asked = OracleCase::new(|| "oracle of Line".to_string(), oracle(&networks::line(), 6));
+    for (words, rule) in [(24, None), (23, Some(14))] {
+        assert_eq!(asked.time(0, 2, words).result.err(), rule);
+        assert_eq!(asked.time(0, 1, words).result.err(), rule);
+        assert_eq!(asked.audit(words).result.err(), rule);
+        assert_eq!(asked.way(0, 2, words, 6).result.err(), rule);
+    }
+    assert_eq!(asked.way(0, 2, 24, 5).result, Err(15));
+}
+
+#[test]
+fn the_listing_of_line() {
+    let mut text = Vec::new();
+    listing::write(&oracle(&networks::line(), 6), &mut text).unwrap().unwrap();
+    assert_eq!(String::from_utf8(text).unwrap(), "places 3 transit 1\n0 1 7 local\n0 2 16 far\n1 2 9 local\n");
+    let mut damaged = oracle(&networks::line(), 6);
+    let transit = damaged.len() - 4 - 30 - 2;
+    damaged[transit] = 3;
+    let mut text = Vec::new();
+    assert_eq!(listing::write(&damaged, &mut text).unwrap(), Err(Refused(9)));
+    assert_eq!(String::from_utf8(text).unwrap(), "refused 9\n");
+}
+
+// ---- Mistakes that a map desk would believe ----
+
+/// One of two equally quick ways kept on each side would make 21 of 11; whichever is kept, both ways round must give 11.
+#[test]
+fn mistake_1_ties_are_all_kept() {
+    let fork = oracle(&networks::fork(), 6);
+    assert_eq!(core::far(&fork, 0, 4), far(Some(11), 4));
+    assert_eq!(core::far(&fork, 4, 0), far(Some(11), 4));
+}
+
+/// The end with the smaller number is taken, even where it lies outside the square: with Line's numbers turned round, the far end is chosen.
+#[test]
+fn mistake_3_the_smaller_number_crosses() {
+    // 2 - 1 - 0 along the ground, in columns 0, 2, 5. The road 0-1 leaves the inner square about column 0, and its smaller end is 0, in column 5.
+    let turned = Plan { places: vec![(60, 0), (30, 0), (0, 0)], roads: vec![(0, 1, 7), (1, 2, 9)], closed: vec![] };
+    let bytes = oracle(&turned, 6);
+    assert_eq!(files::transit_nodes(&bytes), [0]);
+    assert_eq!(core::list(&bytes, 2).unwrap(), [1, 0, 0, 0, 16, 0, 0, 0]);
+    assert_eq!(core::list(&bytes, 0).unwrap(), [1, 0, 0, 0, 0, 0, 0, 0]);
+    assert_eq!(core::far(&bytes, 0, 2), far(Some(16), 1));
+}
+
+/// The last place stays inside the grid: divided by the spread itself, it would lie in column g.
+#[test]
+fn mistake_4_the_last_place_is_in_the_grid() {
+    // 0, 50 and 60 under 6: columns 0, 4, 5, so that 0 and 1 are local.
+    let plan = Plan { places: vec![(0, 0), (50, 0), (60, 0)], roads: vec![(0, 1, 1), (1, 2, 1)], closed: vec![] };
+    let bytes = oracle(&plan, 6);
+    assert_eq!(time(&bytes, 0, 1), local(Some(1)));
+    assert_eq!(time(&bytes, 0, 2).map(|a| a.kind), Ok(Kind::Far));
+}
+
+/// 'No walk' is not added as a time: the two lines have entries of 'no walk' in their lists.
+#[test]
+fn mistake_5_no_walk_is_not_added() {
+    let bytes = oracle(&networks::two_lines(), 6);
+    assert_eq!(time(&bytes, 0, 2), far(Some(16), 4));
+    assert_eq!(time(&bytes, 3, 5), far(Some(100_002), 4));
+    assert_eq!(time(&bytes, 0, 5), far(None, 4));
+    assert_eq!(time(&bytes, 0, 3), local(None));
+    assert_eq!(way(&bytes, 0, 5), []);
+}

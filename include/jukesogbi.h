@@ -1,0 +1,111 @@
+/* Jukesogbi: driving times and ways over a gridded road network. The proved core's calls for C.
+ *
+ * A call never fails in another way than by a refusal: it hands back the number of the first rule broken (below), or 0. Nothing is asked of the
+ * arguments but that each pointer is to as many bytes or words as the length beside it says (a length of 0 goes with any pointer that is not null),
+ * and that `work` and `out` overlap nothing else that is passed.
+ *
+ * Working memory is 8 words of 32 bits for each place of the file: 8 * N, N up to 4,096. What it holds before a call does not matter.
+ *
+ * What a call leaves in the caller's memory:
+ *   refusals 1 to 14   nothing is written
+ *   refusals 15, 16    the first 8 * N working words are zero, output is untouched
+ *   success            the first 8 * N working words are zero (of calls that have them), the result stands at the front of output,
+ *                      and nothing past either is touched
+ * Beside a refusal, every other number of a record is 0.
+ *
+ * Rules, in checking order:
+ *    1  fewer than 2 bytes, a wrong edition, a wrong entry count or an incomplete contents
+ *    2  a kind, offset or length that breaks the order or the joins of the bodies
+ *    3  a places body that is no multiple of 8, or a place count outside 1 to 4,096
+ *    4  a coordinate outside -1,000,000 to 1,000,000
+ *    5  a roads body that is no multiple of 8, or over 16,384 roads
+ *    6  a road with an end not below N, equal ends, or seconds outside 1 to 100,000
+ *    7  a closed list of odd length, not rising, or naming no road
+ *    8  a grid body not of 2 bytes, or g outside 1 to 64
+ *    9  a transit body of odd length, not rising, or naming no place
+ *   10  an access body that breaks its layout, an index not below T, or a value out of range
+ *   11  a table not of 4 * T * T bytes, or a value out of range
+ *   12  a place number in the call not below N
+ *   13  the far question on a local pair
+ *   14  working memory below 8 * N words
+ *   15  output shorter than the whole result
+ *   16  an audited oracle that differs in any byte from the one built from its bodies 1 to 4
+ */
+#ifndef JUKESOGBI_H
+#define JUKESOGBI_H
+
+#include <stddef.h>
+#include <stdint.h>
+
+#ifdef __cplusplus
+extern "C" {
+#endif
+
+/* Working words for each place. */
+#define JUKESOGBI_WORDS 8
+
+/* `seconds` where there is no walk. */
+#define JUKESOGBI_NO_WALK UINT32_MAX
+
+/* `kind` of a pair of places; 0 beside a refusal. */
+#define JUKESOGBI_FAR 1
+#define JUKESOGBI_LOCAL 2
+
+/* The oracle's size in bytes and its number of transit places. */
+typedef struct {
+    uint32_t rule;
+    uint32_t size;
+    uint32_t transit;
+} jukesogbi_built;
+
+/* A time, or JUKESOGBI_NO_WALK; far or local; and the pairs of access places tried. */
+typedef struct {
+    uint32_t rule;
+    uint32_t kind;
+    uint32_t seconds;
+    uint32_t pairs;
+} jukesogbi_reply;
+
+/* A part of the lent oracle: its first byte, counted from the oracle's, and how many bytes it has. */
+typedef struct {
+    size_t start;
+    size_t size;
+} jukesogbi_part;
+
+/* How many places a way has. */
+typedef struct {
+    uint32_t rule;
+    uint32_t nodes;
+} jukesogbi_route;
+
+/* Builds the oracle of a network under a grid of g x g cells at the front of `out`. Rules 1 to 8, 14, 15. */
+jukesogbi_built jukesogbi_build(const uint8_t *network, size_t network_size, uint32_t g,
+                                uint32_t *work, size_t words, uint8_t *out, size_t room);
+
+/* 0 where the oracle is, byte for byte, the one that building gives from its own bodies 1 to 4. Rules 1 to 11, 14, 16. */
+uint32_t jukesogbi_audit(const uint8_t *oracle, size_t oracle_size, uint32_t *work, size_t words);
+
+/* The time from place s to place t. Rules 1 to 12, 14. */
+jukesogbi_reply jukesogbi_time(const uint8_t *oracle, size_t oracle_size, uint32_t s, uint32_t t,
+                               uint32_t *work, size_t words);
+
+/* The same for a far pair, from the oracle's lists and table alone. Rules 1 to 13. */
+jukesogbi_reply jukesogbi_far(const uint8_t *oracle, size_t oracle_size, uint32_t s, uint32_t t);
+
+/* The access list of place u, as that part of the oracle: a 16-bit count, then for each entry a 16-bit index into the transit places and 32-bit
+ * seconds. Empty, at 0, where it is refused; no list is empty. Rules 1 to 12. */
+jukesogbi_part jukesogbi_list(const uint8_t *oracle, size_t oracle_size, uint32_t u);
+
+/* The number of the rule for which jukesogbi_list hands back the empty part, or 0. */
+uint32_t jukesogbi_list_rule(const uint8_t *oracle, size_t oracle_size, uint32_t u);
+
+/* The places of the way from s to t, as 16-bit numbers, low byte first, at the front of `out`: the first least walk by place numbers.
+ * No place where there is no walk. Rules 1 to 12, 14, 15. */
+jukesogbi_route jukesogbi_way(const uint8_t *oracle, size_t oracle_size, uint32_t s, uint32_t t,
+                              uint32_t *work, size_t words, uint8_t *out, size_t room);
+
+#ifdef __cplusplus
+}
+#endif
+
+#endif
