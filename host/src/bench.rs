@@ -1,5 +1,6 @@
 //! The benchmark: the proved core beside plain Rust, in one run on one machine.
 
+use crate::Done;
 use jukesogbi::plain::{self, Cells, Graph, Search, Tables};
 use jukesogbi::sample::Random;
 use jukesogbi::{core, files, sample};
@@ -90,7 +91,7 @@ fn asking(case: &Case) {
 }
 
 /// Sizes up to `most` nodes.
-pub fn run(most: usize) {
+pub fn run(most: usize) -> Done {
     println!("| what | core | plain | unit | core's time / plain's |");
     println!("|---|---|---|---|---|");
     for n in [256, 1024, 4096].into_iter().filter(|&n| n <= most) {
@@ -101,4 +102,5 @@ pub fn run(most: usize) {
             }
         }
     }
+    Ok(())
 }

@@ -139,11 +139,11 @@ pub fn build(network: &[u8], g: u32) -> Vec<u8> {
     bodies.push((g as u16).to_le_bytes().to_vec());
     bodies.push(transit.iter().flat_map(|&v| (v as u16).to_le_bytes()).collect());
     let (mut starts, mut lists) = (Vec::new(), Vec::new());
-    for u in 0..n {
+    for (u, list) in access.iter().enumerate() {
         search.all(&graph, u);
         starts.extend(((4 * n + lists.len()) as u32).to_le_bytes());
-        lists.extend((access[u].len() as u16).to_le_bytes());
-        for &a in &access[u] {
+        lists.extend((list.len() as u16).to_le_bytes());
+        for &a in list {
             lists.extend(index[a as usize].to_le_bytes());
             lists.extend(search.times[a as usize].to_le_bytes());
         }

@@ -656,7 +656,7 @@ fn noise() {
     for seed in 0..4_000 {
         let mut random = Random(seed);
         let size = between(&mut random, 0, 120) as usize;
-        let mut bytes: Vec<u8> = (0..size).map(|_| random.next() as u8).collect();
+        let mut bytes: Vec<u8> = (0..size).map(|_| random.number() as u8).collect();
         let entries = pick(&mut random, &[3, 7]);
         if random.once_in(2) && size >= 2 {
             (bytes[0], bytes[1]) = (1, entries);
