@@ -69,7 +69,7 @@ pub without-output : (rules : List Rule) (f : Bytes) (work : List ℕ) → Refus
 without-output rules f work = record { first = first-of rules; words = words-kept (firstBroken rules) f work; zeroed = words-cleared (firstBroken rules) f work; bytes = λ k. refl }
 
 -- ---- the number in what a call hands back
-after : {A : Type 0} (k : ℕ) (number : A → ℕ) (x y : A) → number x ≡ 0 → number y ≡ k → number (cond (eqb k 0) x y) ≡ k
+pub after : {A : Type 0} (k : ℕ) (number : A → ℕ) (x y : A) → number x ≡ 0 → number y ≡ k → number (cond (eqb k 0) x y) ≡ k
 after {A} k number x y p q = step (eqb k 0) refl
   where
     step : (b : Bool) → eqb k 0 ≡ b → number (cond b x y) ≡ k

@@ -1,2 +1,3 @@
 pub mod Toward
 pub mod Room
+pub mod Grids

@@ -5,7 +5,7 @@ ghost use Prim.Native.Nat.{_<_, _≤_};
 ghost use lib.ListN.{length, drop};
 ghost use Rattle.model.specs.Contents.{nodeBody};
 ghost use Rattle.model.specs.Network.{network, nodeCount};
-ghost use Rattle.model.specs.Query.{farAnswer, localAnswer, timeAnswer, listOf};
+ghost use Rattle.model.specs.Query.{farAnswer, localAnswer, timeAnswer};
 ghost use Rattle.model.specs.Rules.{wellShaped, wordsNeeded};
 ghost use Rattle.model.specs.Calls.{farResult, listResult, listRefusal, TimeCall, WayCall};
 ghost use Rattle.query.specs.Room.{WayGiven};

@@ -1,5 +1,4 @@
 use Rattle.model.specs.Rules.{isLocal}
-use mathlib.Core.Path.{refl}
 use borrow.Author.Needs.{needs}
 use Rattle.query.proofs.kinds.is_local.Statement.{statement}
 use Rattle.query.proofs.kinds.is_local.Tie as tie

@@ -18,7 +18,7 @@ same-length : tie.Need-same-length
 same-length c = search needs
 
 returns : tie.Need-returns
-returns c = let a = c .before .before .before .before .before .before .before .before .args in (found-word (arcsIn (a .edges .now) (a .closed .now)) (a .n) (a .s) (a .t) _ _ (c .before .before .before .search-front .ensures .0 .0) (omega arith), c .before .before .before .search-front .ensures .1)
+returns c = let a = c .before .before .before .before .before .before .before .before .args in (found-word (arcsIn (a .edges .now) (a .closed .now)) (a .n) (a .s) (a .t) _ (c .before .before .before .search-front .ensures .0 .0 .times) (omega arith), c .before .before .before .search-front .ensures .1)
 
 pub search-seconds-spec : {M : Type 1} → statement M
 search-seconds-spec =

@@ -1,0 +1,36 @@
+use native.Mathlib.Omega.{arith}
+use mathlib.Core.Path.{_∙_, ap}
+use lib.ListN.{length}
+use Rattle.model.specs.Bytes.{Bytes}
+use Rattle.theory.specs.Passed.{all-shaped}
+use Rattle.query.specs.Grids.{oracleGrid}
+use Rattle.query.proofs.Cells.{grid-size}
+use borrow.Author.Needs.{needs}
+use Rattle.query.proofs.kinds.grid_of.Statement.{statement}
+use Rattle.query.proofs.kinds.grid_of.Tie as tie
+
+oracle-body-requires : tie.Need-oracle-body-requires
+oracle-body-requires c κs = search needs
+
+grid-number-requires : tie.Need-grid-number-requires
+grid-number-requires c κs = omega (arith, ap (λ (b : Bytes). length b) (c .oracle-body .ensures), grid-size _ (all-shaped _ (c .before .before .pre) .grid))
+
+oracle-body-requires-2 : tie.Need-oracle-body-requires-2
+oracle-body-requires-2 c κs = search needs
+
+over-requires : tie.Need-over-requires
+over-requires c κs = rw (c .oracle-body2 .ensures) (all-shaped _ (c .before .before .before .before .pre) .sound .nodes-rule)
+
+returns : tie.Need-returns
+unfolding oracleGrid
+returns c = c .over .ensures ∙ rw (c .before .oracle-body2 .ensures, c .before .before .grid-number .ensures, c .before .before .before .oracle-body .ensures)
+
+pub grid-of-spec : {M : Type 1} → statement M
+grid-of-spec =
+    tie.close
+    (tie.spec
+    oracle-body-requires
+    grid-number-requires
+    oracle-body-requires-2
+    over-requires
+    returns)
