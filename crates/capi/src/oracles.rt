@@ -6,7 +6,10 @@ ghost use Rattle.model.specs.Contents.{nodeBody};
 ghost use Rattle.model.specs.Network.{nodeCount};
 ghost use Rattle.model.specs.Rules.{wellShaped};
 ghost use Rattle.model.specs.Calls.{workAfter, timeRefusal, timeResult, farResult, listRefusal, WayCall};
+ghost use Rattle.block.specs.Block.{BlockCall};
 ghost use Rattle.capi.specs.Replies.{kindNumber, reply, placed, listPlaced};
+use block::Block;
+use block::calls as blocks;
 use codec::bytes::read32;
 use codec::records::NO_WALK;
 use contents::entry_at;
@@ -123,4 +126,11 @@ pub extern "C" fn jukesogbi_way(o: &[u8], s: u32, t: u32, work: &mut [u32], out:
     ensures { λ r. ⌜ WayCall (now (o .entry)) s t (now (work .entry)) (now (out .entry)) r (now (work .exit)) (now (out .exit)) ⌝ }
 {
     calls::way(o, s, t, work, out)
+}
+
+#[no_mangle]
+pub extern "C" fn jukesogbi_block(o: &[u8], starts: &[u32], ends: &[u32], work: &mut [u32]) -> Block
+    ensures { λ r. ⌜ BlockCall (now (o .entry)) (now (starts .entry)) (now (ends .entry)) (now (work .entry)) r (now (work .exit)) ⌝ }
+{
+    blocks::block(o, starts, ends, work)
 }

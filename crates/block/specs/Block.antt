@@ -1,0 +1,67 @@
+-- The block of times, document 02's T-01: "all times between up to 12 starts and 12 ends in one call". Assumes nothing.
+use Prim.Native.Nat.{ℕ, _-_}
+use mathlib.Core.Path.{_≡_}
+use mathlib.Core.Bool.{Bool, _||_, cond}
+use mathlib.Core.List.{List, [], _∷_, _++_, map}
+use lib.ListN.{length, replicate}
+use lib.Dec.{eqb, ltb}
+use Rattle.model.specs.Lists.{any}
+use Rattle.model.specs.Bytes.{Bytes}
+use Rattle.model.specs.Oracle.{coded}
+use Rattle.model.specs.Query.{distanceOf, timeAnswer}
+use Rattle.model.specs.Rules.{Rule, rule, firstBroken, shapeRules, noSuchNode, workTooSmall}
+use Rattle.model.specs.Calls.{workAfter}
+use Rattle.block.specs.declared.Block.{Block}
+
+-- "Up to 12 starts and 12 ends", "twelve rows of twelve times".
+abbrev pub maxNames : ℕ
+maxNames = 12
+
+-- ---- the rules, in checking order; `words` is the length of the working words
+
+-- Rules 1 to 12, rule 12 for every node that is named.
+unfoldable pub namedRules : Bytes → List ℕ → List Rule
+namedRules o names = shapeRules o ++ (rule 12 (any (noSuchNode o) names) ∷ [])
+
+-- Rule 17: "when either side names no place or more than 12, directly after 12".
+unfoldable pub namesBroken : List ℕ → Bool
+namesBroken names = eqb (length names) 0 || ltb maxNames (length names)
+
+unfoldable pub sidesRules : Bytes → List ℕ → List ℕ → List Rule
+sidesRules o starts ends = namedRules o (starts ++ ends) ++ (rule 17 (namesBroken starts || namesBroken ends) ∷ [])
+
+unfoldable pub blockRules : Bytes → List ℕ → List ℕ → ℕ → List Rule
+blockRules o starts ends words = sidesRules o starts ends ++ (rule 14 (workTooSmall o words) ∷ [])
+
+-- ---- the block
+
+-- "Each square equals the single answer for its pair", "'no walk' marked as in the table".
+unfoldable pub square : Bytes → ℕ → ℕ → ℕ
+square o s t = coded (distanceOf (timeAnswer o s t))
+
+-- Twelve of them, the unused ones at the end.
+unfoldable pub twelve : {A : Type 0} → A → List A → List A
+twelve unused used = used ++ replicate (maxNames - length used) unused
+
+-- "A row for each start and a column for each end in the order named, with unused squares zero."
+unfoldable pub rowOf : Bytes → List ℕ → ℕ → List ℕ
+rowOf o ends s = twelve 0 (map (square o s) ends)
+
+abbrev pub unusedRow : List ℕ
+unusedRow = replicate maxNames 0
+
+unfoldable pub blockOf : Bytes → List ℕ → List ℕ → List (List ℕ)
+blockOf o starts ends = twelve unusedRow (map (rowOf o ends) starts)
+
+-- ---- the call
+
+unfoldable pub blockRefusal : Bytes → List ℕ → List ℕ → List ℕ → ℕ
+blockRefusal o starts ends work = firstBroken (blockRules o starts ends (length work))
+
+-- "A number or block that stands beside it in a record is all zeros."
+unfoldable pub blockAfter : ℕ → List (List ℕ) → Block
+blockAfter rule times = cond (eqb rule 0) (record { rule = 0; times = times }) (record { rule = rule; times = replicate maxNames unusedRow })
+
+pub record BlockCall (o : Bytes) (starts ends work : List ℕ) (r : Block) (work′ : List ℕ) : Type 0 where
+  pub result : r ≡ blockAfter (blockRefusal o starts ends work) (blockOf o starts ends)
+  pub words : work′ ≡ workAfter (blockRefusal o starts ends work) o work

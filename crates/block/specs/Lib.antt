@@ -1,0 +1,5 @@
+pub mod Block
+pub mod Twelve
+pub mod Kept
+pub mod Theorems
+pub mod Trials

@@ -1,0 +1,25 @@
+// The block of times between up to twelve starts and twelve ends.
+ghost use mathlib.Core.Path.{_≡_};
+
+pub mod calls;
+pub mod names;
+pub mod rows;
+
+// What the block call hands back: the number of the broken rule and zeros, or 0 with a row for each start and a column for each end.
+#[repr(C)]
+pub struct Block {
+    pub rule: u32,
+    pub times: [[u32; 12]; 12],
+}
+
+pub fn block_record(rule: u32, times: [[u32; 12]; 12]) -> Block
+    ensures { λ r. ⌜ (r .rule ≡ rule) × (r .times ≡ times) ⌝ }
+{
+    Block { rule, times }
+}
+
+pub fn times_of(b: Block) -> [[u32; 12]; 12]
+    ensures { λ r. ⌜ r ≡ b .times ⌝ }
+{
+    b.times
+}
