@@ -36,6 +36,14 @@ pub fn put_word(w: &mut [u32], i: usize, x: u32) {
     }
 }
 
+// The first k words, or all where there are fewer.
+pub fn front(w: &[u32], k: usize) -> &[u32] {
+    if k <= w.len() {
+        return &w[0..k];
+    }
+    w
+}
+
 // Sums, products, quotients and gaps of the small numbers that stand here.
 pub fn plus(a: usize, b: usize) -> usize {
     std::num::wrapping_add_usize(a, b)

@@ -25,7 +25,9 @@ pub const CHANGED: usize = 9;
 
 pub const FIXED: usize = 10;
 
-pub const MISMATCHES: usize = 11;
+pub const BLOCKS: usize = 11;
+
+pub const MISMATCHES: usize = 12;
 
 fn count(tally: &mut [u32], k: usize) {
     let n = word(tally, k);

@@ -1,8 +1,4 @@
 // Oracles with bytes changed at random: the audit against another building, and the answers from changed values.
-use crate::pairs::Told;
-use crate::pairs::check_far;
-use crate::pairs::check_time;
-use crate::pairs::list_at;
 use auditor::calls::audit;
 use builder::calls::build;
 use check::same;
@@ -34,6 +30,10 @@ use reference::tally::DAMAGED;
 use reference::tally::note;
 use reference::tally::roll;
 use reference::tally::roll_index;
+use trial_parts::pairs::Told;
+use trial_parts::pairs::check_far;
+use trial_parts::pairs::check_time;
+use trial_parts::pairs::list_at;
 
 // Room for any network of the trials, and where the bodies begin.
 const NETWORK: usize = 4096;

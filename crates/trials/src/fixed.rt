@@ -1,34 +1,42 @@
-// Document 01's trials that are executed, and the working words and the output after each call.
+// Document 01's trials that are executed, and the working words and the output after each call; blocks of its Line and Fork.
 use crate::limits::check_cuts;
 use crate::limits::check_limits;
-use crate::pairs::Told;
-use crate::pairs::as_told;
-use crate::pairs::refused;
-use crate::pairs::same_told;
 use auditor::calls::audit;
 use bitset::words::fill;
 use builder::calls::build;
 use query::calls::time;
 use query::calls::way;
+use reference::distances::NO_WALK;
 use reference::memory::both;
 use reference::memory::index;
 use reference::memory::only_front;
 use reference::memory::prepare;
+use reference::memory::write16;
 use reference::memory::zero_then;
+use reference::networks::closed_at;
 use reference::networks::put_head;
 use reference::networks::put_place;
 use reference::networks::put_road;
 use reference::tally::FIXED;
 use reference::tally::note;
+use trial_parts::blocks::check_block;
+use trial_parts::pairs::Told;
+use trial_parts::pairs::as_told;
+use trial_parts::pairs::refused;
+use trial_parts::pairs::same_told;
 
-// The network of Line, and its oracle's size, working words and grid.
+// The network of Line, its oracle's size and working words; the network of Fork with road 4 closed, and its words; the grid of both.
 const LINE: usize = 69;
 
 const LINE_ORACLE: usize = 143;
 
 const LINE_WORDS: usize = 24;
 
-const LINE_GRID: u32 = 6;
+const FORK: usize = 111;
+
+const FORK_WORDS: usize = 40;
+
+const GRID: u32 = 6;
 
 fn put_line(b: &mut [u8]) {
     put_place(b, 0, 0, 0);
@@ -66,25 +74,16 @@ fn check_line(tally: &mut [u32], net: &[u8]) {
     check_build(
         tally,
         net,
-        LINE_GRID,
+        GRID,
         &mut enough,
         &mut room,
         0,
         LINE_WORDS,
         LINE_ORACLE,
     );
-    check_build(tally, net, LINE_GRID, &mut few, &mut room, 14, 0, 0);
-    check_build(
-        tally,
-        net,
-        LINE_GRID,
-        &mut enough,
-        &mut short,
-        15,
-        LINE_WORDS,
-        0,
-    );
-    check_build(tally, net, LINE_GRID, &mut few, &mut short, 14, 0, 0);
+    check_build(tally, net, GRID, &mut few, &mut room, 14, 0, 0);
+    check_build(tally, net, GRID, &mut enough, &mut short, 15, LINE_WORDS, 0);
+    check_build(tally, net, GRID, &mut few, &mut short, 14, 0, 0);
 }
 
 // The same with more words and bytes than are needed, and grids out of range.
@@ -96,7 +95,7 @@ fn check_grids(tally: &mut [u32], net: &[u8]) {
     check_build(
         tally,
         net,
-        LINE_GRID,
+        GRID,
         &mut work,
         &mut out,
         0,
@@ -170,6 +169,71 @@ fn check_few(tally: &mut [u32], o: &[u8]) {
     check_way(tally, o, 2, &mut few, &mut out, 14, 0);
 }
 
+// ---- blocks
+
+// A block over the oracle of a network, with more words than are needed.
+fn check_block_of(
+    tally: &mut [u32],
+    net: &[u8],
+    starts: &[u32],
+    ends: &[u32],
+    expected: &[u32],
+    zeros: usize,
+) {
+    let mut work = [0u32; 50];
+    let mut out = [0u8; 512];
+    let b = build(net, GRID, &mut work, &mut out);
+    let end = index(b.size);
+    if end <= 512 {
+        check_block(
+            tally,
+            &out[0..end],
+            starts,
+            ends,
+            &mut work,
+            0,
+            expected,
+            zeros,
+        );
+    }
+}
+
+fn check_line_block(tally: &mut [u32], net: &[u8]) {
+    let starts = [0u32, 1, 2, 0];
+    let ends = [2u32, 1, 0];
+    let expected = [16u32, 7, 0, 9, 0, 7, 0, 9, 16, 16, 7, 0];
+    check_block_of(tally, net, &starts, &ends, &expected, LINE_WORDS);
+}
+
+fn put_fork_places(b: &mut [u8]) {
+    put_place(b, 0, 0, 0);
+    put_place(b, 1, 30, 0);
+    put_place(b, 2, 30, 10);
+    put_place(b, 3, 50, 0);
+    put_place(b, 4, 60, 0);
+}
+
+fn put_fork_roads(b: &mut [u8]) {
+    put_road(b, 5, 0, 0, 1, 5);
+    put_road(b, 5, 1, 0, 2, 5);
+    put_road(b, 5, 2, 1, 3, 5);
+    put_road(b, 5, 3, 2, 3, 5);
+    put_road(b, 5, 4, 3, 4, 1);
+    write16(b, closed_at(5, 5, 0), 4);
+}
+
+// As road 4 is closed, node 4 is reached from itself alone.
+fn check_fork_block(tally: &mut [u32]) {
+    let starts = [0u32, 4, 3];
+    let ends = [4u32, 3, 2];
+    let expected = [NO_WALK, 10, 5, 0, NO_WALK, NO_WALK, NO_WALK, 0, 5];
+    let mut net = [0u8; FORK];
+    put_fork_places(&mut net);
+    put_fork_roads(&mut net);
+    put_head(&mut net, 40, 40, 2);
+    check_block_of(tally, &net, &starts, &ends, &expected, FORK_WORDS);
+}
+
 pub fn check_fixed(tally: &mut [u32]) {
     let mut net = [0u8; LINE];
     put_line(&mut net);
@@ -177,4 +241,6 @@ pub fn check_fixed(tally: &mut [u32]) {
     check_grids(tally, &net);
     check_cuts(tally, &net);
     check_limits(tally);
+    check_line_block(tally, &net);
+    check_fork_block(tally);
 }

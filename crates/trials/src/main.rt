@@ -1,14 +1,11 @@
 // Trials of the core: those of document 01 that are executed, and many random networks against another search, another builder and
 // damaged oracles. It prints how many checks of each kind were made, and how many came out wrong.
 mod changes;
-mod edits;
 mod fixed;
 mod limits;
-mod pairs;
 mod refusals;
 mod report;
 mod run;
-mod ways;
 
 fn main() {
     let mut tally = [0u32; 16];

@@ -1,8 +1,4 @@
 // Damaged oracles whose broken rule is known: cut, extended, or with a number written over.
-use crate::edits::EDITS;
-use crate::edits::Edit;
-use crate::edits::edit_of;
-use crate::edits::write_edit;
 use auditor::calls::audit;
 use query::calls::list_rule;
 use reference::memory::copy;
@@ -11,6 +7,10 @@ use reference::naive::ROOM;
 use reference::networks::Shape;
 use reference::tally::DAMAGED;
 use reference::tally::note;
+use trial_parts::edits::EDITS;
+use trial_parts::edits::Edit;
+use trial_parts::edits::edit_of;
+use trial_parts::edits::write_edit;
 
 // The size of the contents.
 const HEAD: usize = 65;

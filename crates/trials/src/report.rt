@@ -1,6 +1,7 @@
 // What the program prints: how many checks were made of what, and how many came out wrong.
 use reference::memory::word;
 use reference::tally::AUDITS;
+use reference::tally::BLOCKS;
 use reference::tally::CHANGED;
 use reference::tally::DAMAGED;
 use reference::tally::FARS;
@@ -24,6 +25,7 @@ fn print_questions(tally: &[u32]) {
     line(b"far answers ", tally, FARS);
     line(b"ways ", tally, WAYS);
     line(b"lists ", tally, LISTS);
+    line(b"blocks ", tally, BLOCKS);
 }
 
 fn print_others(tally: &[u32]) {

@@ -1,12 +1,9 @@
 // Random networks, several grids for each.
 use crate::changes::check_bytes;
 use crate::changes::check_values;
-use crate::pairs::check_lists;
-use crate::pairs::check_pairs;
 use crate::refusals::check_cuts;
 use crate::refusals::check_edits;
 use crate::refusals::check_longer;
-use crate::ways::check_ways;
 use auditor::calls::audit;
 use bitset::words::fill;
 use builder::calls::build;
@@ -32,6 +29,10 @@ use reference::tally::ORACLES;
 use reference::tally::note;
 use reference::tally::roll;
 use reference::tally::roll_index;
+use trial_parts::blocks::check_blocks;
+use trial_parts::pairs::check_lists;
+use trial_parts::pairs::check_pairs;
+use trial_parts::ways::check_ways;
 
 // Working words for 64 nodes and three more, and room for a way and a network.
 const WORDS: usize = 515;
@@ -59,6 +60,7 @@ fn check_questions(
     check_pairs(tally, mem, o, shape.n, work);
     check_lists(tally, o, shape.n);
     check_ways(tally, net, shape, mem, o, work, &mut out);
+    check_blocks(tally, mem, o, shape.n, work);
 }
 
 fn check_audit(tally: &mut [u32], o: &[u8], n: usize, work: &mut [u32]) {

@@ -1,16 +1,16 @@
--- `ways::check_ways` meets its contract. Assumes nothing.
+-- `blocks::put_times` meets its contract. Assumes nothing.
 use Prim.Native.Nat.{_-_}
 use mathlib.Core.Path.{_≡_}
 use lib.ListN.{length}
 use borrow.Author.Needs.{needs}
-use Rattle.trials.proofs.ways.check_ways.Statement.{statement}
-use Rattle.trials.proofs.ways.check_ways.Tie as tie
+use Rattle.trial_parts.proofs.blocks.put_times.Statement.{statement}
+use Rattle.trial_parts.proofs.blocks.put_times.Tie as tie
 
 abbrev Inv-loop : tie.InvT-loop
-Inv-loop tally₀ net shape mem o work₀ out₀ end i₀ tally work out i = (length tally ≡ length tally₀) × (length work ≡ length work₀) × (length out ≡ length out₀)
+Inv-loop mem starts ends expected₀ end i₀ expected i = (length expected ≡ length expected₀)
 
 abbrev μ-loop : tie.MeasureT-loop
-μ-loop tally₀ net shape mem o work₀ out₀ end i₀ tally work out i = end - i
+μ-loop mem starts ends expected₀ end i₀ expected i = end - i
 
 times-requires : tie.Need-times-requires Inv-loop μ-loop
 times-requires c κs = search needs
@@ -18,8 +18,11 @@ times-requires c κs = search needs
 loop-holds : tie.Need-loop-holds Inv-loop μ-loop
 loop-holds c = search needs
 
-check-way-requires : tie.Need-check-way-requires Inv-loop μ-loop
-check-way-requires c κs = search needs
+time-between-requires : tie.Need-time-between-requires Inv-loop μ-loop
+time-between-requires c κs = search needs
+
+put-word-requires : tie.Need-put-word-requires Inv-loop μ-loop
+put-word-requires c κs = search needs
 
 add-i : tie.Need-add-i Inv-loop μ-loop
 add-i c = search needs
@@ -33,28 +36,21 @@ loop-again c = search needs
 same-length : tie.Need-same-length Inv-loop μ-loop
 same-length c = search needs
 
-same-length-2 : tie.Need-same-length-2 Inv-loop μ-loop
-same-length-2 c = search needs
-
-same-length-3 : tie.Need-same-length-3 Inv-loop μ-loop
-same-length-3 c = search needs
-
 returns : tie.Need-returns Inv-loop μ-loop
 returns c = search needs
 
-pub check-ways-spec : {M : Type 1} → statement M
-check-ways-spec =
+pub put-times-spec : {M : Type 1} → statement M
+put-times-spec =
     tie.close
     (tie.spec
     Inv-loop
     μ-loop
     times-requires
     loop-holds
-    check-way-requires
+    time-between-requires
+    put-word-requires
     add-i
     loop-less
     loop-again
     same-length
-    same-length-2
-    same-length-3
     returns)

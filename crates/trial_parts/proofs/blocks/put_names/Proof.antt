@@ -1,25 +1,28 @@
--- `pairs::check_pairs` meets its contract. Assumes nothing.
+-- `blocks::put_names` meets its contract. Assumes nothing.
 use Prim.Native.Nat.{_-_}
 use mathlib.Core.Path.{_≡_}
 use lib.ListN.{length}
 use borrow.Author.Needs.{needs}
-use Rattle.trials.proofs.pairs.check_pairs.Statement.{statement}
-use Rattle.trials.proofs.pairs.check_pairs.Tie as tie
+use Rattle.trial_parts.proofs.blocks.put_names.Statement.{statement}
+use Rattle.trial_parts.proofs.blocks.put_names.Tie as tie
 
 abbrev Inv-loop : tie.InvT-loop
-Inv-loop tally₀ mem o n work₀ end i₀ tally work i = (length tally ≡ length tally₀) × (length work ≡ length work₀)
+Inv-loop tally₀ names₀ n end i₀ tally names i = (length tally ≡ length tally₀) × (length names ≡ length names₀)
 
 abbrev μ-loop : tie.MeasureT-loop
-μ-loop tally₀ mem o n work₀ end i₀ tally work i = end - i
-
-times-requires : tie.Need-times-requires Inv-loop μ-loop
-times-requires c κs = search needs
+μ-loop tally₀ names₀ n end i₀ tally names i = end - i
 
 loop-holds : tie.Need-loop-holds Inv-loop μ-loop
 loop-holds c = search needs
 
-check-pair-requires : tie.Need-check-pair-requires Inv-loop μ-loop
-check-pair-requires c κs = search needs
+number-requires : tie.Need-number-requires Inv-loop μ-loop
+number-requires c κs = search needs
+
+roll-requires : tie.Need-roll-requires Inv-loop μ-loop
+roll-requires c κs = search needs
+
+put-word-requires : tie.Need-put-word-requires Inv-loop μ-loop
+put-word-requires c κs = search needs
 
 add-i : tie.Need-add-i Inv-loop μ-loop
 add-i c = search needs
@@ -39,15 +42,16 @@ same-length-2 c = search needs
 returns : tie.Need-returns Inv-loop μ-loop
 returns c = search needs
 
-pub check-pairs-spec : {M : Type 1} → statement M
-check-pairs-spec =
+pub put-names-spec : {M : Type 1} → statement M
+put-names-spec =
     tie.close
     (tie.spec
     Inv-loop
     μ-loop
-    times-requires
     loop-holds
-    check-pair-requires
+    number-requires
+    roll-requires
+    put-word-requires
     add-i
     loop-less
     loop-again

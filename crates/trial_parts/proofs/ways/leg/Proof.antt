@@ -2,8 +2,8 @@
 use Prim.Native.Nat.{_-_}
 use Prim.{Unit, tt}
 use borrow.Author.Needs.{needs}
-use Rattle.trials.proofs.ways.leg.Statement.{statement}
-use Rattle.trials.proofs.ways.leg.Tie as tie
+use Rattle.trial_parts.proofs.ways.leg.Statement.{statement}
+use Rattle.trial_parts.proofs.ways.leg.Tie as tie
 
 abbrev Inv-loop : tie.InvT-loop
 Inv-loop net shape u v end least₀ i₀ least i = Unit {0}

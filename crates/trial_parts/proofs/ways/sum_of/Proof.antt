@@ -2,8 +2,8 @@
 use Prim.Native.Nat.{_-_}
 use Prim.{Unit, tt}
 use borrow.Author.Needs.{needs}
-use Rattle.trials.proofs.ways.sum_of.Statement.{statement}
-use Rattle.trials.proofs.ways.sum_of.Tie as tie
+use Rattle.trial_parts.proofs.ways.sum_of.Statement.{statement}
+use Rattle.trial_parts.proofs.ways.sum_of.Tie as tie
 
 abbrev Inv-loop : tie.InvT-loop
 Inv-loop net shape mem out t steps end total₀ i₀ total i = Unit {0}

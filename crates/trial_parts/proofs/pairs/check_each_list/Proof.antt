@@ -3,8 +3,8 @@ use Prim.Native.Nat.{_-_}
 use mathlib.Core.Path.{_≡_}
 use lib.ListN.{length}
 use borrow.Author.Needs.{needs}
-use Rattle.trials.proofs.pairs.check_each_list.Statement.{statement}
-use Rattle.trials.proofs.pairs.check_each_list.Tie as tie
+use Rattle.trial_parts.proofs.pairs.check_each_list.Statement.{statement}
+use Rattle.trial_parts.proofs.pairs.check_each_list.Tie as tie
 
 abbrev Inv-loop : tie.InvT-loop
 Inv-loop tally₀ o n end i₀ tally i = (length tally ≡ length tally₀)
