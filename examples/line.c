@@ -1,4 +1,4 @@
-/* Three places in a row: builds their oracle, audits it, asks a time and a way, and meets a refusal.
+/* Three places in a row: builds their oracle, audits it, asks a time, a way and a block of times, and meets a refusal.
  * cc -Iinclude examples/line.c target/staticlib/libcapi.a -o line */
 #include "jukesogbi.h"
 
@@ -32,6 +32,12 @@ int main(void) {
         printf(" %u", nodes[2 * i] + 256 * nodes[2 * i + 1]);
     }
     printf("\n");
+
+    const uint32_t starts[] = {0, 1}, ends[] = {2, 1, 0};
+    jukesogbi_times block = jukesogbi_block(oracle, built.size, starts, 2, ends, 3, work, 24);
+    for (int i = 0; i < 2; i++) {
+        printf("times from %u to 2, 1, 0: %u %u %u\n", starts[i], block.times[i][0], block.times[i][1], block.times[i][2]);
+    }
 
     jukesogbi_part list = jukesogbi_list(oracle, built.size, 0);
     printf("list of 0: %zu bytes from %zu on\n", list.size, list.start);

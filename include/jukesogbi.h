@@ -7,10 +7,10 @@
  * Working memory is 8 words of 32 bits for each place of the file: 8 * N, N up to 4,096. What it holds before a call does not matter.
  *
  * What a call leaves in the caller's memory:
- *   refusals 1 to 14   nothing is written
- *   refusals 15, 16    the first 8 * N working words are zero, output is untouched
- *   success            the first 8 * N working words are zero (of calls that have them), the result stands at the front of output,
- *                      and nothing past either is touched
+ *   refusals 1 to 14, 17   nothing is written
+ *   refusals 15, 16        the first 8 * N working words are zero, output is untouched
+ *   success                the first 8 * N working words are zero (of calls that have them), the result stands at the front of output,
+ *                          and nothing past either is touched
  * Beside a refusal, every other number of a record is 0.
  *
  * Rules, in checking order:
@@ -26,6 +26,7 @@
  *   10  an access body that breaks its layout, an index not below T, or a value out of range
  *   11  a table not of 4 * T * T bytes, or a value out of range
  *   12  a place number in the call not below N
+ *   17  either side of a block names no place or more than 12
  *   13  the far question on a local pair
  *   14  working memory below 8 * N words
  *   15  output shorter than the whole result
@@ -44,7 +45,10 @@ extern "C" {
 /* Working words for each place. */
 #define JUKESOGBI_WORDS 8
 
-/* `seconds` where there is no walk. */
+/* The most places that either side of a block may name. */
+#define JUKESOGBI_SIDE 12
+
+/* `seconds`, or a square of `times`, where there is no walk. */
 #define JUKESOGBI_NO_WALK UINT32_MAX
 
 /* `kind` of a pair of places; 0 beside a refusal. */
@@ -78,6 +82,12 @@ typedef struct {
     uint32_t nodes;
 } jukesogbi_route;
 
+/* A row for each start and a column for each end, in the order named. Unused squares are 0. */
+typedef struct {
+    uint32_t rule;
+    uint32_t times[JUKESOGBI_SIDE][JUKESOGBI_SIDE];
+} jukesogbi_times;
+
 /* Builds the oracle of a network under a grid of g x g cells at the front of `out`. Rules 1 to 8, 14, 15. */
 jukesogbi_built jukesogbi_build(const uint8_t *network, size_t network_size, uint32_t g,
                                 uint32_t *work, size_t words, uint8_t *out, size_t room);
@@ -103,6 +113,11 @@ uint32_t jukesogbi_list_rule(const uint8_t *oracle, size_t oracle_size, uint32_t
  * No place where there is no walk. Rules 1 to 12, 14, 15. */
 jukesogbi_route jukesogbi_way(const uint8_t *oracle, size_t oracle_size, uint32_t s, uint32_t t,
                               uint32_t *work, size_t words, uint8_t *out, size_t room);
+
+/* All times between up to 12 starts and 12 ends: times[i][j] is the `seconds` of jukesogbi_time from starts[i] to ends[j]. A place may be named
+ * several times, on either side or on both. Rules 1 to 12, 17, 14, where 12 looks at every name, also past the twelfth. */
+jukesogbi_times jukesogbi_block(const uint8_t *oracle, size_t oracle_size, const uint32_t *starts, size_t starts_count,
+                                const uint32_t *ends, size_t ends_count, uint32_t *work, size_t words);
 
 #ifdef __cplusplus
 }

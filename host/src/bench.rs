@@ -1,4 +1,4 @@
-//! The benchmark: the proved core beside plain Rust, in one run on one machine.
+//! The benchmark: the proved core beside plain Rust, and its block beside its single calls, in one run on one machine.
 
 use crate::Done;
 use jukesogbi::plain::{self, Cells, Graph, Search, Tables};
@@ -16,6 +16,10 @@ fn timed(times: usize, mut work: impl FnMut()) -> Duration {
         })
         .min()
         .unwrap()
+}
+
+fn head(columns: &str) {
+    println!("{columns}\n|---|---|---|---|---|");
 }
 
 fn row(what: &str, core: f64, plain: f64, unit: &str, ratio: f64) {
@@ -55,6 +59,12 @@ fn building(n: usize, g: u32) -> Case {
     Case { oracle: out, name }
 }
 
+/// What plain Rust answers from.
+fn prepared(o: &[u8]) -> (Graph, Cells, Tables<'_>) {
+    let net = files::network(o);
+    (Graph::of(&net), Cells::over(&net.nodes, files::grid_number(o)), Tables::of(o))
+}
+
 fn asking(case: &Case) {
     let o = &case.oracle;
     let n = files::node_count(o);
@@ -62,8 +72,7 @@ fn asking(case: &Case) {
     let mut out = vec![0; 2 * n];
     let checked = timed(3, || core::list(o, 0).map(|_| ()).expect("a built oracle is well-shaped"));
     println!("| check an oracle, {} | {:.1} | - | MB/s | - |", case.name, o.len() as f64 / checked.as_secs_f64() / 1e6);
-    let net = files::network(o);
-    let (graph, cells, tables) = (Graph::of(&net), Cells::over(&net.nodes, files::grid_number(o)), Tables::of(o));
+    let (graph, cells, tables) = prepared(o);
     let mut random = Random(7);
     let mut pairs: Vec<(usize, usize)> = (0..40_000).map(|_| (random.below(n as u64) as usize, random.below(n as u64) as usize)).collect();
     let far: Vec<(usize, usize)> = pairs.iter().copied().filter(|&(s, t)| cells.far(s, t)).take(20).collect();
@@ -90,17 +99,45 @@ fn asking(case: &Case) {
     assert!(sums.0 == sums.1, "the two answer differently");
 }
 
+/// The squares of a full block.
+const SQUARES: usize = core::SIDE * core::SIDE;
+
+/// A full block of random names beside plain Rust. Hands back its name and time, and the time of the core's single calls for its squares.
+fn block(case: &Case) -> (String, Duration, Duration) {
+    let o = &case.oracle;
+    let n = files::node_count(o);
+    let mut work = vec![0; files::words_needed(o)];
+    let (graph, cells, tables) = prepared(o);
+    let mut search = Search::new(n);
+    let mut random = Random(7);
+    let mut names = || (0..core::SIDE).map(|_| random.below(n as u64) as u32).collect::<Vec<u32>>();
+    let (starts, ends) = (names(), names());
+    let (mut whole, mut beside, mut single) = (Vec::new(), Vec::new(), Vec::new());
+    let core = timed(3, || whole = core::block(o, &starts, &ends, &mut work).unwrap().times.concat());
+    let plain = timed(3, || beside = plain::block(&graph, &cells, &tables, &mut search, &starts, &ends));
+    let pairs = || starts.iter().flat_map(|&s| ends.iter().map(move |&t| (s, t)));
+    let calls = timed(3, || single = pairs().map(|(s, t)| core::time(o, s, t, &mut work).unwrap().seconds.unwrap_or(core::NO_WALK)).collect());
+    assert!(whole == beside && whole == single, "the block, plain Rust and the single calls differ");
+    let name = format!("block of {SQUARES}, {}", case.name);
+    answered(&name, SQUARES, core, plain);
+    (name, core, calls)
+}
+
 /// Sizes up to `most` nodes.
 pub fn run(most: usize) -> Done {
-    println!("| what | core | plain | unit | core's time / plain's |");
-    println!("|---|---|---|---|---|");
+    head("| what | core | plain | unit | core's time / plain's |");
+    let mut blocks = Vec::new();
     for n in [256, 1024, 4096].into_iter().filter(|&n| n <= most) {
         for g in [16, 32, 64] {
             let case = building(n, g);
             if g == 32 {
                 asking(&case);
+                blocks.push(block(&case));
             }
         }
     }
+    println!();
+    head("| what | block | single calls | unit | block's time / single calls' |");
+    blocks.iter().for_each(|(name, block, calls)| answered(name, SQUARES, *block, *calls));
     Ok(())
 }

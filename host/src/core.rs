@@ -26,6 +26,7 @@ pub fn rule_text(rule: u32) -> &'static str {
         14 => "working memory is below 8 x N words",
         15 => "output is shorter than the whole result",
         16 => "the oracle differs from the one built from its bodies 1 to 4",
+        17 => "either side of the block names no place or more than 12",
         _ => "no such rule",
     }
 }
@@ -67,8 +68,27 @@ pub struct Built {
     pub transit: usize,
 }
 
+/// The most nodes that either side of a block may name.
+pub const SIDE: usize = 12;
+
+/// All times between the starts and the ends of a call: a row for each start, a column for each end.
+#[derive(Clone, Copy, Debug, PartialEq, Eq)]
+pub struct Block {
+    /// As the core has them: `NO_WALK` for none, 0 in unused squares.
+    pub times: [[u32; SIDE]; SIDE],
+}
+
+impl Block {
+    /// From start i to end j, by their positions in the call.
+    pub fn seconds(&self, i: usize, j: usize) -> Option<u32> {
+        seconds(self.times[i][j])
+    }
+}
+
 /// The functions of the static library. A slice crosses as a pointer and a length.
 pub mod raw {
+    use super::SIDE;
+
     #[repr(C)]
     #[derive(Clone, Copy, Debug, PartialEq, Eq)]
     pub struct Built {
@@ -101,6 +121,13 @@ pub mod raw {
         pub size: usize,
     }
 
+    #[repr(C)]
+    #[derive(Clone, Copy, Debug, PartialEq, Eq)]
+    pub struct Times {
+        pub rule: u32,
+        pub times: [[u32; SIDE]; SIDE],
+    }
+
     extern "C" {
         pub fn jukesogbi_build(network: *const u8, network_size: usize, g: u32, work: *mut u32, words: usize, out: *mut u8, room: usize) -> Built;
         pub fn jukesogbi_audit(oracle: *const u8, oracle_size: usize, work: *mut u32, words: usize) -> u32;
@@ -109,18 +136,26 @@ pub mod raw {
         pub fn jukesogbi_list(oracle: *const u8, oracle_size: usize, u: u32) -> Part;
         pub fn jukesogbi_list_rule(oracle: *const u8, oracle_size: usize, u: u32) -> u32;
         pub fn jukesogbi_way(oracle: *const u8, oracle_size: usize, s: u32, t: u32, work: *mut u32, words: usize, out: *mut u8, room: usize) -> Route;
+        pub fn jukesogbi_block(
+            oracle: *const u8, oracle_size: usize, starts: *const u32, starts_count: usize, ends: *const u32, ends_count: usize, work: *mut u32, words: usize,
+        ) -> Times;
     }
 }
 
-/// In `raw::Answer`, and in an oracle's bodies 6 and 7: no walk.
+/// In `raw::Answer` and a block's squares, and in an oracle's bodies 6 and 7: no walk.
 pub const NO_WALK: u32 = u32::MAX;
+
+/// The time that such a number stands for.
+pub fn seconds(number: u32) -> Option<u32> {
+    (number != NO_WALK).then_some(number)
+}
 
 fn answer(a: raw::Answer) -> Result<Answer, Refused> {
     if a.rule != 0 {
         return Err(Refused(a.rule));
     }
     Ok(Answer {
-        seconds: (a.seconds != NO_WALK).then_some(a.seconds),
+        seconds: seconds(a.seconds),
         kind: if a.kind == 1 { Kind::Far } else { Kind::Local },
         pairs: a.pairs,
     })
@@ -174,4 +209,14 @@ pub fn way(oracle: &[u8], s: u32, t: u32, work: &mut [u32], out: &mut [u8]) -> R
         return Err(Refused(r.rule));
     }
     Ok(r.nodes as usize)
+}
+
+/// All times between up to 12 starts and 12 ends.
+pub fn block(oracle: &[u8], starts: &[u32], ends: &[u32], work: &mut [u32]) -> Result<Block, Refused> {
+    let (s, t) = (starts.as_ptr(), ends.as_ptr());
+    let b = unsafe { raw::jukesogbi_block(oracle.as_ptr(), oracle.len(), s, starts.len(), t, ends.len(), work.as_mut_ptr(), work.len()) };
+    if b.rule != 0 {
+        return Err(Refused(b.rule));
+    }
+    Ok(Block { times: b.times })
 }

@@ -4,12 +4,14 @@ use crate::core::{self, Refused};
 use crate::files;
 use std::io::{self, Write};
 
+/// A time as text, `-` for none.
+pub fn seconds_text(seconds: Option<u32>) -> String {
+    seconds.map_or("-".to_string(), |s| s.to_string())
+}
+
 /// One answer as text: seconds or `-`, and the kind.
 pub fn answer_text(a: &core::Answer) -> String {
-    match a.seconds {
-        Some(seconds) => format!("{seconds} {}", a.kind),
-        None => format!("- {}", a.kind),
-    }
+    format!("{} {}", seconds_text(a.seconds), a.kind)
 }
 
 /// Writes the listing, or `refused R`. The inner result is the refusal.

@@ -19,6 +19,7 @@ const USAGE: &str = "usage: jukesogbi COMMAND, where `-` stands for standard inp
   list ORACLE U                  the access list of place U
   way ORACLE [S T]               the places of the way from S to T
                                  time, far and way without S T read pairs `S T`, one a line, from standard input
+  block ORACLE S,S,.. T,T,..     all times from up to 12 places S to up to 12 places T, a line for each S
   listing ORACLE                 all pairs with S below T
   sample N SEED NETWORK          write a road-like network of N places
   draw ORACLE PICTURE.svg [S T]  draw the network, its grid and transit places, and the way from S to T
@@ -84,6 +85,7 @@ fn run(args: Vec<String>) -> Done {
         ["list", oracle, u] => list(&read(oracle)?, number(u)?),
         ["way", oracle, s, t] => print_line(&way_line(&read(oracle)?, number(s)?, number(t)?, lend)?),
         ["way", oracle] => each_pair(oracle, |o, s, t| way_line(o, s, t, lend)),
+        ["block", oracle, starts, ends] => block(&read(oracle)?, &numbers(starts)?, &numbers(ends)?, lend),
         ["listing", oracle] => list_all(&read(oracle)?),
         ["sample", n, seed, network] => write_sample(number(n)?, number(seed)?, network),
         ["draw", oracle, picture] => draw(oracle, picture, None, lend),
@@ -121,6 +123,14 @@ fn options(args: Vec<String>) -> Result<(Vec<String>, Lend), Stop> {
 
 fn number(text: &str) -> Result<u32, Stop> {
     text.parse().or_else(|_| fault(format!("`{text}` is no number from 0 to {}", u32::MAX)))
+}
+
+/// Numbers parted by commas. The empty text names none, which the core may then refuse.
+fn numbers(text: &str) -> Result<Vec<u32>, Stop> {
+    if text.is_empty() {
+        return Ok(Vec::new());
+    }
+    text.split(',').map(number).collect()
 }
 
 fn read(name: &str) -> Result<Vec<u8>, Stop> {
@@ -259,9 +269,18 @@ fn each_pair(oracle: &str, answer: impl Fn(&[u8], u32, u32) -> Result<String, Re
 
 fn list(o: &[u8], u: u32) -> Done {
     for entry in core::list(o, u)?[2..].chunks_exact(6) {
-        let seconds = files::read32(entry, 2);
-        let text = if seconds == core::NO_WALK { "-".to_string() } else { seconds.to_string() };
+        let text = listing::seconds_text(core::seconds(files::read32(entry, 2)));
         print_line(&format!("{} {text}", files::read16(entry, 0)))?;
+    }
+    Ok(())
+}
+
+/// A line for each start, with a time for each end.
+fn block(o: &[u8], starts: &[u32], ends: &[u32], lend: Lend) -> Done {
+    let block = core::block(o, starts, ends, &mut lent_words(o, lend))?;
+    for i in 0..starts.len() {
+        let times: Vec<String> = (0..ends.len()).map(|j| listing::seconds_text(block.seconds(i, j))).collect();
+        print_line(&times.join(" "))?;
     }
     Ok(())
 }

@@ -217,6 +217,18 @@ impl<'a> Tables<'a> {
     }
 }
 
+/// All times between starts and ends, row by row, `NONE` for none. A start has one search, or none where all its ends are far.
+pub fn block(graph: &Graph, cells: &Cells, tables: &Tables, search: &mut Search, starts: &[u32], ends: &[u32]) -> Vec<u32> {
+    let mut times = Vec::with_capacity(starts.len() * ends.len());
+    for s in starts.iter().map(|&s| s as usize) {
+        if ends.iter().any(|&t| !cells.far(s, t as usize)) {
+            search.all(graph, s);
+        }
+        times.extend(ends.iter().map(|&t| t as usize).map(|t| if cells.far(s, t) { tables.far(s, t).unwrap_or(NONE) } else { search.times[t] }));
+    }
+    times
+}
+
 /// The first least walk by node numbers.
 pub fn way(graph: &Graph, search: &mut Search, s: usize, t: usize) -> Vec<u16> {
     search.all(graph, t);

@@ -74,14 +74,14 @@ impl Folder {
         self.0.join(name).exists()
     }
 
-    /// Runs the program with these arguments, parted by blanks.
+    /// Runs the program with these arguments, parted by blanks; '' is an empty one.
     fn run(&self, args: &str) -> Ran {
         self.run_with(args, b"")
     }
 
     fn run_with(&self, args: &str, input: &[u8]) -> Ran {
         let mut child = Command::new(env!("CARGO_BIN_EXE_jukesogbi"))
-            .args(args.split_whitespace())
+            .args(args.split_whitespace().map(|a| if a == "''" { "" } else { a }))
             .current_dir(&self.0)
             .stdin(Stdio::piped())
             .stdout(Stdio::piped())
@@ -229,6 +229,37 @@ fn list_of_a_place() {
 }
 
 #[test]
+fn block_of_times() {
+    let f = Folder::with_files("block");
+    f.run("block line.oracle 0,1,2 2,1,0,2").says("16 7 0 16\n9 0 7 9\n0 9 16 0\n");
+    f.run("block fork.oracle 0,4 3,4").says("10 11\n1 0\n");
+    f.run("block fork.oracle 0 4").says("11\n");
+    f.run("block closed.oracle 0,4 3,4").says("10 -\n- 0\n");
+    f.run("block two.oracle 0,0,3 5,3,2").says("- - 16\n- - 16\n100002 0 -\n");
+    f.run_with("block - 4 0,1", &f.read("fork.oracle")).says("11 6\n");
+    f.run("block line.oracle 2,2,2,2,2,2,2,2,2,2,2,2 1").says(&"9\n".repeat(12));
+    f.run("block line.oracle 1 0,0,0,0,0,0,0,0,0,0,0,0").says("7 7 7 7 7 7 7 7 7 7 7 7\n");
+}
+
+#[test]
+fn block_refuses_by_number() {
+    let f = Folder::with_files("block_refuses");
+    for (starts, ends) in [("''", "0"), ("0", "''"), ("''", "''"), ("0,0,0,0,0,0,0,0,0,0,0,0,0", "1"), ("1", "0,0,0,0,0,0,0,0,0,0,0,0,0")] {
+        let ran = f.run(&format!("block line.oracle {starts} {ends}"));
+        ran.is_refused(17);
+        assert_eq!(ran.err, "rule 17: either side of the block names no place or more than 12\n");
+        f.run(&format!("block line.oracle {starts} {ends} --words 0")).is_refused(17);
+        f.run(&format!("block line.net {starts} {ends}")).is_refused(1);
+    }
+    f.run("block line.oracle 0,3 1").is_refused(12);
+    f.run("block line.oracle 0 1,4294967295").is_refused(12);
+    f.run("block line.oracle '' 3").is_refused(12);
+    f.run("block line.oracle 0 0,0,0,0,0,0,0,0,0,0,0,0,3").is_refused(12);
+    f.run("block line.oracle 0 2 --words 23").is_refused(14);
+    f.run("block line.oracle 0 2 --words 24").says("16\n");
+}
+
+#[test]
 fn pairs_from_standard_input() {
     let f = Folder::with_files("pairs");
     f.run_with("time fork.oracle", b"0 4\n0 3\n\n  4\t0  \n1 1").says("11 far 4\n10 local 0\n11 far 4\n0 local 0\n");
@@ -340,12 +371,13 @@ fn demo_runs_through() {
     assert!(f.has("demo.svg"));
 }
 
-/// No size is as small as this, so that only the head of the table is printed.
+/// No size is as small as this, so that only the heads of the tables are printed.
 #[test]
-fn bench_prints_a_table() {
-    let ran = Folder::new("bench").run("bench 1");
-    assert_eq!((ran.code, ran.text().lines().count()), (0, 2));
-    assert!(ran.text().starts_with("| what | core | plain |"));
+fn bench_prints_two_tables() {
+    let rule = "|---|---|---|---|---|";
+    Folder::new("bench").run("bench 1").says(&format!(
+        "| what | core | plain | unit | core's time / plain's |\n{rule}\n\n| what | block | single calls | unit | block's time / single calls' |\n{rule}\n"
+    ));
 }
 
 #[test]
@@ -355,7 +387,7 @@ fn help_prints_the_usage() {
         let ran = f.run(word);
         assert_eq!((ran.code, ran.err.as_str()), (0, ""));
         assert!(ran.text().starts_with("usage: jukesogbi COMMAND"));
-        for command in ["build", "audit", "time", "far", "list", "way", "listing", "sample", "draw", "demo", "bench"] {
+        for command in ["build", "audit", "time", "far", "list", "way", "block", "listing", "sample", "draw", "demo", "bench"] {
             assert!(ran.text().contains(&format!("\n  {command} ")), "the usage has no {command}");
         }
     }
@@ -369,6 +401,7 @@ fn wrong_use() {
     for wrong in [
         "build", "build line.net 6", "build line.net 6 new more", "audit", "audit line.oracle more", "time", "time line.oracle 0", "time line.oracle 0 1 2",
         "far", "far line.oracle 0", "list line.oracle", "list line.oracle 0 1", "way", "way line.oracle 1", "listing", "listing line.oracle more",
+        "block", "block line.oracle", "block line.oracle 0", "block line.oracle 0 1 2",
         "sample 5 1", "draw line.oracle", "draw line.oracle p.svg 0", "demo more", "bench 1 2", "help more",
     ] {
         let command = wrong.split(' ').next().unwrap();
@@ -376,7 +409,9 @@ fn wrong_use() {
     }
     for wrong in [
         "build line.net six new", "build line.net -6 new", "build line.net 4294967296 new", "time line.oracle a 0", "time line.oracle 0 1.5", "far line.oracle 0 x",
-        "list line.oracle u", "way line.oracle 0 -1", "sample n 1 net", "sample 5 s net", "draw line.oracle p.svg 0 t", "bench many",
+        "list line.oracle u", "way line.oracle 0 -1", "block line.oracle a 0", "block line.oracle 0 1,b", "block line.oracle 0,,1 0", "block line.oracle 0 1,",
+        "block line.oracle , 0", "block line.oracle 0;1 2", "block line.oracle 0 4294967296", "sample n 1 net", "sample 5 s net", "draw line.oracle p.svg 0 t",
+        "bench many",
     ] {
         f.run(wrong).is_wrong("is no number from 0 to 4294967295");
     }
@@ -387,7 +422,8 @@ fn wrong_use() {
 fn files_that_cannot_be_read_or_written() {
     let f = Folder::with_files("files");
     for command in [
-        "build none 6 new", "audit none", "time none 0 1", "time none", "far none 0 1", "list none 0", "way none 0 1", "listing none", "draw none p.svg",
+        "build none 6 new", "audit none", "time none 0 1", "time none", "far none 0 1", "list none 0", "way none 0 1", "block none 0 1", "listing none",
+        "draw none p.svg",
     ] {
         f.run(command).is_wrong("cannot read none: ");
     }

@@ -10,7 +10,7 @@ use jukesogbi::sample::Random;
 
 /// How often each rule was given, with 0 for none.
 #[derive(Debug, Default)]
-struct Given([u64; 17]);
+struct Given([u64; 18]);
 
 impl Given {
     fn count<V>(&mut self, result: &Result<V, u32>) {
@@ -51,7 +51,7 @@ fn build(name: impl Fn() -> String + 'static, bytes: Vec<u8>, n: usize, g: u32, 
     given.count(&case.build(g, WORDS * (n + 2), 2_000).result);
 }
 
-/// Puts every question to a damaged file: all pairs with s in `from`. `n` is about its number of places.
+/// Puts every question to a damaged file: all pairs with s in `from`, one by one and as a block. `n` is about its number of places, 12 at the most.
 fn ask(name: impl Fn() -> String + 'static, bytes: Vec<u8>, n: usize, from: &[u32], given: &mut Given) {
     let case = OracleCase::new(name, bytes);
     let words = WORDS * (n + 2);
@@ -64,6 +64,8 @@ fn ask(name: impl Fn() -> String + 'static, bytes: Vec<u8>, n: usize, from: &[u3
             given.count(&case.way(s, t, words, 2 * n).result);
         }
     }
+    let ends: Vec<u32> = (0..n as u32).rev().collect();
+    given.count(&case.block(from, &ends, words).result);
 }
 
 /// Values to set a byte to that tend to matter: small numbers, neighbours, the signs' edges.
@@ -304,7 +306,7 @@ fn several_changes_at_once() {
             bytes[at] = pick(&mut random, &telling(bytes[at]));
         }
         let text = format!("several changes of seed {seed} on {name}");
-        // Words and places that break 12 and 14, too: the file's rules come first.
+        // Words, places and sides that break 12, 14 and 17, too: the file's rules come first.
         if network {
             let case = NetworkCase::new(move || text.clone(), bytes);
             for (g, words, room) in [(*g, WORDS * n, 2_000), (0, 0, 0), (65, WORDS * n, 2_000), (*g, WORDS * n - 1, 0)] {
@@ -320,10 +322,15 @@ fn several_changes_at_once() {
                     given.count(&case.way(s, t, words, 0).result);
                     given.count(&case.list(t).result);
                 }
+                let last = n as u32 - 1;
+                let sides: [(&[u32], &[u32]); 5] = [(&[0, last], &[last, last, 0]), (&[], &[0]), (&[0], &[last; 13]), (&[last; 13], &[]), (&[], &[n as u32])];
+                for (starts, ends) in sides {
+                    given.count(&case.block(starts, ends, words).result);
+                }
             }
         }
     }
-    given.assert_met(&[0, 1, 2, 3, 4, 5, 6, 7, 8, 9, 10, 11, 12, 13, 14, 15, 16]);
+    given.assert_met(&[0, 1, 2, 3, 4, 5, 6, 7, 8, 9, 10, 11, 12, 13, 14, 15, 16, 17]);
 }
 
 // ---- Well-shaped oracles that were never built ----
@@ -429,6 +436,9 @@ fn random_lists_and_tables() {
             }
             given.count(&case.way(s, 0, words, 2 * n).result);
         }
+        // The first and the last twelve, as far as there are so many.
+        let all = all_places(&plan);
+        given.count(&case.block(&all[..n.min(12)], &all[n.saturating_sub(12)..], words).result);
     }
     given.assert_met(&[0, 13, 16]);
     assert!(several > 10_000, "only {several} far pairs with several sums");
@@ -468,6 +478,7 @@ fn the_greatest_sum() {
     let case = OracleCase::new(|| "Line with the greatest values".to_string(), tables.oracle(&plan, 6));
     assert_eq!(case.far(0, 2).result.unwrap().seconds, Some(1_228_500_000));
     assert_eq!(case.time(2, 0, 24).result.unwrap().seconds, Some(1_228_500_000));
+    assert_eq!(case.block(&[0, 2], &[2], 24).result.unwrap().map(|row| row[0])[..3], [1_228_500_000, 0, 0]);
     assert_eq!(case.audit(24).result, Err(16));
 }
 

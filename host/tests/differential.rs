@@ -3,10 +3,10 @@
 
 mod common;
 
-use common::networks::{self, Plan};
+use common::networks::{self, between, pick, Plan};
 use common::{networks_to_try, NetworkCase, OracleCase};
-use jukesogbi::files;
 use jukesogbi::sample::Random;
+use jukesogbi::{core, files};
 
 const NETWORKS: u64 = 3_000;
 /// Tests that share the networks, so that the machine's cores do.
@@ -22,7 +22,11 @@ struct Met {
     local_none: u64,
     several_tried: u64,
     entries: u64,
-    refusals: [u64; 17],
+    squares: u64,
+    squares_far: u64,
+    squares_none: u64,
+    squares_equal: u64,
+    refusals: [u64; 18],
 }
 
 impl Met {
@@ -116,6 +120,76 @@ fn arguments(case: &OracleCase, random: &mut Random, met: &mut Met) {
     }
 }
 
+/// Names for one side of a block. Some of them come again, or are those of the other side.
+fn names(random: &mut Random, n: u32, count: usize, other: &[u32]) -> Vec<u32> {
+    let mut side: Vec<u32> = Vec::new();
+    for _ in 0..count {
+        let named = [other, &side].concat();
+        let again = !named.is_empty() && random.once_in(3);
+        side.push(if again { pick(random, &named) } else { random.below(n as u64) as u32 });
+    }
+    side
+}
+
+/// A block of 1 to 12 names a side, against the reference and, square by square, against the core's single answers.
+fn block(case: &OracleCase, random: &mut Random, met: &mut Met) {
+    let (n, o) = (case.reference.size() as u32, &case.reference.bytes);
+    let mut work = vec![0; case.words()];
+    let mut count = || between(random, 1, 12) as usize;
+    let (rows, columns) = (count(), count());
+    let starts = names(random, n, rows, &[]);
+    let ends = names(random, n, columns, &starts);
+    case.block(&starts, &ends, work.len() + random.below(3) as usize).result.unwrap();
+    let block = core::block(o, &starts, &ends, &mut work).unwrap();
+    for (i, &s) in starts.iter().enumerate() {
+        for (j, &t) in ends.iter().enumerate() {
+            let single = core::time(o, s, t, &mut work).unwrap();
+            assert_eq!(block.seconds(i, j), single.seconds, "{}: square {i}, {j} of {starts:?} and {ends:?}", (case.input.name)());
+            met.squares += 1;
+            met.squares_far += (single.kind == core::Kind::Far) as u64;
+            met.squares_none += single.seconds.is_none() as u64;
+            met.squares_equal += (s == t) as u64;
+        }
+    }
+    assert!((0..12).all(|i| (0..12).all(|j| i < rows && j < columns || block.times[i][j] == 0)), "an unused square is not zero");
+}
+
+/// Sides of 0, 1, 12 and 13 names, with words enough and too few: 17 comes before 14.
+fn block_counts(case: &OracleCase, random: &mut Random, met: &mut Met) {
+    let (n, words) = (case.reference.size() as u32, case.words());
+    for rows in [0, 1, 12, 13] {
+        for columns in [0, 1, 12, 13] {
+            let (starts, ends) = (names(random, n, rows, &[]), names(random, n, columns, &[]));
+            let outside = [rows, columns].iter().any(|count| [0, 13].contains(count));
+            for (lent, rule) in [(words, None), (words - 1, Some(14)), (0, Some(14))] {
+                let result = case.block(&starts, &ends, lent).result;
+                assert_eq!(result.err(), if outside { Some(17) } else { rule }, "{rows} starts, {columns} ends");
+                met.refusal(&result);
+            }
+        }
+    }
+}
+
+/// A name that is none, up to the thirteenth, beside a side that may be empty or too long: 12 comes before 17 and 14.
+fn block_names(case: &OracleCase, random: &mut Random, met: &mut Met) {
+    let (n, words) = (case.reference.size() as u32, case.words());
+    for none in no_places(n) {
+        for count in [1, 12, 13] {
+            let mut wrong = names(random, n, count, &[]);
+            wrong[count - 1] = none;
+            let others = pick(random, &[0, 1, 12, 13]);
+            let sound = names(random, n, others, &[]);
+            for (starts, ends) in [(&wrong, &sound), (&sound, &wrong), (&wrong, &wrong)] {
+                for lent in [0, words] {
+                    let result = case.block(starts, ends, lent).result;
+                    assert_eq!(result, Err(12), "{starts:?} and {ends:?}");
+                    met.refusal(&result);
+                }
+            }
+        }
+    }
+}
+
 fn try_network(seed: u64, met: &mut Met) {
     let mut random = Random(seed);
     let plan: Plan = networks::network(&mut random);
@@ -134,8 +208,11 @@ fn try_network(seed: u64, met: &mut Met) {
         if round == 0 || n <= 14 {
             all_pairs(&asked, round == 0, met);
         }
+        block(&asked, &mut random, met);
         if round == 0 {
             arguments(&asked, &mut random, met);
+            block_counts(&asked, &mut random, met);
+            block_names(&asked, &mut random, met);
         }
     }
 }
@@ -150,7 +227,8 @@ fn share(k: u64) {
     if networks_to_try(NETWORKS) >= NETWORKS {
         assert!(met.far > met.pairs / 5 && met.far < met.pairs * 4 / 5);
         assert!(met.far_none > 1_000 && met.local_none > 1_000 && met.several_tried > 1_000 && met.entries > 1_000);
-        assert!([8, 12, 13, 14, 15].iter().all(|&rule: &usize| met.refusals[rule] > 1_000));
+        assert!(met.squares_far > met.squares / 5 && met.squares_none > 1_000 && met.squares_equal > 1_000);
+        assert!([8, 12, 13, 14, 15, 17].iter().all(|&rule: &usize| met.refusals[rule] > 1_000));
     }
 }
 

@@ -24,6 +24,8 @@ fn the_c_example_runs() {
         audit: rule 0\n\
         time 0 to 2: 16 seconds, far, 1 pairs\n\
         way 0 to 2: 0 1 2\n\
+        times from 0 to 2, 1, 0: 16 7 0\n\
+        times from 1 to 2, 1, 0: 9 0 7\n\
         list of 0: 8 bytes from 121 on\n\
         too few words: rule 14\n";
     assert_eq!(String::from_utf8_lossy(&run.stdout), text);

@@ -4,8 +4,8 @@
 mod common;
 
 use common::networks::{self, Plan};
-use common::reference::{self, bytes_16, bytes_32, Answer, Outcome, NO_WALK, WORDS};
-use common::{check_time, check_way, Input, NetworkCase, OracleCase};
+use common::reference::{self, bytes_16, bytes_32, Answer, Outcome, Times, NO_WALK, SIDE, WORDS};
+use common::{check_block, check_time, check_way, Input, NetworkCase, OracleCase};
 use jukesogbi::sample::Random;
 
 const PLACES: usize = 4_096;
@@ -56,6 +56,9 @@ fn one_place_under_every_grid() {
             let asked = all_calls("one place", &plan, g, &[(0, 0)]);
             assert_eq!(asked.reference.bytes.len(), 81);
             assert_eq!(asked.list(1).result, Err(12));
+            assert_eq!(asked.block(&[0; SIDE], &[0; SIDE], 8).result, Ok([[0; SIDE]; SIDE]));
+            assert_eq!(asked.block(&[0; SIDE], &[0; SIDE], 7).result, Err(14));
+            assert_eq!(asked.block(&[0; SIDE + 1], &[0; SIDE], 8).result, Err(17));
         }
     }
 }
@@ -104,6 +107,16 @@ fn every_grid_number() {
 
 // ---- The most places ----
 
+/// Twelve places from the first to the last.
+fn spread_out() -> [u32; SIDE] {
+    std::array::from_fn(|i| (i * (PLACES - 1) / (SIDE - 1)) as u32)
+}
+
+/// The times of the pairs of two sides of twelve.
+fn squares(starts: [u32; SIDE], ends: [u32; SIDE], time: impl Fn(u32, u32) -> u32) -> Times {
+    starts.map(|s| ends.map(|t| time(s, t)))
+}
+
 #[test]
 fn most_places_without_roads() {
     let plan = Plan { places: lattice(), ..Plan::default() };
@@ -115,6 +128,10 @@ fn most_places_without_roads() {
             assert_eq!(asked.time(0, none, 32_768).result, Err(12));
             assert_eq!(asked.list(none).result, Err(12));
         }
+        // T is 0: far and local alike, there is a time from a place to itself alone.
+        assert_eq!(reference::body(&asked.reference.bytes, 5).len(), 0);
+        let names = spread_out();
+        assert_eq!(asked.block(&names, &names, 32_768).result, Ok(squares(names, names, |s, t| if s == t { 0 } else { NO_WALK })));
     }
 }
 
@@ -133,6 +150,11 @@ fn most_places_with_few_roads() {
     let asked = all_calls("most places, few roads", &plan, 64, &[(0, last as u32), (last as u32, 1), (10, 30), (5, 4_000)]);
     assert!(reference::body(&asked.reference.bytes, 5).len() > 2);
     assert_eq!(asked.time(0, last as u32, asked.words()).result.unwrap().seconds, Some(100_008));
+    // All ends of roads, their neighbours and the last place twice: far and local times, and none.
+    let (starts, ends) = ([0, 1, 2, 9, 10, 11, 29, 30, 2_000, 2_001, 4_095, 4_095], [4_095, 30, 10, 1, 0, 2_000, 2, 9, 11, 4_094, 4_095, 64]);
+    let times = asked.block(&starts, &ends, asked.words()).result.unwrap();
+    assert_eq!(times[0], [100_008, 100_007, 100_000, 100_020, 0, 100_017, NO_WALK, NO_WALK, NO_WALK, NO_WALK, 100_008, NO_WALK]);
+    assert_eq!(times[10], times[11]);
 }
 
 /// The longest least walk and the longest way: a chain of 4,096 places, 100,000 seconds each. Under 1 nothing is far. The reference's ways
@@ -154,6 +176,12 @@ fn the_longest_way() {
     check_way(&input, 0, last, words, 2 * PLACES - 1, &short);
     check_way(&input, 0, last, words - 1, 2 * PLACES, &Outcome { result: Err(14), zeroed: 0, written: vec![] });
     check_way(&input, 7, 7, words, 2, &way(vec![7]));
+    let (starts, mut ends) = (spread_out(), spread_out());
+    ends.reverse();
+    let times = squares(starts, ends, |s, t| s.abs_diff(t) * 100_000);
+    assert_eq!(times[0][0], 409_500_000);
+    check_block(&input, &starts, &ends, words, &Outcome { result: Ok(times), zeroed: words, written: vec![] });
+    check_block(&input, &starts, &ends, words - 1, &Outcome { result: Err(14), zeroed: 0, written: vec![] });
 }
 
 /// A chain long enough for great times in the lists and the table, short enough to build.
@@ -181,6 +209,22 @@ fn a_great_star() {
     check_way(&input, 4_094, 4_095, words, 6, &Outcome { result: Ok(3), zeroed: words, written: way });
 }
 
+/// Many more names than twelve, among them as many as a cut to 8 or 16 bits would make few: 12 looks at all of them, and 17 at their number.
+#[test]
+fn long_sides() {
+    let asked = OracleCase::new(|| "Line".to_string(), without_transit(&networks::line(), 1));
+    for count in [14, 256 + 1, 256 + 12, 65_536 + 1, 65_536 + 12, 1_000_000] {
+        let sound: Vec<u32> = (0..count).map(|i| i % 3).collect();
+        let mut wrong = sound.clone();
+        wrong[count as usize - 1] = 3;
+        for (names, rule) in [(&sound, 17), (&wrong, 12)] {
+            assert_eq!(asked.block(names, &[0], 24).result, Err(rule));
+            assert_eq!(asked.block(&[0], names, 24).result, Err(rule));
+            assert_eq!(asked.block(names, names, 0).result, Err(rule));
+        }
+    }
+}
+
 #[test]
 fn one_place_too_many() {
     for n in [0, PLACES, PLACES + 1, PLACES + 2, 8_192, 65_536 + 3] {
@@ -192,6 +236,7 @@ fn one_place_too_many() {
         let asked = OracleCase::new(move || format!("oracle of {n} places"), without_transit(&plan, 1));
         assert_eq!(asked.audit(WORDS * n).result.err(), expected);
         assert_eq!(asked.list(0).result.err(), expected);
+        assert_eq!(asked.block(&[], &[], 0).result.err(), expected.or(Some(17)));
         assert_eq!(asked.far(0, 0).result.err(), expected.or(Some(13)));
     }
     let wrong = Plan { places: vec![(LIMIT + 1, 0); PLACES + 1], ..Plan::default() };
@@ -305,6 +350,7 @@ fn the_largest_table() {
     let (last, words) = (PLACES as u32 - 1, WORDS * PLACES);
     assert_eq!(asked.far(0, last).result.unwrap().pairs, 16_777_216);
     assert_eq!(asked.time(last, 0, words).result.unwrap().pairs, 16_777_216);
+    assert!(asked.block(&[last, 0, 0], &[0, 63, last], words).result.is_ok());
     asked.far(0, 63);
     asked.list(last);
     assert_eq!(asked.audit(words).result, Err(16));

@@ -39,6 +39,11 @@ fn trials_on_line() {
     assert_eq!(line.time(0, 2, MUCH).result, answer(true, Some(16), 1));
     assert_eq!(line.far(0, 2).result, answer(true, Some(16), 1));
     assert_eq!(line.time(1, 1, MUCH).result, answer(false, Some(0), 0));
+    let block = line.block(&[0, 1], &[2, 0, 2], 24).result.unwrap();
+    assert_eq!((&block[0][..5], &block[1][..5], &block[2][..5]), (&[16, 0, 16, 0, 0][..], &[9, 7, 9, 0, 0][..], &[0; 5][..]));
+    assert_eq!(line.block(&[0, 1], &[2, 0, 2], 23).result, Err(14));
+    assert_eq!(line.block(&[0, 1], &[], 23).result, Err(17));
+    assert_eq!(line.block(&[3], &[0; 13], 23).result, Err(12));
     let way = line.way(1, 1, MUCH, MUCH);
     assert_eq!((way.result, way.written), (Ok(1), vec![1, 0]));
     assert_eq!(line.audit(24).result, Ok(()));

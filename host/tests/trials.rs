@@ -1,4 +1,5 @@
-//! The trials of document 01, in its order, through the core's safe functions and held to the numbers in its text.
+//! The trials of document 01, in its order, through the core's safe functions and held to the numbers in its text; then blocks of its examples,
+//! and the mistakes it warns of.
 
 mod common;
 
@@ -183,6 +184,7 @@ fn trial_12_words_and_output() {
         assert_eq!(asked.time(0, 1, words).result.err(), rule);
         assert_eq!(asked.audit(words).result.err(), rule);
         assert_eq!(asked.way(0, 2, words, 6).result.err(), rule);
+        assert_eq!(asked.block(&[0], &[2], words).result.err(), rule);
     }
     assert_eq!(asked.way(0, 2, 24, 5).result, Err(15));
 }
@@ -198,6 +200,41 @@ fn the_listing_of_line() {
     let mut text = Vec::new();
     assert_eq!(listing::write(&damaged, &mut text).unwrap(), Err(Refused(9)));
     assert_eq!(String::from_utf8(text).unwrap(), "refused 9\n");
+}
+
+// ---- Blocks ----
+
+/// The block with as many words as are needed, cut to the rows and columns in use. The rest of it must be zero.
+fn block(oracle: &[u8], starts: &[u32], ends: &[u32]) -> Vec<Vec<Option<u32>>> {
+    let block = core::block(oracle, starts, ends, &mut vec![0; files::words_needed(oracle)]).expect("the block is given");
+    for (i, row) in block.times.iter().enumerate() {
+        assert!(row[if i < starts.len() { ends.len() } else { 0 }..].iter().all(|&square| square == 0), "row {i} is {row:?}");
+    }
+    (0..starts.len()).map(|i| (0..ends.len()).map(|j| block.seconds(i, j)).collect()).collect()
+}
+
+/// Line has one walk between two places, so its roads' seconds are added: 7 from 0 to 1, 9 from 1 to 2, and 7 + 9 from 0 to 2, the far pair.
+#[test]
+fn block_of_line() {
+    let times = block(&oracle(&networks::line(), 6), &[0, 1, 2, 0], &[2, 1, 0]);
+    assert_eq!(times, [[16, 7, 0], [9, 0, 7], [0, 9, 16], [16, 7, 0]].map(|row| row.map(Some).to_vec()));
+}
+
+/// On Fork 0, 1, 3 and 2 lie on a round of roads of 5 each, so neighbours on it are 5 apart and opposite places 10; 4 is 1 beyond 3.
+#[test]
+fn block_of_fork() {
+    // Both sides are lent from the same memory.
+    let names = [0, 1, 2, 3, 4, 4];
+    let times = block(&oracle(&networks::fork(), 6), &names[..5], &names);
+    let expected = [[0, 5, 5, 10, 11, 11], [5, 0, 10, 5, 6, 6], [5, 10, 0, 5, 6, 6], [10, 5, 5, 0, 1, 1], [11, 6, 6, 1, 0, 0]];
+    assert_eq!(times, expected.map(|row| row.map(Some).to_vec()));
+}
+
+/// With road 4 closed no road leads to 4: it has a walk to itself alone, and the round is as it was.
+#[test]
+fn block_of_fork_with_road_4_closed() {
+    let times = block(&oracle(&networks::fork_closed(), 6), &[0, 4, 3], &[4, 3, 2]);
+    assert_eq!(times, [[None, Some(10), Some(5)], [Some(0), None, None], [None, Some(0), Some(5)]].map(|row| row.to_vec()));
 }
 
 // ---- Mistakes that a map desk would believe ----

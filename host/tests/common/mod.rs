@@ -8,7 +8,7 @@ pub mod networks;
 pub mod reference;
 
 use jukesogbi::core::raw;
-use reference::{Answer, Built, Outcome, Part, WORDS};
+use reference::{Answer, Built, Outcome, Part, Times, SIDE, WORDS};
 use std::cell::Cell;
 use std::fmt::Debug;
 use std::rc::Rc;
@@ -79,6 +79,12 @@ impl<T: Filler> Lent<T> {
         assert!(self.whole[..GUARD] == self.before, "{}: memory before what was lent has changed", at());
         assert!(self.whole[GUARD + self.size..] == self.after, "{}: memory after what was lent has changed", at());
     }
+
+    /// For what was lent to be read.
+    fn check_kept(&self, content: &[T], at: &dyn Fn() -> String) {
+        assert!(self.part() == content, "{}: what was lent to be read has changed", at());
+        self.check_guards(at);
+    }
 }
 
 /// Working words and output for one call.
@@ -120,9 +126,8 @@ impl Input {
         Input { name: Rc::new(name), lent: Lent::holding(bytes) }
     }
 
-    fn check(&self, bytes: &[u8], at: &dyn Fn() -> String) {
-        assert!(self.lent.part() == bytes, "{}: the file that was lent has changed", at());
-        self.lent.check_guards(at);
+    fn check(&self, bytes: &[u8]) {
+        self.lent.check_kept(bytes, &*self.name);
     }
 
     fn bytes(&self) -> &[u8] {
@@ -163,6 +168,13 @@ fn route_record(result: Result<usize, u32>) -> raw::Route {
     match result {
         Ok(nodes) => raw::Route { rule: 0, nodes: nodes as u32 },
         Err(rule) => raw::Route { rule, nodes: 0 },
+    }
+}
+
+fn times_record(result: Result<Times, u32>) -> raw::Times {
+    match result {
+        Ok(times) => raw::Times { rule: 0, times },
+        Err(rule) => raw::Times { rule, times: [[0; SIDE]; SIDE] },
     }
 }
 
@@ -220,6 +232,18 @@ pub fn check_way(input: &Input, s: u32, t: u32, words: usize, room: usize, expec
     memory.check(expected, &at);
 }
 
+pub fn check_block(input: &Input, starts: &[u32], ends: &[u32], words: usize, expected: &Outcome<Times>) {
+    let at = || format!("{}: block from {starts:?} to {ends:?} with {words} words", (input.name)());
+    let (file, mut memory) = (input.bytes(), Memory::lend(words, 0));
+    let (from, to) = (Lent::holding(starts), Lent::holding(ends));
+    let (s, t, work) = (from.part().as_ptr(), to.part().as_ptr(), memory.words.part_mut().as_mut_ptr());
+    let got = unsafe { raw::jukesogbi_block(file.as_ptr(), file.len(), s, starts.len(), t, ends.len(), work, words) };
+    same(got, times_record(expected.result), &at);
+    memory.check(expected, &at);
+    from.check_kept(starts, &at);
+    to.check_kept(ends, &at);
+}
+
 // ---- Each call against the reference. They answer with the reference's outcome, for counting. ----
 
 /// A file asked as a network.
@@ -249,7 +273,7 @@ impl Drop for NetworkCase {
     /// Once for all calls: the file is as it was.
     fn drop(&mut self) {
         if !std::thread::panicking() {
-            self.input.check(&self.reference.bytes, &*self.input.name);
+            self.input.check(&self.reference.bytes);
         }
     }
 }
@@ -299,13 +323,19 @@ impl OracleCase {
         check_way(&self.input, s, t, words, room, &expected);
         expected
     }
+
+    pub fn block(&self, starts: &[u32], ends: &[u32], words: usize) -> Outcome<Times> {
+        let expected = self.reference.block(starts, ends, words);
+        check_block(&self.input, starts, ends, words, &expected);
+        expected
+    }
 }
 
 impl Drop for OracleCase {
     /// Once for all calls: the file is as it was.
     fn drop(&mut self) {
         if !std::thread::panicking() {
-            self.input.check(&self.reference.bytes, &*self.input.name);
+            self.input.check(&self.reference.bytes);
         }
     }
 }

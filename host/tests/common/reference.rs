@@ -1,5 +1,6 @@
-//! Document 01 in plain Rust, written from its text alone and as slow as its definitions read: every notion is worked out by going over all
-//! places, roads and cells. It shares nothing with the core nor with the host's own modules; bytes, too, are read and written here.
+//! Document 01 in plain Rust, and of document 02 the block, written from their text alone and as slow as their definitions read: every notion is
+//! worked out by going over all places, roads and cells. It shares nothing with the core nor with the host's own modules; bytes, too, are read
+//! and written here.
 
 use std::cell::{OnceCell, RefCell};
 use std::collections::{BTreeMap, BTreeSet};
@@ -14,6 +15,8 @@ const INNER: i64 = 2;
 const OUTER: i64 = 4;
 /// Working words for each place.
 pub const WORDS: usize = 8;
+/// A block has so many rows and columns.
+pub const SIDE: usize = 12;
 /// The entries of a network and of an oracle.
 const NETWORK: usize = 3;
 const ORACLE: usize = 7;
@@ -428,6 +431,9 @@ pub struct Answer {
     pub pairs: usize,
 }
 
+/// The squares of a block.
+pub type Times = [[u32; SIDE]; SIDE];
+
 /// A part of the oracle.
 #[derive(Clone, Copy, Debug, PartialEq, Eq)]
 pub struct Part {
@@ -557,6 +563,11 @@ impl Questions {
         Answer { far: true, seconds: least, pairs: from.len() * to.len() }
     }
 
+    /// The answer for two places.
+    fn answer(&self, shaped: &Shaped, s: usize, t: usize) -> Answer {
+        if shaped.cells.far(s, t) { self.far_answer(s, t) } else { Answer { far: false, seconds: shaped.map.d(s, t), pairs: 0 } }
+    }
+
     /// The audit: 1 to 11, 14, 16.
     pub fn audit(&self, words: usize) -> Outcome<()> {
         let shaped = match &self.read {
@@ -592,10 +603,7 @@ impl Questions {
         if words < needed {
             return Outcome::refused(14);
         }
-        let (s, t) = (s as usize, t as usize);
-        let answer =
-            if shaped.cells.far(s, t) { self.far_answer(s, t) } else { Answer { far: false, seconds: shaped.map.d(s, t), pairs: 0 } };
-        Outcome { result: Ok(answer), zeroed: needed, written: Vec::new() }
+        Outcome { result: Ok(self.answer(shaped, s as usize, t as usize)), zeroed: needed, written: Vec::new() }
     }
 
     /// The far question: 1 to 13.
@@ -634,5 +642,27 @@ impl Questions {
             return Outcome { result: Err(15), zeroed: needed, written: Vec::new() };
         }
         Outcome { result: Ok(places.len()), zeroed: needed, written: places.iter().flat_map(|&u| bytes_16(u)).collect() }
+    }
+
+    /// The block: 1 to 12, 17, 14.
+    pub fn block(&self, starts: &[u32], ends: &[u32], words: usize) -> Outcome<Times> {
+        let shaped = match self.asked(&[starts, ends].concat()) {
+            Ok(shaped) => shaped,
+            Err(rule) => return Outcome::refused(rule),
+        };
+        if [starts, ends].iter().any(|side| side.is_empty() || side.len() > SIDE) {
+            return Outcome::refused(17);
+        }
+        let needed = WORDS * shaped.map.size();
+        if words < needed {
+            return Outcome::refused(14);
+        }
+        let mut times = [[0; SIDE]; SIDE];
+        for (row, &s) in times.iter_mut().zip(starts) {
+            for (square, &t) in row.iter_mut().zip(ends) {
+                *square = self.answer(shaped, s as usize, t as usize).seconds.map_or(NO_WALK, |seconds| seconds as u32);
+            }
+        }
+        Outcome { result: Ok(times), zeroed: needed, written: Vec::new() }
     }
 }
