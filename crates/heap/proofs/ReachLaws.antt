@@ -1,0 +1,189 @@
+-- A node that enters, and one that is lowered. Assumes nothing.
+use Prim.Native.Nat.{ℕ, _+_, _≤_, _<_, min}
+use native.Mathlib.Decide.{ℕ-discrete}
+use native.Mathlib.Omega.{arith}
+use mathlib.Core.Path.{_≡_, refl, sym, ap, subst, _∙_}
+use mathlib.Core.Logic.{_≢_}
+use mathlib.Core.List.{List}
+use lib.ListN.{getD, set, take}
+use lib.Seq.{getD-take, set-getD}
+use Rattle.model.specs.Oracle.{noWalk}
+use Rattle.heap.specs.Words.{Placed, time, node, position, key, swapped}
+use Rattle.heap.specs.Order.{OrderedUp}
+use Rattle.heap.specs.Levels.{Up}
+use Rattle.heap.specs.Sifts.{Kept, Sifted}
+use Rattle.heap.specs.Queue.{Queue, Went, Entered, Lowered, lowered}
+use Rattle.heap.proofs.OrderLaws.{lowered-up, entered-up}
+use Rattle.heap.proofs.SwapLaws.{Swapped, swap-is, swap-kept, swap-keys, kept-more, kept-then, kept-in′, kept-out′}
+use Rattle.heap.proofs.StoreLaws.{queue-of, store-node, store-position, store-same, store-other, store-placed, store-key, store-key-here, store-times}
+
+-- ---- a node that is held is lowered
+module _ (n k e v x : ℕ) (w : List ℕ) (q : Queue n k e w) (v-in : v < n) (small : x < noWalk) where
+  p : Placed n w
+  p = q .placed
+
+  p₁ : Placed n (set w v x)
+  unfolding p
+  p₁ = store-placed n v x w p v-in
+
+  time₁ : (u : ℕ) → time w u < noWalk → time (set w v x) u < noWalk
+  unfolding p
+  time₁ u h = pick (ℕ-discrete u v)
+    where
+      pick : Dec (u ≡ v) → time (set w v x) u < noWalk
+      pick (yes f) = omega (arith, ap (time (set w v x)) f, store-same n v x w p v-in)
+      pick (no m) = omega (arith, store-other n v x w p v-in u m)
+
+  module _ (h : position n w v < k) (less : x < time w v) where
+    pub lower-order : OrderedUp k (position n w v) (key n (set w v x))
+    unfolding p
+    lower-order = lowered-up k (key n w) (key n (set w v x)) (position n w v) (q .order) h
+        (omega (arith, store-key-here n v x w p v-in, ap (time w) (p .there v v-in)))
+        (λ m l ne. store-key n v x w p v-in m (omega (arith, q .held, q .room)) ne)
+
+    pub lower-queue : (w′ : List ℕ) → Sifted n k Up (position n w v) (set w v x) w′ → Lowered n k e v x w w′
+    unfolding p
+    lower-queue w′ s = record {
+      levels = s .levels;
+      went = record {
+        queue = queue-of n k e (set w v x) w′ (kept-more n k e (set w v x) w′ (q .held) (s .kept)) (s .order) (q .held) (q .room)
+            (λ u i l. time₁ u (q .reached u i (omega (arith, kept-in′ n k (set w v x) w′ p₁ (s .kept) u i l, store-position n v x w p v-in u))))
+            (λ u i l r.
+            let a = kept-out′ n k (set w v x) w′ p₁ (s .kept) u i l in
+            let b = store-position n v x w p v-in u in
+            let c : u ≢ v = λ f. omega (arith, ap (position n w) f) in
+            omega (arith, store-other n v x w p v-in u c, q .unreached u i (omega arith) (omega arith)));
+        times = s .kept .times ∙ store-times n v x w p v-in;
+        beyond = λ m l r. s .kept .beyond m (omega (arith, q .held)) r ∙ store-node n v x w p v-in m;
+      };
+    }
+
+  -- ---- a node that is not reached enters
+  module _ (h : k ≤ position n w v) (l : position n w v < e) where
+    abbrev w₂ : List ℕ
+    w₂ = swapped n k (position n w v) (set w v x)
+
+    pub enter-swapped : Swapped n k (position n w v) (set w v x) (swapped n k (position n w v) (set w v x))
+    unfolding p p₁
+    enter-swapped = swap-is n k (position n w v) (set w v x) p₁ (omega (arith, q .room)) (p .positions v v-in)
+
+    s : Swapped n k (position n w v) (set w v x) w₂
+    s = enter-swapped
+
+    k-in : k < n
+    k-in = omega (arith, q .room)
+
+    pub enter-room : k + 1 ≤ n
+    unfolding k-in
+    enter-room = omega (arith, k-in)
+
+    pub enter-order : OrderedUp (k + 1) k (key n (swapped n k (position n w v) (set w v x)))
+    unfolding p k-in
+    enter-order = entered-up k (key n w) (key n w₂) (q .order)
+        (λ m r. swap-keys n k (position n w v) (set w v x) w₂ s n (omega arith) k-in (p .positions v v-in) .others m (omega (arith, k-in)) (λ f. omega arith) (λ f. omega arith)
+        ∙ store-key n v x w p v-in m (omega (arith, k-in)) (λ f. omega arith))
+
+    -- where a node of w₂ stood in w
+    stood : (u m : ℕ) → m < n → node n w₂ m ≡ u → m ≢ k → m ≢ position n w v → position n w u ≡ m
+    unfolding p
+    stood u m i f a b = ap (position n w) (sym f ∙ s .others m i a b ∙ store-node n v x w p v-in m) ∙ p .back m i
+
+    at-k : node n w₂ k ≡ v
+    unfolding p
+    at-k = s .first ∙ store-node n v x w p v-in (position n w v) ∙ p .there v v-in
+
+    at-p : position n w (node n w₂ (position n w v)) ≡ k
+    unfolding p k-in
+    at-p = ap (position n w) (s .second ∙ store-node n v x w p v-in k) ∙ p .back k k-in
+
+    pub enter-queue : (w′ : List ℕ) → Sifted n (k + 1) Up k (swapped n k (position n w v) (set w v x)) w′ → Entered n k e v x w w′
+    unfolding p k-in
+    enter-queue w′ t = record {
+      levels = t .levels;
+      went = record {
+        queue = queue-of n (k + 1) e (set w v x) w′ all (t .order) (omega arith) (q .room) low high;
+        times = t .kept .times ∙ s .times ∙ store-times n v x w p v-in;
+        beyond = λ m a r. all .beyond m a r ∙ store-node n v x w p v-in m;
+      };
+    }
+      where
+        all : Kept n e (set w v x) w′
+        all = kept-then n e (set w v x) w₂ w′ (swap-kept n k (position n w v) (set w v x) w₂ s e (omega arith) l) (kept-more n (k + 1) e w₂ w′ (omega arith) (t .kept))
+
+        low : (u : ℕ) → u < n → position n w′ u < k + 1 → time (set w v x) u < noWalk
+        low u i r = pick (ℕ-discrete (position n w₂ u) k)
+          where
+            r₂ : position n w₂ u < k + 1
+            r₂ = kept-in′ n (k + 1) w₂ w′ (s .placed) (t .kept) u i r
+
+            there₂ : node n w₂ (position n w₂ u) ≡ u
+            there₂ = s .placed .there u i
+
+            pick : Dec (position n w₂ u ≡ k) → time (set w v x) u < noWalk
+            pick (yes f) = omega (arith, ap (time (set w v x)) (sym there₂ ∙ ap (node n w₂) f ∙ at-k), store-same n v x w p v-in)
+            pick (no m) = time₁ u (q .reached u i (omega (arith, r₂, stood u (position n w₂ u) (s .placed .positions u i) there₂ m (λ g. omega (arith, r₂)))))
+
+        high : (u : ℕ) → u < n → k + 1 ≤ position n w′ u → position n w′ u < e → noWalk ≤ time (set w v x) u
+        high u i r r′ = pick (ℕ-discrete (position n w₂ u) (position n w v))
+          where
+            same₂ : position n w₂ u ≡ position n w′ u
+            same₂ = kept-out′ n (k + 1) w₂ w′ (s .placed) (t .kept) u i r
+
+            there₂ : node n w₂ (position n w₂ u) ≡ u
+            there₂ = s .placed .there u i
+
+            done : k ≤ position n w u → position n w u < e → position n w u ≢ position n w v → noWalk ≤ time (set w v x) u
+            done a b c = omega (arith, store-other n v x w p v-in u (λ g. c (ap (position n w) g)), q .unreached u i a b)
+
+            pick : Dec (position n w₂ u ≡ position n w v) → noWalk ≤ time (set w v x) u
+            pick (yes f) =
+                let g : position n w u ≡ k = ap (position n w) (sym there₂ ∙ ap (node n w₂) f) ∙ at-p in
+                done (omega arith) (omega arith) (λ d. omega (arith, same₂))
+            pick (no m) =
+                let g : position n w u ≡ position n w₂ u = stood u (position n w₂ u) (s .placed .positions u i) there₂ (λ d. omega (arith, same₂)) m in
+                done (omega (arith, same₂)) (omega (arith, same₂)) (λ d. m (omega arith))
+
+-- ---- for the code: p is the position as it has read it, after the time was written
+module _ (n k e v x : ℕ) (w : List ℕ) (q : Queue n k e w) (v-in : v < n) (small : x < noWalk) where
+  pub stored : Placed n (set w v x)
+  stored = store-placed n v x w (q .placed) v-in
+
+  module _ (p : ℕ) (ep : p ≡ position n (set w v x) v) where
+    pub read-same : p ≡ position n w v
+    read-same = ep ∙ store-position n v x w (q .placed) v-in v
+
+    module _ (h : position n w v < k) (less : x < time w v) where
+      pub lower-from : OrderedUp k p (key n (set w v x))
+      lower-from = rw read-same (lower-order n k e v x w q v-in small h less)
+
+      pub lower-done : (w′ : List ℕ) → Sifted n k Up p (set w v x) w′ → Lowered n k e v x w w′
+      lower-done w′ s = lower-queue n k e v x w q v-in small h less w′ (subst (λ (m : ℕ). Sifted n k Up m (set w v x) w′) read-same s)
+
+    module _ (h : k ≤ position n w v) (l : position n w v < e) (w₂ : List ℕ) (s : w₂ ≡ swapped n k p (set w v x)) where
+      after : w₂ ≡ swapped n k (position n w v) (set w v x)
+      after = s ∙ ap (λ (m : ℕ). swapped n k m (set w v x)) read-same
+
+      pub enter-from : Placed n w₂ × OrderedUp (k + 1) k (key n w₂)
+      enter-from = rw after (enter-swapped n k e v x w q v-in small h l .placed, enter-order n k e v x w q v-in small h l)
+
+      pub enter-done : (w′ : List ℕ) → Sifted n (k + 1) Up k w₂ w′ → Entered n k e v x w w′
+      enter-done w′ t = enter-queue n k e v x w q v-in small h l w′ (subst (λ (y : List ℕ). Sifted n (k + 1) Up k y w′) after t)
+
+-- ---- a time offered, which is wide
+module _ (n k e v x : ℕ) (w : List ℕ) (q : Queue n k e w) (v-in : v < n) where
+  here : getD (take n w) v 0 ≡ time w v
+  unfolding time
+  here = getD-take n w v 0 v-in
+
+  less-times : x < time w v → set (take n w) v x ≡ lowered (take n w) v x
+  less-times h =
+      let m : min (getD (take n w) v 0) x ≡ x = omega (arith, here) in
+      ap (λ (y : ℕ). set (take n w) v y) (sym m)
+
+  pub offer-less : x < time w v → (w′ : List ℕ) (r : ℕ) → Went n e (set (take n w) v x) w w′ r → Went n e (lowered (take n w) v x) w w′ r
+  offer-less h w′ r g = record { queue = g .queue; times = g .times ∙ less-times h; beyond = g .beyond }
+
+  pub offer-skip : time w v ≤ x → Went n e (lowered (take n w) v x) w w k
+  offer-skip h =
+      let m : min (getD (take n w) v 0) x ≡ getD (take n w) v 0 = omega (arith, here) in
+      record { queue = q; times = sym (ap (λ (y : ℕ). set (take n w) v y) m ∙ set-getD (take n w) v 0); beyond = λ a b c. refl }

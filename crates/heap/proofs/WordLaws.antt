@@ -1,0 +1,70 @@
+-- The halves of the words, after one of them is written. Assumes nothing.
+use Prim.Native.Nat.{ℕ, _+_, _*_, _/_, _%_, _<_}
+use native.Mathlib.Decide.{ℕ-discrete}
+use native.Mathlib.Omega.{arith}
+use mathlib.Core.Path.{_≡_, sym, ap, _∙_}
+use mathlib.Core.Logic.{_≢_}
+use mathlib.Core.List.{List}
+use lib.ListN.{length, getD, set, take, length-set}
+use lib.Seq.{getD-set-same, getD-set-other, take-set-le, getD-take}
+use Rattle.heap.specs.Words.{half, time, node, position, putNode, putPosition}
+
+pub time-same : (n : ℕ) (w w′ : List ℕ) → take n w′ ≡ take n w → (v : ℕ) → v < n → time w′ v ≡ time w v
+unfolding time
+time-same n w w′ e v h = sym (getD-take n w′ v 0 h) ∙ ap (λ (l : List ℕ). getD l v 0) e ∙ getD-take n w v 0 h
+
+module _ (n i : ℕ) (w : List ℕ) (i-in : n + i < length w) where
+  abbrev x : ℕ
+  x = getD w (n + i) 0
+
+  -- ---- a node written at position i
+  module _ (v : ℕ) (v-in : v < half) where
+    pub node-here : node n (putNode n i v w) i ≡ v
+    unfolding node putNode
+    node-here = let e = getD-set-same w (n + i) (x / half * half + v) 0 i-in in rw e (omega arith)
+
+    pub put-positions : (u : ℕ) → position n (putNode n i v w) u ≡ position n w u
+    unfolding position putNode
+    put-positions u = pick (ℕ-discrete u i)
+      where
+        pick : Dec (u ≡ i) → getD (set w (n + i) (x / half * half + v)) (n + u) 0 / half ≡ getD w (n + u) 0 / half
+        pick (no m) = rw (getD-set-other w (n + i) (n + u) (x / half * half + v) 0 (λ e. m (omega arith)))
+        pick (yes e) = rw (e, getD-set-same w (n + i) (x / half * half + v) 0 i-in) (omega arith)
+
+  pub node-apart : (v m : ℕ) → m ≢ i → node n (putNode n i v w) m ≡ node n w m
+  unfolding node putNode
+  node-apart v m ne = ap (λ (y : ℕ). y % half) (getD-set-other w (n + i) (n + m) (x / half * half + v) 0 (λ e. ne (omega arith)))
+
+  pub put-node-times : (v : ℕ) → take n (putNode n i v w) ≡ take n w
+  unfolding putNode
+  put-node-times v = take-set-le n w (n + i) (x / half * half + v) (omega arith)
+
+  pub put-node-size : (v : ℕ) → length (putNode n i v w) ≡ length w
+  unfolding putNode
+  put-node-size v = simp length-set
+
+  -- ---- a position written for node i
+  module _ (p : ℕ) where
+    pub position-here : position n (putPosition n i p w) i ≡ p
+    unfolding position putPosition
+    position-here = let e = getD-set-same w (n + i) (p * half + x % half) 0 i-in in rw e (omega arith)
+
+    pub put-nodes : (m : ℕ) → node n (putPosition n i p w) m ≡ node n w m
+    unfolding node putPosition
+    put-nodes m = pick (ℕ-discrete m i)
+      where
+        pick : Dec (m ≡ i) → getD (set w (n + i) (p * half + x % half)) (n + m) 0 % half ≡ getD w (n + m) 0 % half
+        pick (no d) = rw (getD-set-other w (n + i) (n + m) (p * half + x % half) 0 (λ e. d (omega arith)))
+        pick (yes e) = rw (e, getD-set-same w (n + i) (p * half + x % half) 0 i-in) (omega arith)
+
+    pub position-apart : (u : ℕ) → u ≢ i → position n (putPosition n i p w) u ≡ position n w u
+    unfolding position putPosition
+    position-apart u ne = ap (λ (y : ℕ). y / half) (getD-set-other w (n + i) (n + u) (p * half + x % half) 0 (λ e. ne (omega arith)))
+
+    pub put-position-times : take n (putPosition n i p w) ≡ take n w
+    unfolding putPosition
+    put-position-times = take-set-le n w (n + i) (p * half + x % half) (omega arith)
+
+    pub put-position-size : length (putPosition n i p w) ≡ length w
+    unfolding putPosition
+    put-position-size = simp length-set

@@ -1,0 +1,5 @@
+pub mod Words
+pub mod Order
+pub mod Levels
+pub mod Sifts
+pub mod Queue

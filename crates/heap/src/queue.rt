@@ -1,0 +1,61 @@
+// Entering, lowering and taking out.
+ghost use mathlib.Core.Path.{_≡_};
+ghost use Prim.Native.Nat.{_+_, _<_, _≤_};
+ghost use lib.ListN.{take};
+ghost use Rattle.model.specs.Oracle.{noWalk};
+ghost use Rattle.heap.specs.Words.{position, time};
+ghost use Rattle.heap.specs.Queue.{Queue, Went, Entered, Lowered, Taken, lowered};
+use crate::sift::down;
+use crate::sift::up;
+use crate::words::node_at;
+use crate::words::position_of;
+use crate::words::swap;
+
+// The node v, at position p and not reached yet, enters with x seconds.
+fn enter(w: &mut [u32], n: usize, k: usize, e: usize, v: usize, x: u32)
+    requires { ⌜ Queue n k e (now w) × (v < n) × (k ≤ position n (now w) v) × (position n (now w) v < e) × (x < noWalk) ⌝ }
+    ensures { λ _. ⌜ Entered n k e v x (now (w .entry)) (now (w .exit)) ⌝ }
+{
+    w[v] = x;
+    let p = position_of(w, n, v);
+    swap(w, n, k, p);
+    up(w, n, k + 1, k);
+}
+
+// The node v, which is held, is lowered to x seconds.
+fn lower(w: &mut [u32], n: usize, k: usize, e: usize, v: usize, x: u32)
+    requires { ⌜ Queue n k e (now w) × (v < n) × (position n (now w) v < k) × (x < time (now w) v) ⌝ }
+    ensures { λ _. ⌜ Lowered n k e v x (now (w .entry)) (now (w .exit)) ⌝ }
+{
+    w[v] = x;
+    let p = position_of(w, n, v);
+    up(w, n, k, p);
+}
+
+// The node v, which is not settled, can be reached in x seconds. The number of nodes held. x is wide, so that no sum has to be kept small.
+pub fn offer(w: &mut [u32], n: usize, k: usize, e: usize, v: usize, x: u64) -> usize
+    requires { ⌜ Queue n k e (now w) × (v < n) × (position n (now w) v < e) ⌝ }
+    ensures { λ r. ⌜ Went n e (lowered (take n (now (w .entry))) v x) (now (w .entry)) (now (w .exit)) r ⌝ }
+{
+    if x >= w[v] as u64 {
+        return k;
+    }
+    if position_of(w, n, v) < k {
+        lower(w, n, k, e, v, x as u32);
+        return k;
+    }
+    enter(w, n, k, e, v, x as u32);
+    k + 1
+}
+
+// A nearest of the nodes held is taken out, and stands in front of the settled ones, at position e - 1.
+pub fn take_nearest(w: &mut [u32], n: usize, k: usize, e: usize) -> usize
+    requires { ⌜ Queue n k e (now w) × (0 < k) ⌝ }
+    ensures { λ r. ⌜ Taken n k e (now (w .entry)) (now (w .exit)) r ⌝ }
+{
+    let u = node_at(w, n, 0);
+    swap(w, n, 0, k - 1);
+    swap(w, n, k - 1, e - 1);
+    down(w, n, k - 1);
+    u
+}
