@@ -1,13 +1,10 @@
 -- Arcs that leave a node, one edge at a time. Assumes nothing.
-use Prim.Native.Nat.{ℕ, _+_, _≤_, _<_, min}
-use native.Mathlib.Nat.{min-eq-left, min-eq-right}
-use native.Mathlib.Omega.{arith}
+use Prim.Native.Nat.{ℕ, _+_, min}
 use mathlib.Core.Path.{_≡_, refl, sym, ap, _∙_}
 use mathlib.Core.Bool.{Bool, true, false, cond}
 use mathlib.Core.List.{List, [], _∷_, _++_}
 use borrow.Author.Tests.{eq-eqb, ne-eqb, eqb-true}
 use lib.ListN.{getD, set}
-use lib.Seq.{set-getD}
 use Rattle.model.specs.Lists.{filter, concatMap}
 use Rattle.model.specs.Walk.{Arc}
 use Rattle.model.specs.Network.{Edge, arcsOf}
@@ -36,14 +33,6 @@ leaving-out u arcs = record {
   known = λ a m. filter→ (leaves u) arcs m .0;
   every = λ a m e. →filter (leaves u) arcs m (eq-eqb (a .from) u e);
 }
-
--- ---- one word lowered
-module _ (t : List ℕ) (v x : ℕ) where
-  pub lower-store : x < getD t v 0 → set t v x ≡ set t v (min (getD t v 0) x)
-  lower-store h = rw (min-eq-right {n = x} {m = getD t v 0} (omega arith))
-
-  pub lower-skip : getD t v 0 ≤ x → t ≡ set t v (min (getD t v 0) x)
-  lower-skip h = rw (min-eq-left, set-getD)
 
 -- ---- an arc that may leave u: v and x are its end and the time by it, as the code has read them
 module _ (u d : ℕ) (a : Arc) (t : List ℕ) where

@@ -1,3 +1,2 @@
-// The arcs of the open edges: passing the closed ones, and relaxing those out of a node.
+// The arcs of the open edges: passing the closed ones.
 pub mod closed;
-pub mod relax;

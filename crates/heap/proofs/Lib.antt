@@ -3,6 +3,7 @@ pub mod OrderLaws
 mod LevelLaws
 pub mod WordLaws
 pub mod SwapLaws
+mod FillLaws
 mod SiftLaws
 mod StoreLaws
 mod ReachLaws

@@ -9,6 +9,13 @@ use Rattle.model.specs.Network.{maxNodes}
 abbrev pub half : ℕ
 half = 65536
 
+-- The low half of a word, and the word of node v at position v.
+unfoldable pub low : ℕ → ℕ
+low x = x % half
+
+unfoldable pub own : ℕ → ℕ
+own v = v * half + v
+
 -- The time of node v.
 unfoldable pub time : List ℕ → ℕ → ℕ
 time w v = getD w v 0

@@ -4,7 +4,8 @@ ghost use Prim.Native.Nat.{_+_, _<_};
 ghost use lib.ListN.{length};
 ghost use Rattle.heap.specs.Words.{Placed, half, key, node, position, putNode, putPosition, swapped};
 
-const HALF: u32 = 65536;
+// What a half counts up to.
+pub const HALF: u32 = 65536;
 
 // The node at position i.
 pub fn node_at(w: &[u32], n: usize, i: usize) -> usize

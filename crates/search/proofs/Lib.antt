@@ -1,5 +1,8 @@
--- The laws that the proofs cite.
-mod Scans
+-- The laws that the proofs cite, and that callers cite too.
 pub mod Parts
+mod Views
+mod Keeps
+mod Begins
+mod Relaxes
 mod Turns
 mod Fronts

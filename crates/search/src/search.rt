@@ -4,29 +4,24 @@ ghost use mathlib.Core.Bool.{false};
 ghost use Prim.Native.Nat.{_*_, _<_, _≤_};
 ghost use lib.ListN.{length};
 ghost use Rattle.model.specs.Network.{maxNodes, edgeCount, someEdgeBroken, numbersBroken};
-ghost use Rattle.algorithms.specs.Rounds.{Found, zeros};
+ghost use Rattle.algorithms.specs.Rounds.{Found};
 ghost use Rattle.arcs.specs.Arcs.{arcsIn};
-ghost use Rattle.search.specs.Regions.{timesIn, orderIn, Distinct, settledIn};
+ghost use Rattle.search.specs.Regions.{timesIn, orderIn, Distinct};
+ghost use Rattle.search.specs.Holds.{Holds, SettledFirst};
 ghost use Rattle.search.specs.Round.{Round};
-use crate::regions::nearest_in;
-use crate::regions::relax_in;
+use crate::regions::plain_order;
 use crate::regions::reset;
-use crate::regions::settle_in;
+use crate::regions::settle_nearest;
+use crate::relax::relax;
 
-// Settles a nearest of the e nodes that are not settled, and returns how many are left: e, where none of them is reached.
-fn round(edges: &[u8], closed: &[u8], n: usize, e: usize, work: &mut [u32]) -> usize
-    requires { ⌜ (n ≤ maxNodes) × (length (now work) ≡ 3 * n) × (e ≤ n) × (zeros (settledIn n (now work)) ≡ e) ⌝ }
+// Settles a nearest of the k nodes held, and relaxes the arcs out of it. The number of nodes held then.
+fn round(edges: &[u8], closed: &[u8], n: usize, k: usize, e: usize, work: &mut [u32]) -> usize
+    requires { ⌜ Holds n k e (now work) × (0 < k) × SettledFirst n (now work) ⌝ }
     requires { ⌜ (someEdgeBroken n (now edges) ≡ false) × (numbersBroken (edgeCount (now edges)) (now closed) ≡ false) ⌝ }
-    ensures { λ r. ⌜ Round (arcsIn (now (edges .entry)) (now (closed .entry))) n (now (work .entry)) e (now (work .exit)) r ⌝ }
+    ensures { λ r. ⌜ Round (arcsIn (now (edges .entry)) (now (closed .entry))) n e (now (work .entry)) (now (work .exit)) r ⌝ }
 {
-    let u = nearest_in(work, n);
-    if u == n {
-        return e;
-    }
-    let r = e - 1;
-    settle_in(work, n, r, u);
-    relax_in(edges, closed, work, n, u);
-    r
+    let u = settle_nearest(work, n, k, e);
+    relax(edges, closed, work, n, k - 1, e - 1, u)
 }
 
 // Searches from s. In the lent words then stand the times of all n nodes, and from position e of the order on the nodes that are reached, each once and
@@ -36,13 +31,12 @@ pub fn search(edges: &[u8], closed: &[u8], n: usize, s: usize, work: &mut [u32])
     requires { ⌜ (someEdgeBroken n (now edges) ≡ false) × (numbersBroken (edgeCount (now edges)) (now closed) ≡ false) ⌝ }
     ensures { λ e. ⌜ Found (arcsIn (now (edges .entry)) (now (closed .entry))) n s (timesIn n (now (work .exit))) (orderIn n e (now (work .exit))) × (e ≤ n) × Distinct (orderIn n e (now (work .exit))) ⌝ }
 {
-    reset(work, n, s);
+    let mut k = reset(work, n, s);
     let mut e = n;
-    loop {
-        let r = round(edges, closed, n, e, work);
-        if r == e {
-            return e;
-        }
-        e = r;
+    while 0 < k {
+        k = round(edges, closed, n, k, e, work);
+        e -= 1;
     }
+    plain_order(work, n, e);
+    e
 }

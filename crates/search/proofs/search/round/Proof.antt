@@ -1,53 +1,35 @@
--- `search::round` meets its contract: no node is chosen, or the chosen one is settled.
-use native.Mathlib.Omega.{arith}
-use mathlib.Core.Path.{refl}
+-- `search::round` meets its contract: a nearest node is settled, and no settled one is farther.
 use borrow.Author.Needs.{needs}
 use Rattle.arcs.specs.Arcs.{arcsIn}
-use Rattle.search.specs.Round.{over}
-use Rattle.search.proofs.Turns.{some-left, round-settles}
+use Rattle.search.proofs.Turns.{settled-within, round-done}
 use Rattle.search.proofs.search.round.Statement.{statement}
 use Rattle.search.proofs.search.round.Tie as tie
 
-nearest-in-requires : tie.Need-nearest-in-requires
-nearest-in-requires c κs = search needs
+settle-nearest-requires : tie.Need-settle-nearest-requires
+settle-nearest-requires c κs = search needs
+
+sub-relax : tie.Need-sub-relax
+sub-relax c = search needs
+
+sub-relax-2 : tie.Need-sub-relax-2
+sub-relax-2 c = search needs
+
+relax-requires : tie.Need-relax-requires
+relax-requires c κs =
+    let a = c .before .before .before .before .before .before .before .before .args in
+    let p = c .before .before .before .before .before .before .before .before .pre in
+    let t = c .before .before .before .settle-nearest .ensures in
+    ((t .holds, t .near .inside, settled-within (a .n) (a .k) (a .e) _ (a .work .now) _ t (p .0 .2)), p .1)
 
 same-length : tie.Need-same-length
 same-length c = search needs
 
 returns : tie.Need-returns
-returns c = over (c .before .nearest-in .ensures .over (omega arith)) refl refl
-
-sub-r : tie.Need-sub-r
-sub-r c = some-left _ _ _ _ (c .before .before .before .before .before .before .pre .0 .3) (c .before .nearest-in .ensures) (c .if1 .left)
-
-settle-in-requires : tie.Need-settle-in-requires
-settle-in-requires c κs =
-    let h = some-left _ _ _ _ (c .before .before .before .before .before .before .before .pre .0 .3) (c .before .before .nearest-in .ensures) (c .before .if1 .left) in
-    search needs
-
-relax-in-requires : tie.Need-relax-in-requires
-relax-in-requires c κs = search needs
-
-same-length-2 : tie.Need-same-length-2
-same-length-2 c = search needs
-
-returns-2 : tie.Need-returns-2
-returns-2 c =
-    let a = c .before .before .before .before .before .before .before .before .before .before .before .before .before .before .args in
-    let s = c .before .before .before .before .before .before .settle-in .ensures in
-    let r = c .before .before .relax-in .ensures in
-    round-settles _ _ _ _ (c .before .before .before .before .before .before .before .before .before .before .before .before .before .before .pre .0 .3) (c .before .before .before .before .before .before .before .before .before .nearest-in .ensures) (c .before .before .before .before .before .before .before .before .if1 .left)
-    (arcsIn (a .edges .now) (a .closed .now)) (c .before .before .before .before .before .before .settle-in .last .0) (c .before .before .relax-in .last .1 .1 .0) _ refl (s .0) (s .1 .0) (s .1 .1) (r .0) (r .1)
+returns c =
+    let a = c .before .before .before .before .before .before .before .before .before .before .before .args in
+    round-done (a .n) (a .k) (a .e) _ (a .work .now) _ (c .before .before .before .before .before .before .settle-nearest .ensures) (arcsIn (a .edges .now) (a .closed .now)) _ _ (c .before .before .relax .ensures)
 
 pub round-spec : {M : Type 1} → statement M
 round-spec =
     tie.close
-    (tie.spec
-    nearest-in-requires
-    same-length
-    returns
-    sub-r
-    settle-in-requires
-    relax-in-requires
-    same-length-2
-    returns-2)
+    (tie.spec settle-nearest-requires sub-relax sub-relax-2 relax-requires same-length returns)
