@@ -123,14 +123,18 @@ fn block(case: &Case) -> (String, Duration, Duration) {
     (name, core, calls)
 }
 
-/// Sizes up to `most` nodes.
-pub fn run(most: usize) -> Done {
+/// Sizes up to `n` nodes with three grids; with a grid given, size `n` alone with that one.
+pub fn run(n: usize, grid: Option<u32>) -> Done {
     head("| what | core | plain | unit | core's time / plain's |");
+    let (sizes, grids) = match grid {
+        Some(g) => (vec![n], vec![g]),
+        None => ([256, 1024, 4096].into_iter().filter(|&size| size <= n).collect(), vec![16, 32, 64]),
+    };
     let mut blocks = Vec::new();
-    for n in [256, 1024, 4096].into_iter().filter(|&n| n <= most) {
-        for g in [16, 32, 64] {
+    for n in sizes {
+        for &g in &grids {
             let case = building(n, g);
-            if g == 32 {
+            if g == grid.unwrap_or(32) {
                 asking(&case);
                 blocks.push(block(&case));
             }

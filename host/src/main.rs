@@ -24,7 +24,8 @@ const USAGE: &str = "usage: jukesogbi COMMAND, where `-` stands for standard inp
   sample N SEED NETWORK          write a road-like network of N places
   draw ORACLE PICTURE.svg [S T]  draw the network, its grid and transit places, and the way from S to T
   demo                           try all of this on a sample
-  bench [N]                      measure the core beside plain Rust, with up to N places (4096)
+  bench [N [G]]                  measure the core beside plain Rust, with up to N places (4096)
+                                 bench with G measures N places under a grid of G x G cells alone
 options: --words K lends K working words, --room B lends B bytes of output, where the default is as many as are needed";
 
 /// Why a command ended early.
@@ -91,8 +92,9 @@ fn run(args: Vec<String>) -> Done {
         ["draw", oracle, picture] => draw(oracle, picture, None, lend),
         ["draw", oracle, picture, s, t] => draw(oracle, picture, Some((number(s)?, number(t)?)), lend),
         ["demo"] => demo::run(),
-        ["bench"] => bench::run(4096),
-        ["bench", n] => bench::run(number(n)? as usize),
+        ["bench"] => bench::run(4096, None),
+        ["bench", n] => bench::run(number(n)? as usize, None),
+        ["bench", n, g] => bench_one(number(n)?, number(g)?),
         ["help"] | ["--help"] | ["-h"] => print_line(USAGE),
         [] => fault(USAGE),
         [command, ..] => fault(format!("wrong use of `{command}`\n{USAGE}")),
@@ -299,11 +301,21 @@ fn list_all(o: &[u8]) -> Done {
     }
 }
 
-fn write_sample(n: u32, seed: u32, network: &str) -> Done {
-    if !(1..=4096).contains(&n) {
-        return fault("a network has 1 to 4,096 places");
+/// A sample has as many places as a network may have.
+fn sample_size(n: u32) -> Result<usize, Stop> {
+    if (1..=4096).contains(&n) { Ok(n as usize) } else { fault("a network has 1 to 4,096 places") }
+}
+
+/// The benchmark of one size under one grid.
+fn bench_one(n: u32, g: u32) -> Done {
+    if !(1..=64).contains(&g) {
+        return fault("a grid has 1 to 64 cells a side");
     }
-    let net = sample::network(n as usize, seed as u64);
+    bench::run(sample_size(n)?, Some(g))
+}
+
+fn write_sample(n: u32, seed: u32, network: &str) -> Done {
+    let net = sample::network(sample_size(n)?, seed as u64);
     write(network, &net.to_bytes())?;
     report(network, &format!("sample of {} places, {} roads, {} closed", net.nodes.len(), net.edges.len(), net.closed.len()))
 }

@@ -380,6 +380,25 @@ fn bench_prints_two_tables() {
     ));
 }
 
+/// One size under one grid: the questions are asked on its oracle, under which something is far, or nothing.
+#[test]
+fn bench_of_one_size_and_grid() {
+    let f = Folder::new("bench_one");
+    for (args, far) in [("30 16", 1), ("30 1", 0)] {
+        let ran = f.run(&format!("bench {args}"));
+        assert_eq!((ran.code, ran.err.as_str()), (0, ""));
+        let named = format!(", N {} |", args.replace(' ', ", g "));
+        let rows = |what: &str| ran.text().lines().filter(|l| l.starts_with(&format!("| {what}")) && l.contains(&named)).count();
+        assert_eq!(["build", "check an oracle", "far answers", "local answers", "ways", "block of 144"].map(rows), [1, 1, far, 1, 1, 2], "{}", ran.text());
+    }
+    for wrong in ["bench 0 16", "bench 4097 16"] {
+        f.run(wrong).is_wrong("1 to 4,096");
+    }
+    for wrong in ["bench 30 0", "bench 30 65"] {
+        f.run(wrong).is_wrong("1 to 64");
+    }
+}
+
 #[test]
 fn help_prints_the_usage() {
     let f = Folder::new("help");
@@ -402,7 +421,7 @@ fn wrong_use() {
         "build", "build line.net 6", "build line.net 6 new more", "audit", "audit line.oracle more", "time", "time line.oracle 0", "time line.oracle 0 1 2",
         "far", "far line.oracle 0", "list line.oracle", "list line.oracle 0 1", "way", "way line.oracle 1", "listing", "listing line.oracle more",
         "block", "block line.oracle", "block line.oracle 0", "block line.oracle 0 1 2",
-        "sample 5 1", "draw line.oracle", "draw line.oracle p.svg 0", "demo more", "bench 1 2", "help more",
+        "sample 5 1", "draw line.oracle", "draw line.oracle p.svg 0", "demo more", "bench 1 2 3", "help more",
     ] {
         let command = wrong.split(' ').next().unwrap();
         f.run(wrong).is_wrong(&format!("wrong use of `{command}`"));
@@ -411,7 +430,7 @@ fn wrong_use() {
         "build line.net six new", "build line.net -6 new", "build line.net 4294967296 new", "time line.oracle a 0", "time line.oracle 0 1.5", "far line.oracle 0 x",
         "list line.oracle u", "way line.oracle 0 -1", "block line.oracle a 0", "block line.oracle 0 1,b", "block line.oracle 0,,1 0", "block line.oracle 0 1,",
         "block line.oracle , 0", "block line.oracle 0;1 2", "block line.oracle 0 4294967296", "sample n 1 net", "sample 5 s net", "draw line.oracle p.svg 0 t",
-        "bench many",
+        "bench many", "bench 1 many",
     ] {
         f.run(wrong).is_wrong("is no number from 0 to 4294967295");
     }

@@ -38,14 +38,6 @@ fn all_calls(name: &'static str, plan: &Plan, g: u32, pairs: &[(u32, u32)]) -> O
     asked
 }
 
-/// An oracle with T 0 and all lists empty, as building gives it where nothing is far. Bodies 6 and 7 need no search then.
-fn without_transit(plan: &Plan, g: u32) -> Vec<u8> {
-    let [places, roads, closed] = plan.bodies();
-    let n = plan.places.len();
-    let access = (0..n).flat_map(|u| bytes_32(4 * n + 2 * u)).chain(vec![0; 2 * n]).collect();
-    reference::file(&[places, roads, closed, bytes_16(g as usize).to_vec(), Vec::new(), access, Vec::new()])
-}
-
 // ---- Few places ----
 
 #[test]
@@ -164,7 +156,7 @@ fn the_longest_way() {
     let places = (0..PLACES as i32).map(|k| (k, 0)).collect();
     let roads = (0..PLACES as u16 - 1).map(|u| (u, u + 1, 100_000)).collect();
     let plan = Plan { places, roads, closed: vec![] };
-    let input = Input::new(|| "chain".to_string(), &without_transit(&plan, 1));
+    let input = Input::new(|| "chain".to_string(), &plan.without_transit(1));
     let (last, words) = (PLACES as u32 - 1, WORDS * PLACES);
     let answer = |seconds| Outcome { result: Ok(Answer { far: false, seconds: Some(seconds), pairs: 0 }), zeroed: words, written: vec![] };
     check_time(&input, 0, last, words, &answer(409_500_000));
@@ -201,7 +193,7 @@ fn a_long_chain() {
 fn a_great_star() {
     let roads = (1..PLACES as u16).map(|u| (u, 0, u as u32)).collect();
     let plan = Plan { places: lattice(), roads, closed: vec![] };
-    let input = Input::new(|| "star".to_string(), &without_transit(&plan, 1));
+    let input = Input::new(|| "star".to_string(), &plan.without_transit(1));
     let words = WORDS * PLACES;
     let expected = Outcome { result: Ok(Answer { far: false, seconds: Some(4_094 + 4_095), pairs: 0 }), zeroed: words, written: vec![] };
     check_time(&input, 4_094, 4_095, words, &expected);
@@ -212,7 +204,7 @@ fn a_great_star() {
 /// Many more names than twelve, among them as many as a cut to 8 or 16 bits would make few: 12 looks at all of them, and 17 at their number.
 #[test]
 fn long_sides() {
-    let asked = OracleCase::new(|| "Line".to_string(), without_transit(&networks::line(), 1));
+    let asked = OracleCase::new(|| "Line".to_string(), networks::line().without_transit(1));
     for count in [14, 256 + 1, 256 + 12, 65_536 + 1, 65_536 + 12, 1_000_000] {
         let sound: Vec<u32> = (0..count).map(|i| i % 3).collect();
         let mut wrong = sound.clone();
@@ -233,7 +225,7 @@ fn one_place_too_many() {
         let case = NetworkCase::new(move || format!("{n} places"), plan.bytes());
         assert_eq!(case.build(1, WORDS * PLACES, 200_000).result.err(), expected);
         // As an oracle, too; and 4 is not looked for before 3.
-        let asked = OracleCase::new(move || format!("oracle of {n} places"), without_transit(&plan, 1));
+        let asked = OracleCase::new(move || format!("oracle of {n} places"), plan.without_transit(1));
         assert_eq!(asked.audit(WORDS * n).result.err(), expected);
         assert_eq!(asked.list(0).result.err(), expected);
         assert_eq!(asked.block(&[], &[], 0).result.err(), expected.or(Some(17)));
@@ -290,7 +282,7 @@ fn one_road_too_many() {
         let expected = if count == ROADS { None } else { Some(5) };
         let case = NetworkCase::new(move || format!("{count} roads"), plan.bytes());
         assert_eq!(case.build(6, 24, 1_000_000).result.err(), expected);
-        let asked = OracleCase::new(move || format!("oracle of {count} roads"), without_transit(&plan, 6));
+        let asked = OracleCase::new(move || format!("oracle of {count} roads"), plan.without_transit(6));
         assert_eq!(asked.list(0).result.err(), expected);
     }
     // 6 and 7 are not looked for before 5.

@@ -20,7 +20,7 @@ use Rattle.search.specs.Held.{time-in}
 use Rattle.search.specs.Round.{Settles}
 use Rattle.search.proofs.Views.{order-same, order-longer, queue-size, queue-is, queue-settled, bits-size, bits-queue, bits-inserted}
 
-pub times-queue : (n : ℕ) (w : List ℕ) → take n (queueIn n w) ≡ timesIn n w
+times-queue : (n : ℕ) (w : List ℕ) → take n (queueIn n w) ≡ timesIn n w
 times-queue n w = take-take n (2 * n) w (omega arith)
 
 -- A node that stands at one of the last positions stood there before.
@@ -31,26 +31,27 @@ stood n e q q′ p p′ beyond v i l =
     let t : node n q (position n q′ v) ≡ v = sym (beyond (position n q′ v) l b) ∙ p′ .there v i in
     sym (ap (position n q) t) ∙ p .back (position n q′ v) b
 
+-- And one that stands before those stood before them.
+stood-before : (n e : ℕ) (q q′ : List ℕ) → Placed n q → Placed n q′ → ((m : ℕ) → e ≤ m → m < n → node n q′ m ≡ node n q m)
+    → (v : ℕ) → v < n → position n q′ v < e → position n q v < e
+stood-before n e q q′ p p′ beyond v i l =
+    let r : ¬ (e ≤ position n q v) = λ g. omega (arith, stood n e q′ q p′ p (λ m a b. sym (beyond m a b)) v i g) in
+    omega arith
+
+-- ---- a node is offered
 module _ (n k e : ℕ) (w w′ : List ℕ) (h : Holds n k e w) (size : length w′ ≡ 3 * n) where
-  -- ---- a node is offered
-  pub offered : (d : List ℕ) (r : ℕ) → Went n e d (queueIn n w) (queueIn n w′) r → settledIn n w′ ≡ settledIn n w → Relaxed n e d w w′ r
+  offered : (d : List ℕ) (r : ℕ) → Went n e d (queueIn n w) (queueIn n w′) r → settledIn n w′ ≡ settledIn n w → Relaxed n e d w w′ r
   offered d r t s = record {
     holds = record {
       size = size;
       queue = t .queue;
       settled = λ v i l. rw s (h .settled v i (omega (arith, stood n e (queueIn n w) (queueIn n w′) (h .queue .placed) (t .queue .placed) (t .beyond) v i l)));
-      fresh = λ v i l. rw s (h .fresh v i (still v i l));
+      fresh = λ v i l. rw s (h .fresh v i (stood-before n e (queueIn n w) (queueIn n w′) (h .queue .placed) (t .queue .placed) (t .beyond) v i l));
     };
     times = sym (times-queue n w′) ∙ t .times;
     order = order-same n e w w′ (h .size) size (t .beyond);
     settled = s;
   }
-    where
-      still : (v : ℕ) → v < n → position n (queueIn n w′) v < e → position n (queueIn n w) v < e
-      still v i l =
-          let r : ¬ (e ≤ position n (queueIn n w) v) = λ g.
-          omega (arith, stood n e (queueIn n w′) (queueIn n w) (t .queue .placed) (h .queue .placed) (λ m a b. sym (t .beyond m a b)) v i g) in
-          omega arith
 
 -- A settled node keeps its time, which is no more than x.
 pub not-offered : (n k e v x : ℕ) (w : List ℕ) → Holds n k e w → at (timesIn n w) v ≤ x → Relaxed n e (lowered (timesIn n w) v x) w w k
@@ -93,9 +94,8 @@ module _ (n k e u : ℕ) (w w′ : List ℕ) (h : Holds n k e w) (size : length 
 
   still-fresh : (v : ℕ) → v < n → position n q′ v < e - 1 → at (set (settledIn n w) u 1) v ≡ 0
   still-fresh v i l =
-      let r : ¬ (e ≤ position n q v) = λ g. omega (arith, stood n e q′ q (t .queue .placed) (h .queue .placed) (λ m a b. sym (t .beyond m a b)) v i g) in
       let d : ¬ (v ≡ u) = λ c. omega (arith, ap (position n q′) c, last-place) in
-      getD-set-other (settledIn n w) u v 1 0 d ∙ h .fresh v i (omega arith)
+      getD-set-other (settledIn n w) u v 1 0 d ∙ h .fresh v i (stood-before n e q q′ (h .queue .placed) (t .queue .placed) (t .beyond) v i (omega arith))
 
   nearest-held : Nearest n (timesIn n w) (settledIn n w) u
   nearest-held = record {
@@ -105,7 +105,7 @@ module _ (n k e u : ℕ) (w w′ : List ℕ) (h : Holds n k e w) (size : length 
     nearest = λ v i z. omega (arith, time-in n w u (t .inside), time-in n w v i, t .nearest v i (unsettled-below n k e v w h i z));
   }
 
-  pub taken-out : Settles n k e w w′ u
+  taken-out : Settles n k e w w′ u
   taken-out = record {
     near = nearest-held;
     holds = record { size = size; queue = t .queue; settled = λ v i l. rw s (now-settled v i l); fresh = λ v i l. rw s (still-fresh v i l) };

@@ -26,6 +26,14 @@ impl Plan {
     pub fn bytes(&self) -> Vec<u8> {
         reference::file(&self.bodies())
     }
+
+    /// An oracle with T 0 and all lists empty, as building gives it where nothing is far. Bodies 6 and 7 need no search then.
+    pub fn without_transit(&self, g: u32) -> Vec<u8> {
+        let [places, roads, closed] = self.bodies();
+        let n = self.places.len();
+        let access = (0..n).flat_map(|u| bytes_32(4 * n + 2 * u)).chain(vec![0; 2 * n]).collect();
+        reference::file(&[places, roads, closed, bytes_16(g as usize).to_vec(), Vec::new(), access, Vec::new()])
+    }
 }
 
 // ---- The networks of the trials ----

@@ -1,4 +1,4 @@
--- `relax::closed_at` meets its contract.
+-- `closed::closed_at` meets its contract.
 use borrow.Author.Needs.{needs}
 use borrow.Author.Tests.{lt-ltb, le-ltb}
 use Rattle.arcs.specs.Arcs.{closedAt}

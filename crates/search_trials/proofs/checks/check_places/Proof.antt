@@ -1,0 +1,52 @@
+-- `checks::check_places` meets its contract. Assumes nothing.
+use Prim.Native.Nat.{_-_}
+use mathlib.Core.Path.{_≡_}
+use lib.ListN.{length}
+use borrow.Author.Needs.{needs}
+use Rattle.search_trials.proofs.checks.check_places.Statement.{statement}
+use Rattle.search_trials.proofs.checks.check_places.Tie as tie
+
+abbrev Inv-loop : tie.InvT-loop
+Inv-loop tally₀ work least seen₀ n e end before₀ i₀ tally seen before i = (length tally ≡ length tally₀) × (length seen ≡ length seen₀)
+
+abbrev μ-loop : tie.MeasureT-loop
+μ-loop tally₀ work least seen₀ n e end before₀ i₀ tally seen before i = end - i
+
+loop-holds : tie.Need-loop-holds Inv-loop μ-loop
+loop-holds c = search needs
+
+check-place-requires : tie.Need-check-place-requires Inv-loop μ-loop
+check-place-requires c κs = search needs
+
+add-i : tie.Need-add-i Inv-loop μ-loop
+add-i c = search needs
+
+loop-less : tie.Need-loop-less Inv-loop μ-loop
+loop-less c = search needs
+
+loop-again : tie.Need-loop-again Inv-loop μ-loop
+loop-again c = search needs
+
+same-length : tie.Need-same-length Inv-loop μ-loop
+same-length c = search needs
+
+same-length-2 : tie.Need-same-length-2 Inv-loop μ-loop
+same-length-2 c = search needs
+
+returns : tie.Need-returns Inv-loop μ-loop
+returns c = search needs
+
+pub check-places-spec : {M : Type 1} → statement M
+check-places-spec =
+    tie.close
+    (tie.spec
+    Inv-loop
+    μ-loop
+    loop-holds
+    check-place-requires
+    add-i
+    loop-less
+    loop-again
+    same-length
+    same-length-2
+    returns)
