@@ -5,8 +5,8 @@ use mathlib.Core.Logic.{_≢_}
 use mathlib.Core.List.{List}
 use lib.ListN.{take}
 use Rattle.heap.specs.Words.{Placed, node, key, swapped}
-use Rattle.heap.specs.Order.{Ordered, OrderedUp, OrderedDown}
-use Rattle.heap.specs.Levels.{Up, Down, Few}
+use Rattle.heap.specs.Order.{Ordered}
+use Rattle.heap.specs.Levels.{Few}
 
 -- The nodes of the first k positions may have changed their positions, and nothing else.
 pub record Kept (n k : ℕ) (w w′ : List ℕ) : Type 0 where
@@ -14,21 +14,12 @@ pub record Kept (n k : ℕ) (w w′ : List ℕ) : Type 0 where
   pub times : take n w′ ≡ take n w
   pub beyond : (m : ℕ) → k ≤ m → m < n → node n w′ m ≡ node n w m
 
--- One level upwards from i: it leads to r, which is i where the order holds.
-pub record Rose (n k i : ℕ) (w w′ : List ℕ) (r : ℕ) : Type 0 where
+-- One level on from i, upwards or downwards: it leads to r, which is i where the node belongs there. Partly is what holds of the keys as long as it may go on.
+pub record Level (n k : ℕ) (On : ℕ → ℕ → Type 0) (Partly : ℕ → ℕ → (ℕ → ℕ) → Type 0) (i : ℕ) (w w′ : List ℕ) (r : ℕ) : Type 0 where
   pub kept : Kept n k w w′
-  pub order : OrderedUp k r (key n w′)
-  pub inside : r < k
+  pub order : Partly k r (key n w′)
   pub done : r ≡ i → Ordered k (key n w′) × (w′ ≡ w)
-  pub moved : r ≢ i → Up i r × (w′ ≡ swapped n i r w)
-
--- One level downwards from i.
-pub record Fell (n k i : ℕ) (w w′ : List ℕ) (r : ℕ) : Type 0 where
-  pub kept : Kept n k w w′
-  pub order : OrderedDown k r (key n w′)
-  pub inside : r ≤ k
-  pub done : r ≡ i → Ordered k (key n w′) × (w′ ≡ w)
-  pub moved : r ≢ i → Down i r × (w′ ≡ swapped n i r w)
+  pub moved : r ≢ i → On i r × (r < k) × (w′ ≡ swapped n i r w)
 
 -- The node at position i has gone to where it belongs among the first k, in at most 12 levels.
 pub record Sifted (n k : ℕ) (On : ℕ → ℕ → Type 0) (i : ℕ) (w w′ : List ℕ) : Type 0 where

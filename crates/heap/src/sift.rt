@@ -6,7 +6,7 @@ ghost use Prim.Native.Nat.{_+_, _<_, _≤_};
 ghost use Rattle.heap.specs.Words.{Placed, key};
 ghost use Rattle.heap.specs.Order.{OrderedUp, OrderedDown, Lesser};
 ghost use Rattle.heap.specs.Levels.{Up, Down};
-ghost use Rattle.heap.specs.Sifts.{Rose, Fell, Sifted};
+ghost use Rattle.heap.specs.Sifts.{Level, Sifted};
 use crate::words::key_at;
 use crate::words::swap;
 
@@ -16,7 +16,7 @@ const LEVELS: usize = 12;
 // One level up from i, if the order asks for it: where that leads.
 fn rise(w: &mut [u32], n: usize, k: usize, i: usize) -> usize
     requires { ⌜ Placed n (now w) × (k ≤ n) × (i < k) × OrderedUp k i (key n (now w)) ⌝ }
-    ensures { λ r. ⌜ Rose n k i (now (w .entry)) (now (w .exit)) r ⌝ }
+    ensures { λ r. ⌜ Level n k Up OrderedUp i (now (w .entry)) (now (w .exit)) r ⌝ }
 {
     if i == 0 {
         return i;
@@ -69,7 +69,7 @@ fn lesser(w: &[u32], n: usize, k: usize, i: usize) -> usize
 // One level down from i, if the order asks for it: where that leads.
 fn fall(w: &mut [u32], n: usize, k: usize, i: usize) -> usize
     requires { ⌜ Placed n (now w) × (k ≤ n) × (i ≤ k) × OrderedDown k i (key n (now w)) ⌝ }
-    ensures { λ r. ⌜ Fell n k i (now (w .entry)) (now (w .exit)) r ⌝ }
+    ensures { λ r. ⌜ Level n k Down OrderedDown i (now (w .entry)) (now (w .exit)) r ⌝ }
 {
     let c = lesser(w, n, k, i);
     if c >= k {

@@ -17,12 +17,12 @@ loop-holds : tie.Need-loop-holds Inv-loop μ-loop
 loop-holds c =
     let a = c .before .args in
     let p = c .before .pre in
-    falling-first (a .n) (a .k) (a .w .now) (p .0) (p .1) (p .2)
+    falling-first (a .n) (a .k) (a .w .now) (p .0) (p .2)
 
 fall-requires : tie.Need-fall-requires Inv-loop μ-loop
 fall-requires c κs =
     let s = c .before .before .loop .inv in
-    (s .kept .placed, c .before .before .before .before .pre .1, s .inside, s .order)
+    (s .going .kept .placed, c .before .before .before .before .pre .1, s .inside, s .going .order)
 
 same-length : tie.Need-same-length Inv-loop μ-loop
 same-length c = search needs
