@@ -101,6 +101,10 @@ module _ (closed : Bytes) (i j : ℕ) where
           let ne : ¬ (y ≡ i) = eqb-false y i q in
           ⊎-elim (λ z. omega arith) (λ z. omega (arith, rising-above y (drop (j + 1) (words16 closed)) (r .rises) x z)) (List·Memᴰ·cases-cons (rw k at m))
 
+-- The closed edge at position j is none of those passed.
+pub closed-ahead : (closed : Bytes) (i j x : ℕ) → Ahead i (drop j (words16 closed)) → closedAt closed j x ≡ true → i ≤ x
+closed-ahead closed i j x a e = let r = rw (here closed x j e) at a in r .from x (List·Memᴰ·head refl)
+
 -- ---- a loop over the open edges: what is left from edge i on, with the closed edges from position j on, gives the whole
 pub record Partway {S : Type 0} (f : Edge → S → S) (b closed : Bytes) (s₀ : S) (i j : ℕ) (s : S) : Type 0 where
   pub behind : j ≤ i

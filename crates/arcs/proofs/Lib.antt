@@ -2,3 +2,4 @@
 pub mod Leaving
 pub mod Ahead
 pub mod Bodies
+pub mod Passing

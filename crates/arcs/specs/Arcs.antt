@@ -1,7 +1,7 @@
 -- The arcs of a network's bodies. Assumes nothing.
-use Prim.Native.Nat.{ℕ, _*_, _/_}
+use Prim.Native.Nat.{ℕ, _*_, _/_, _≤_, _<_}
 use mathlib.Core.Path.{_≡_, refl}
-use mathlib.Core.Bool.{Bool, _&&_}
+use mathlib.Core.Bool.{Bool, true, false, _&&_}
 use mathlib.Core.List.{List, [], _∷_}
 use lib.ListN.{length}
 use lib.Dec.{eqb, ltb}
@@ -30,6 +30,16 @@ leaving u arcs = filter (leaves u) arcs
 -- Position j of the closed edges is within their list, and edge i stands there.
 unfoldable pub closedAt : Bytes → ℕ → ℕ → Bool
 closedAt closed j i = ltb j (length closed / 2) && eqb (word16 closed (2 * j)) i
+
+-- r is the closed edge at position j, or m where there is none.
+pub record NextClosed (closed : Bytes) (j m r : ℕ) : Type 0 where
+  pub inside : r ≤ m
+  pub before : (i : ℕ) → i < r → closedAt closed j i ≡ false
+  pub here : r < m → closedAt closed j r ≡ true
+
+-- Neither end of the edge is u.
+abbrev pub Apart : ℕ → Edge → Type 0
+Apart u e = (e .first ≡ u → ⊥) × (e .second ≡ u → ⊥)
 
 -- What passing the edges one after another makes of s, where each edge e makes f e s of it.
 unfoldable pub overEdges : {S : Type 0} → (Edge → S → S) → List Edge → S → S

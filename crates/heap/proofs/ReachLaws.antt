@@ -14,7 +14,7 @@ use Rattle.heap.specs.Levels.{Up}
 use Rattle.heap.specs.Sifts.{Kept, Sifted}
 use Rattle.heap.specs.Queue.{Queue, Went, Entered, Lowered, lowered}
 use Rattle.heap.proofs.OrderLaws.{lowered-up, entered-up}
-use Rattle.heap.proofs.SwapLaws.{Swapped, swap-is, swap-kept, swap-keys, kept-more, kept-then, kept-in′, kept-out′}
+use Rattle.heap.proofs.SwapLaws.{Swapped, swap-is, swap-kept, swap-keys, kept-more, kept-then, stood, stood-before}
 use Rattle.heap.proofs.StoreLaws.{queue-of, store-node, store-position, store-same, store-other, store-placed, store-key, store-key-here, store-times}
 
 -- ---- a node that is held is lowered
@@ -47,9 +47,9 @@ module _ (n k e v x : ℕ) (w : List ℕ) (q : Queue n k e w) (v-in : v < n) (sm
       levels = s .levels;
       went = record {
         queue = queue-of n k e (set w v x) w′ (kept-more n k e (set w v x) w′ (q .held) (s .kept)) (s .order) (q .held) (q .room)
-            (λ u i l. time₁ u (q .reached u i (omega (arith, kept-in′ n k (set w v x) w′ p₁ (s .kept) u i l, store-position n v x w p v-in u))))
+            (λ u i l. time₁ u (q .reached u i (omega (arith, stood-before n k (set w v x) w′ p₁ (s .kept .placed) (s .kept .beyond) u i l, store-position n v x w p v-in u))))
             (λ u i l r.
-            let a = kept-out′ n k (set w v x) w′ p₁ (s .kept) u i l in
+            let a = stood n k (set w v x) w′ p₁ (s .kept .placed) (s .kept .beyond) u i l in
             let b = store-position n v x w p v-in u in
             let c : u ≢ v = λ f. omega (arith, ap (position n w) f) in
             omega (arith, store-other n v x w p v-in u c, q .unreached u i (omega arith) (omega arith)));
@@ -84,9 +84,9 @@ module _ (n k e v x : ℕ) (w : List ℕ) (q : Queue n k e w) (v-in : v < n) (sm
         ∙ store-key n v x w p v-in m (omega (arith, k-in)) (λ f. omega arith))
 
     -- where a node of w₂ stood in w
-    stood : (u m : ℕ) → m < n → node n w₂ m ≡ u → m ≢ k → m ≢ position n w v → position n w u ≡ m
+    stood-at : (u m : ℕ) → m < n → node n w₂ m ≡ u → m ≢ k → m ≢ position n w v → position n w u ≡ m
     unfolding p
-    stood u m i f a b = ap (position n w) (sym f ∙ s .others m i a b ∙ store-node n v x w p v-in m) ∙ p .back m i
+    stood-at u m i f a b = ap (position n w) (sym f ∙ s .others m i a b ∙ store-node n v x w p v-in m) ∙ p .back m i
 
     at-k : node n w₂ k ≡ v
     unfolding p
@@ -114,20 +114,20 @@ module _ (n k e v x : ℕ) (w : List ℕ) (q : Queue n k e w) (v-in : v < n) (sm
         low u i r = pick (ℕ-discrete (position n w₂ u) k)
           where
             r₂ : position n w₂ u < k + 1
-            r₂ = kept-in′ n (k + 1) w₂ w′ (s .placed) (t .kept) u i r
+            r₂ = stood-before n (k + 1) w₂ w′ (s .placed) (t .kept .placed) (t .kept .beyond) u i r
 
             there₂ : node n w₂ (position n w₂ u) ≡ u
             there₂ = s .placed .there u i
 
             pick : Dec (position n w₂ u ≡ k) → time (set w v x) u < noWalk
             pick (yes f) = omega (arith, ap (time (set w v x)) (sym there₂ ∙ ap (node n w₂) f ∙ at-k), store-same n v x w p v-in)
-            pick (no m) = time₁ u (q .reached u i (omega (arith, r₂, stood u (position n w₂ u) (s .placed .positions u i) there₂ m (λ g. omega (arith, r₂)))))
+            pick (no m) = time₁ u (q .reached u i (omega (arith, r₂, stood-at u (position n w₂ u) (s .placed .positions u i) there₂ m (λ g. omega (arith, r₂)))))
 
         high : (u : ℕ) → u < n → k + 1 ≤ position n w′ u → position n w′ u < e → noWalk ≤ time (set w v x) u
         high u i r r′ = pick (ℕ-discrete (position n w₂ u) (position n w v))
           where
             same₂ : position n w₂ u ≡ position n w′ u
-            same₂ = kept-out′ n (k + 1) w₂ w′ (s .placed) (t .kept) u i r
+            same₂ = stood n (k + 1) w₂ w′ (s .placed) (t .kept .placed) (t .kept .beyond) u i r
 
             there₂ : node n w₂ (position n w₂ u) ≡ u
             there₂ = s .placed .there u i
@@ -140,7 +140,7 @@ module _ (n k e v x : ℕ) (w : List ℕ) (q : Queue n k e w) (v-in : v < n) (sm
                 let g : position n w u ≡ k = ap (position n w) (sym there₂ ∙ ap (node n w₂) f) ∙ at-p in
                 done (omega arith) (omega arith) (λ d. omega (arith, same₂))
             pick (no m) =
-                let g : position n w u ≡ position n w₂ u = stood u (position n w₂ u) (s .placed .positions u i) there₂ (λ d. omega (arith, same₂)) m in
+                let g : position n w u ≡ position n w₂ u = stood-at u (position n w₂ u) (s .placed .positions u i) there₂ (λ d. omega (arith, same₂)) m in
                 done (omega (arith, same₂)) (omega (arith, same₂)) (λ d. m (omega arith))
 
 -- ---- for the code: p is the position as it has read it, after the time was written

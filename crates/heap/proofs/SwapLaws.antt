@@ -185,27 +185,20 @@ module _ (n i j : ℕ) (w w′ : List ℕ) (s : Swapped n i j w w′) where
     others = λ m l a b. key-of m (omega arith) m (s .others m (omega arith) a b);
   }
 
--- The nodes of the first k positions are the same.
-module _ (n k : ℕ) (w w′ : List ℕ) (p : Placed n w) (q : Kept n k w w′) where
-  pub kept-out : (v : ℕ) → v < n → k ≤ position n w v → position n w′ v ≡ position n w v
-  kept-out v h l =
-      let r = p .positions v h in
-      ap (position n w′) (sym (q .beyond (position n w v) l r ∙ p .there v h)) ∙ q .placed .back (position n w v) r
+-- Where the nodes from position k on are the same, a node that stands there stood there before.
+pub stood : (n k : ℕ) (w w′ : List ℕ) → Placed n w → Placed n w′ → ((m : ℕ) → k ≤ m → m < n → node n w′ m ≡ node n w m)
+    → (v : ℕ) → v < n → k ≤ position n w′ v → position n w v ≡ position n w′ v
+stood n k w w′ p p′ beyond v i l =
+    let b = p′ .positions v i in
+    let t : node n w (position n w′ v) ≡ v = sym (beyond (position n w′ v) l b) ∙ p′ .there v i in
+    sym (ap (position n w) t) ∙ p .back (position n w′ v) b
 
-  pub kept-out′ : (v : ℕ) → v < n → k ≤ position n w′ v → position n w v ≡ position n w′ v
-  kept-out′ v h l =
-      let r = q .placed .positions v h in
-      ap (position n w) (sym (sym (q .beyond (position n w′ v) l r) ∙ q .placed .there v h)) ∙ p .back (position n w′ v) r
-
-  pub kept-in : (v : ℕ) → v < n → position n w v < k → position n w′ v < k
-  kept-in v h l =
-      let r : ¬ (k ≤ position n w′ v) = λ g. omega (arith, kept-out′ v h g) in
-      omega arith
-
-  pub kept-in′ : (v : ℕ) → v < n → position n w′ v < k → position n w v < k
-  kept-in′ v h l =
-      let r : ¬ (k ≤ position n w v) = λ g. omega (arith, kept-out v h g) in
-      omega arith
+-- And one that stands before them stood before them.
+pub stood-before : (n k : ℕ) (w w′ : List ℕ) → Placed n w → Placed n w′ → ((m : ℕ) → k ≤ m → m < n → node n w′ m ≡ node n w m)
+    → (v : ℕ) → v < n → position n w′ v < k → position n w v < k
+stood-before n k w w′ p p′ beyond v i l =
+    let r : ¬ (k ≤ position n w v) = λ g. omega (arith, stood n k w′ w p′ p (λ m a b. sym (beyond m a b)) v i g) in
+    omega arith
 
 -- For the code: the nodes that it has read, and the words after each of its four writes.
 pub swap-read : (n i j : ℕ) (w : List ℕ) (a b : ℕ) → a ≡ node n w i → b ≡ node n w j → (w₁ w₂ w₃ w₄ : List ℕ)

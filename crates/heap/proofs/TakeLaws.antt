@@ -13,7 +13,7 @@ use Rattle.heap.specs.Sifts.{Kept, Sifted}
 use Rattle.heap.specs.Queue.{Queue, Taken}
 use Rattle.heap.proofs.OrderLaws.{least-first, taken-down}
 use Rattle.heap.proofs.WordLaws.{time-same}
-use Rattle.heap.proofs.SwapLaws.{Swapped, swap-is, swap-kept, swap-keys, kept-more, kept-then, kept-in′, kept-out′}
+use Rattle.heap.proofs.SwapLaws.{Swapped, swap-is, swap-kept, swap-keys, kept-more, kept-then, stood, stood-before}
 use Rattle.heap.proofs.StoreLaws.{queue-of}
 
 -- ---- the first is taken
@@ -112,14 +112,14 @@ module _ (n k e : ℕ) (w : List ℕ) (q : Queue n k e w) (some : 0 < k) where
 
       low : (v : ℕ) → v < n → position n w′ v < k - 1 → time w₂ v < noWalk
       low v i r =
-          let r₂ = kept-in′ n (k - 1) w₂ w′ (t .placed) (d .kept) v i r in
+          let r₂ = stood-before n (k - 1) w₂ w′ (t .placed) (d .kept .placed) (d .kept .beyond) v i r in
           let a = stood₂ (position n w₂ v) r₂ in
           let b = ap (position n w) (t .placed .there v i) in
           omega (arith, time-same n w w₂ (to₂ .times) v i, q .reached v i (omega arith))
 
       high : (v : ℕ) → v < n → k - 1 ≤ position n w′ v → position n w′ v < e - 1 → noWalk ≤ time w₂ v
       high v i r r′ =
-          let c = kept-out′ n (k - 1) w₂ w′ (t .placed) (d .kept) v i r in
+          let c = stood n (k - 1) w₂ w′ (t .placed) (d .kept .placed) (d .kept .beyond) v i r in
           let a = stood₃ (position n w₂ v) (omega arith) (omega arith) in
           let b = ap (position n w) (t .placed .there v i) in
           omega (arith, time-same n w w₂ (to₂ .times) v i, q .unreached v i (omega arith) (omega arith))

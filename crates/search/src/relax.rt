@@ -9,7 +9,8 @@ ghost use Rattle.arcs.specs.Arcs.{arcsIn, leaving};
 ghost use Rattle.search.specs.Regions.{timesIn};
 ghost use Rattle.search.specs.Holds.{Holds, Relaxed, SettledWithin};
 use crate::regions::offer_in;
-use arcs::closed::closed_at;
+use arcs::closed::next_closed;
+use arcs::ends::next_at;
 use codec::records::EDGE_SIZE;
 use codec::records::edge_first;
 use codec::records::edge_second;
@@ -63,12 +64,14 @@ pub fn relax(
     let mut i = 0;
     let mut j = 0;
     while i < m {
-        if closed_at(closed, j, i) {
-            j += 1;
+        let stop = next_closed(closed, j, m);
+        let r = next_at(edges, i, stop, u);
+        if r < stop {
+            held = relax_edge(edges, r, work, n, held, e, u, d);
         } else {
-            held = relax_edge(edges, i, work, n, held, e, u, d);
+            j += 1;
         }
-        i += 1;
+        i = r + 1;
     }
     held
 }

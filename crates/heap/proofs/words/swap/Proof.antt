@@ -26,7 +26,12 @@ same-length : tie.Need-same-length
 same-length c = search needs
 
 returns : tie.Need-returns
-returns c = swap-read (c .before .before .before .before .before .before .before .before .before .before .before .before .before .before .before .before .before .before .before .before .before .args .n) (c .before .before .before .before .before .before .before .before .before .before .before .before .before .before .before .before .before .before .before .before .before .args .i) (c .before .before .before .before .before .before .before .before .before .before .before .before .before .before .before .before .before .before .before .before .before .args .j) (c .before .before .before .before .before .before .before .before .before .before .before .before .before .before .before .before .before .before .before .before .before .args .w .now) _ _ (c .before .before .before .before .before .before .before .before .before .before .before .before .before .before .before .before .before .before .node-at .ensures .0) (c .before .before .before .before .before .before .before .before .before .before .before .before .before .before .before .before .node-at2 .ensures .0) _ _ _ _ (c .before .before .before .before .before .before .before .before .before .before .before .before .before .before .put-node .ensures) (c .before .before .before .before .before .before .before .before .before .before .put-node2 .ensures) (c .before .before .before .before .before .before .put-position .ensures) (c .before .before .put-position2 .ensures)
+returns c =
+    let a = c .before .before .before .before .before .before .before .before .before .before .before .before .before .before .before .before .before .before .before .before .before .args in
+    swap-read (a .n) (a .i) (a .j) (a .w .now) _ _ (c .before .before .before .before .before .before .before .before .before .before .before .before .before .before .before .before .before .before .node-at .ensures .0) (c .before .before .before .before .before .before .before .before .before .before .before .before .before .before .before .before .node-at2 .ensures .0)
+    _ _ _ _ (c .before .before .before .before .before .before .before .before .before .before .before .before .before .before .put-node .ensures) (c .before .before .before .before .before .before .before .before .before .before .put-node2 .ensures)
+    (c .before .before .before .before .before .before .put-position .ensures)
+    (c .before .before .put-position2 .ensures)
 
 pub swap-spec : {M : Type 1} → statement M
 swap-spec =
