@@ -11,7 +11,7 @@ use crate::words::node_at;
 use crate::words::position_of;
 use crate::words::swap;
 
-// The node v, at position p and not reached yet, enters with x seconds.
+// The node v, which is not reached yet, enters with x seconds: it comes behind the nodes held, and rises past at most 12 levels.
 fn enter(w: &mut [u32], n: usize, k: usize, e: usize, v: usize, x: u32)
     requires { ⌜ Queue n k e (now w) × (v < n) × (k ≤ position n (now w) v) × (position n (now w) v < e) × (x < noWalk) ⌝ }
     ensures { λ _. ⌜ Entered n k e v x (now (w .entry)) (now (w .exit)) ⌝ }
@@ -22,7 +22,7 @@ fn enter(w: &mut [u32], n: usize, k: usize, e: usize, v: usize, x: u32)
     up(w, n, k + 1, k);
 }
 
-// The node v, which is held, is lowered to x seconds.
+// The node v, which is held, is lowered to x seconds: it rises past at most 12 levels.
 fn lower(w: &mut [u32], n: usize, k: usize, e: usize, v: usize, x: u32)
     requires { ⌜ Queue n k e (now w) × (v < n) × (position n (now w) v < k) × (x < time (now w) v) ⌝ }
     ensures { λ _. ⌜ Lowered n k e v x (now (w .entry)) (now (w .exit)) ⌝ }
@@ -48,7 +48,8 @@ pub fn offer(w: &mut [u32], n: usize, k: usize, e: usize, v: usize, x: u64) -> u
     k + 1
 }
 
-// A nearest of the nodes held is taken out, and stands in front of the settled ones, at position e - 1.
+// A nearest of the nodes held is taken out, and stands in front of the settled ones, at position e - 1. The last of the heap takes its place, and sinks past at
+// most 12 levels.
 pub fn take_nearest(w: &mut [u32], n: usize, k: usize, e: usize) -> usize
     requires { ⌜ Queue n k e (now w) × (0 < k) ⌝ }
     ensures { λ r. ⌜ Taken n k e (now (w .entry)) (now (w .exit)) r ⌝ }
