@@ -1,5 +1,5 @@
 -- A set of numbers as bits of 32-bit words: number v is bit v % 32 of word v / 32. Assumes nothing.
-use Prim.Native.Nat.{ℕ, _/_, _%_, _^_}
+use Prim.Native.Nat.{ℕ, _+_, _/_, _%_, _^_}
 use mathlib.Core.Bool.{Bool, cond}
 use mathlib.Core.List.{List, map}
 use lib.ListN.{getD, set}
@@ -10,6 +10,10 @@ use Rattle.model.specs.Lists.{upTo}
 -- The bits of a word.
 abbrev pub wordBits : ℕ
 wordBits = 32
+
+-- The words that a set of the numbers below n is given.
+abbrev pub setWords : ℕ → ℕ
+setWords n = n / wordBits + 1
 
 -- v is in the set.
 unfoldable pub isIn : List ℕ → ℕ → Bool

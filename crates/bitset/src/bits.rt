@@ -4,9 +4,16 @@ ghost use mathlib.Core.Bool.{_||_};
 ghost use Prim.Native.Nat.{ℕ, _/_, _<_};
 ghost use lib.Dec.{eqb};
 ghost use lib.ListN.{length};
-ghost use Rattle.bitset.specs.Bits.{wordBits, isIn, insertIn};
+ghost use Rattle.bitset.specs.Bits.{wordBits, setWords, isIn, insertIn};
 
 const WORD_BITS: usize = 32;
+
+// The words that a set of the numbers below n is given.
+pub fn set_words(n: usize) -> usize
+    ensures { λ r. ⌜ r ≡ setWords n ⌝ }
+{
+    n / WORD_BITS + 1
+}
 
 pub fn contains(s: &[u32], v: usize) -> bool
     requires { ⌜ v / wordBits < length (now s) ⌝ }
