@@ -1,11 +1,10 @@
 -- The gathered nodes of a cell, and its access nodes among them. Assumes nothing.
-use Prim.Native.Nat.{ℕ, _+_, _-_, _*_, _≤_, _<_}
+use Prim.Native.Nat.{ℕ, _<_}
 use native.Mathlib.Omega.{arith}
 use mathlib.Core.Path.{_≡_, refl, sym, _∙_}
 use mathlib.Core.Logic.{_↔_}
 use mathlib.Core.Bool.{true}
 use mathlib.Core.List.{List, List·Memᴰ}
-use borrow.Rule.Slice.PartMut.{midOf, putMid}
 use lib.ListN.{length, drop, length-map}
 use Rattle.model.specs.Lists.{upTo, member}
 use Rattle.model.specs.Bytes.{Bytes, words16}
@@ -19,24 +18,26 @@ use Rattle.theory.specs.Sound.{open-fine}
 use Rattle.theory.specs.AccessLaws.{between-walks, crossing-node}
 use Rattle.bitset.specs.Bits.{flags}
 use Rattle.arcs.specs.Arcs.{arcsIn}
+use Rattle.index.specs.Index.{Roads}
 use Rattle.grid.specs.declared.Grid.{Grid}
 use Rattle.crossing.specs.Sets.{testFlags, memberFlags, both}
 use Rattle.crossing.specs.SetLaws.{flags-test, test-flags-same}
 use Rattle.crossing.specs.Ground.{cellsIn, Ground}
 use Rattle.crossing.specs.AccessFlags.{toward, through, access-flags}
 use Rattle.marks.specs.Due.{Flagged}
-use Rattle.access.specs.Regions.{regionFlags, Only, want, own, gathered}
+use Rattle.layout.specs.Regions.{regionAt, regionFlags, Only, want, own, gathered, transit}
 use Rattle.access.specs.Gathered.{Gathered, Kept}
 use Rattle.access.specs.Networks.{networkIn}
-use Rattle.access.proofs.Windows.{put-flags, drop-more, flags-kept}
+use Rattle.layout.proofs.Windows.{after-kept, flags-kept}
+use Rattle.layout.proofs.Indexed.{roads-only}
 use Rattle.access.proofs.Flagging.{flagged→, →flagged, member→, →member}
 use Rattle.theory.specs.Tests.{same-test}
 
--- ---- the crossing nodes of a square, in a region
-pub crossed : (n k m : ℕ) (w ys : List ℕ) → k * n + n ≤ length w → length ys ≡ length (midOf (k * n) (k * n + n - k * n) w) → n ≡ m
-    → (l : List ℕ) → flags m ys ≡ memberFlags m l → regionFlags n k (putMid (k * n) (k * n + n - k * n) w ys) ≡ memberFlags n l
-crossed n k m w ys h e q l f = put-flags (k * n) n w h ys e ∙ rw q f
+-- The index stays where the starts are put into x, and the goals into y.
+pub roads-crossed : (edges closed : Bytes) (n : ℕ) (w x y : List ℕ) → Only n own w x → Only n want x y → Roads edges closed n w → Roads edges closed n y
+roads-crossed edges closed n w x y o q r = roads-only edges closed n x y _ _ (omega arith) q (roads-only edges closed n w x _ _ (omega arith) o r)
 
+-- ---- which nodes are flagged as members
 module _ (n : ℕ) (l : List ℕ) (v : ℕ) where
   listed→ : Flagged (memberFlags n l) v → (v < n) × List·Memᴰ v l
   unfolding memberFlags
@@ -107,20 +108,20 @@ module _ (b e c : Bytes) (grid : Grid) (ground : Ground b e c grid) (n : ℕ) (s
     -- From the words w, with the starts put into x, the goals into y, and gathered into z.
     pub gathered-cell : (w x y z : List ℕ) → regionFlags n own x ≡ memberFlags n ps → Only n own w x → regionFlags n want y ≡ memberFlags n qs → Only n want x y
         → ((v : ℕ) → Flagged (regionFlags n gathered z) v ↔ Gathered (arcsIn e c) (regionFlags n own y) (regionFlags n want y) v) → Kept n y z
-        → (regionFlags n gathered z ≡ testFlags (through (distance net) ps qs) n) × (drop (6 * n) z ≡ drop (6 * n) w)
+        → (regionFlags n gathered z ≡ testFlags (through (distance net) ps qs) n) × (drop (regionAt n transit) z ≡ drop (regionAt n transit) w)
     gathered-cell w x y z f o g q k r =
         let f′ : regionFlags n own y ≡ memberFlags n ps = flags-kept n own want x y (λ i. omega arith) q ∙ f in (
-          gathered-flags (drop (gathered * n) z) (rw (f′, g) at k),
-          r .rest ∙ (drop-more (3 * n + n) (6 * n) x y (omega arith) (q .back) ∙ drop-more (4 * n + n) (6 * n) w x (omega arith) (o .back)),
+          gathered-flags (drop (regionAt n gathered) z) (rw (f′, g) at k),
+          r .rest ∙ (after-kept _ _ x y q (regionAt n transit) (omega arith) ∙ after-kept _ _ w x o (regionAt n transit) (omega arith)),
         )
 
     -- From the words w, gathered into x, with the inner crossing nodes put into y, and those that are in both into z.
-    pub access-cell : (w x y z : List ℕ) → regionFlags n gathered x ≡ testFlags (through (distance net) ps qs) n → drop (6 * n) x ≡ drop (6 * n) w
+    pub access-cell : (w x y z : List ℕ) → regionFlags n gathered x ≡ testFlags (through (distance net) ps qs) n → drop (regionAt n transit) x ≡ drop (regionAt n transit) w
         → regionFlags n want y ≡ memberFlags n (crossings cs (net .edges) model.innerRadius cell) → Only n want x y
         → regionFlags n own z ≡ both (regionFlags n want y) (regionFlags n gathered y) → Only n own y z
-        → (regionFlags n own z ≡ memberFlags n (accessNodes (distance net) cs (net .edges) cell)) × (drop (6 * n) z ≡ drop (6 * n) w)
+        → (regionFlags n own z ≡ memberFlags n (accessNodes (distance net) cs (net .edges) cell)) × (drop (regionAt n transit) z ≡ drop (regionAt n transit) w)
     access-cell w x y z f r g o m p =
         let f′ : regionFlags n gathered y ≡ testFlags (through (distance net) ps qs) n = flags-kept n gathered want x y (λ i. omega arith) o ∙ f in (
           m ∙ rw (g, f′) (sym (rw count-cells at (access-flags (distance net) cs (net .edges) cell))),
-          drop-more (4 * n + n) (6 * n) y z (omega arith) (p .back) ∙ (drop-more (3 * n + n) (6 * n) x y (omega arith) (o .back) ∙ r),
+          after-kept _ _ y z p (regionAt n transit) (omega arith) ∙ (after-kept _ _ x y o (regionAt n transit) (omega arith) ∙ r),
         )

@@ -1,98 +1,84 @@
--- A loop over the nodes that puts those of a test into a region. Assumes nothing.
-use Prim.Native.Nat.{ℕ, _+_, _*_, _≤_, _<_}
+-- A loop over the words of a set that makes each of them anew. Assumes nothing.
+use Prim.Native.Nat.{ℕ, _+_, _/_, _≤_, _<_}
 use native.Mathlib.Decide.{ℕ-discrete}
 use native.Mathlib.Omega.{arith}
 use mathlib.Core.Path.{_≡_, refl, sym, ap, _∙_}
-use mathlib.Core.Bool.{Bool, true, false, _||_, _&&_, cond, and-false, or-false}
-use mathlib.Core.List.{List, []}
-use borrow.Author.Tests.{eq-eqb, ne-eqb, ltb-true, lt-ltb}
-use lib.Dec.{eqb, ltb}
-use lib.ListN.{length, getD, set, drop, replicate, length-set}
-use lib.Seq.{getD-set-same, getD-set-other, ext-getD}
-use Rattle.model.specs.Lists.{member}
-use Rattle.bitset.specs.Bits.{isIn}
-use Rattle.crossing.specs.Sets.{testFlags, memberFlags, either, both}
-use Rattle.crossing.specs.SetLaws.{flags-test, length-test-flags, test-flag-at, test-flags-same, either-test, both-test, no-members}
-use Rattle.theory.specs.Tests.{refuted, same-test}
-use Rattle.access.specs.Regions.{regionFlags, Only}
-use Rattle.access.proofs.Windows.{only-same, only-then, flags-kept, in-kept}
+use mathlib.Core.List.{List}
+use lib.Bits.{bitAnd, bitOr}
+use lib.ListN.{length, getD, set, drop, length-set}
+use lib.Seq.{getD-set-same, getD-set-other, getD-take, getD-drop, take-set-le, drop-set-lt}
+use Rattle.bitset.specs.Bits.{setWords}
+use Rattle.bitset.proofs.Joined.{in-either, in-both}
+use Rattle.crossing.specs.Sets.{either, both}
+use Rattle.crossing.specs.SetLaws.{flags-either, flags-both}
+use Rattle.layout.specs.Regions.{regionAt, region, regionFlags, Only}
+use Rattle.layout.proofs.Windows.{only-same, only-then, region-kept}
 
--- One more number.
-set-test : (q : ℕ → Bool) (n v : ℕ) → v < n → set (testFlags q n) v 1 ≡ testFlags (λ u. eqb u v || q u) n
-set-test q n v h =
-    ext-getD 0 (set (testFlags q n) v 1) (testFlags (λ u. eqb u v || q u) n) (simp length-set (length-test-flags q n ∙ sym (length-test-flags (λ u. eqb u v || q u) n)))
-    (λ u l. let k : u < n = omega (arith, length-set (testFlags q n) v 1, length-test-flags q n) in pick u k (ℕ-discrete u v) ∙ sym (test-flag-at (λ u. eqb u v || q u) n u k))
-  where
-    pick : (u : ℕ) → u < n → Dec (u ≡ v) → getD (set (testFlags q n) v 1) u 0 ≡ cond (eqb u v || q u) 1 0
-    pick u k (yes e) = rw (e, eq-eqb v v refl, getD-set-same (testFlags q n) v 1 0 (rw length-test-flags h))
-    pick u k (no d) = rw (ne-eqb u v d, getD-set-other (testFlags q n) v u 1 0 d, test-flag-at q n u k)
-
--- The test below v, or the first set.
-module _ (p q : ℕ → Bool) (n : ℕ) where
-  abbrev upto : ℕ → ℕ → Bool
-  upto v u = (ltb u v && p u) || q u
-
-  none : testFlags q n ≡ testFlags (upto 0) n
-  none = test-flags-same _ _ n (λ u k. rw (refuted {b = ltb u 0} (λ e. omega (arith, ltb-true u 0 e))))
-
-  all : (v : ℕ) → n ≤ v → testFlags (upto v) n ≡ testFlags (λ u. p u || q u) n
-  all v h = test-flags-same _ _ n (λ u k. rw (lt-ltb u v (omega arith)))
-
-  later : (u v : ℕ) → (u ≡ v → ⊥) → ltb u v ≡ ltb u (v + 1)
-  later u v d = same-test (λ e. lt-ltb u (v + 1) (omega (arith, ltb-true u v e))) (λ e. lt-ltb u v (omega (arith, ltb-true u (v + 1) e, d)))
-
-  one : (v : ℕ) → v < n → cond (p v) (set (testFlags (upto v) n) v 1) (testFlags (upto v) n) ≡ testFlags (upto (v + 1)) n
-  one v h = pick (p v) refl
-    where
-      here : (u : ℕ) → p v ≡ true → Dec (u ≡ v) → (eqb u v || upto v u) ≡ upto (v + 1) u
-      here u e (yes i) = rw (i, eq-eqb v v refl, lt-ltb v (v + 1) (omega arith), e)
-      here u e (no d) = rw (ne-eqb u v d, later u v d)
-
-      skip : (u : ℕ) → p v ≡ false → Dec (u ≡ v) → upto v u ≡ upto (v + 1) u
-      skip u e (yes i) = rw (i, e, and-false, and-false)
-      skip u e (no d) = rw (later u v d)
-
-      pick : (b : Bool) → p v ≡ b → cond b (set (testFlags (upto v) n) v 1) (testFlags (upto v) n) ≡ testFlags (upto (v + 1)) n
-      pick true e = set-test (upto v) n v h ∙ test-flags-same _ _ n (λ u k. here u e (ℕ-discrete u v))
-      pick false e = test-flags-same _ _ n (λ u k. skip u e (ℕ-discrete u v))
-
--- ---- over the words: they were w₀, and are w when the nodes below v are passed
-pub record Filling (p : ℕ → Bool) (n k : ℕ) (w₀ : List ℕ) (v : ℕ) (w : List ℕ) : Type 0 where
-  pub room : v ≤ n
+-- The words were w₀, and are w when the first i words of the set in region k are made what `word` says.
+pub record Filling (word : ℕ → ℕ) (n k : ℕ) (w₀ : List ℕ) (i : ℕ) (w : List ℕ) : Type 0 where
+  pub room : i ≤ setWords n
   pub size : length w ≡ length w₀
   pub others : Only n k w₀ w
-  pub members : regionFlags n k w ≡ testFlags (upto p (isIn (drop (k * n) w₀)) n v) n
+  pub made : 0 < n → (j : ℕ) → j < i → getD w (regionAt n k + j) 0 ≡ word j
+  pub ahead : (j : ℕ) → i ≤ j → getD w (regionAt n k + j) 0 ≡ getD w₀ (regionAt n k + j) 0
 
-module _ (p : ℕ → Bool) (n k : ℕ) (w₀ : List ℕ) where
-  pub first : Filling p n k w₀ 0 w₀
-  first = record { room = omega arith; size = refl; others = only-same n k w₀; members = flags-test n (drop (k * n) w₀) ∙ none p (isIn (drop (k * n) w₀)) n }
+-- Word i of the set in a region.
+abbrev pub wordOf : ℕ → ℕ → List ℕ → ℕ → ℕ
+wordOf n k w i = getD w (regionAt n k + i) 0
 
-  module _ (v : ℕ) (w : List ℕ) (g : Filling p n k w₀ v w) where
-    pub next : v < n → (w′ : List ℕ) → length w′ ≡ length w → Only n k w w′ → regionFlags n k w′ ≡ cond (p v) (set (regionFlags n k w) v 1) (regionFlags n k w) → Filling p n k w₀ (v + 1) w′
-    next h w′ s o e = record {
+module _ (word : ℕ → ℕ) (n k : ℕ) (w₀ : List ℕ) where
+  pub first : Filling word n k w₀ 0 w₀
+  first = record { room = omega arith; size = refl; others = only-same _ _ w₀; made = λ p j h. absurd (omega arith); ahead = λ j h. refl }
+
+  module _ (i : ℕ) (w : List ℕ) (g : Filling word n k w₀ i w) (h : i < setWords n) where
+    -- The words of another region are still what they were.
+    pub other-word : (f : ℕ) → (f ≡ k → ⊥) → 0 < n → wordOf n f w i ≡ wordOf n f w₀ i
+    other-word f d p = sym (shown w) ∙ (ap (λ (l : List ℕ). getD l i 0) (region-kept n f k w₀ w d (g .others) p) ∙ shown w₀)
+      where
+        shown : (l : List ℕ) → getD (region n f l) i 0 ≡ wordOf n f l i
+        shown l = getD-take (setWords n) (drop (regionAt n f) l) i 0 h ∙ getD-drop (regionAt n f) l i 0
+
+    pub next : regionAt n k + setWords n ≤ length w₀ → (x : ℕ) → (0 < n → x ≡ word i) → Filling word n k w₀ (i + 1) (set w (regionAt n k + i) x)
+    next long x e = record {
       room = omega arith;
-      size = s ∙ g .size;
-      others = only-then n k w₀ w w′ (g .others) o;
-      members = e ∙ (ap (λ (l : List ℕ). cond (p v) (set l v 1) l) (g .members) ∙ one p (isIn (drop (k * n) w₀)) n v h);
+      size = length-set w (regionAt n k + i) x ∙ g .size;
+      others = only-then _ _ w₀ w (set w (regionAt n k + i) x) (g .others) (record { front = take-set-le (regionAt n k) w (regionAt n k + i) x (omega arith); back = drop-set-lt (regionAt n k + setWords n) w (regionAt n k + i) x (omega arith) });
+      made = λ p j l. pick p j l (ℕ-discrete j i);
+      ahead = λ j l. getD-set-other w (regionAt n k + i) (regionAt n k + j) x 0 (λ q. absurd (omega arith)) ∙ g .ahead j (omega arith);
     }
+      where
+        pick : 0 < n → (j : ℕ) → j < i + 1 → Dec (j ≡ i) → getD (set w (regionAt n k + i) x) (regionAt n k + j) 0 ≡ word j
+        pick p j l (yes q) = rw q (getD-set-same w (regionAt n k + i) x 0 (omega (arith, g .size)) ∙ e p)
+        pick p j l (no d) = getD-set-other w (regionAt n k + i) (regionAt n k + j) x 0 (λ q. d (omega arith)) ∙ g .made p j (omega (arith, d))
 
-    pub last : n ≤ v → regionFlags n k w ≡ either (testFlags p n) (regionFlags n k w₀)
-    last h = g .members ∙ (all p (isIn (drop (k * n) w₀)) n v h ∙ (sym (either-test p (isIn (drop (k * n) w₀)) n) ∙ rw (flags-test n (drop (k * n) w₀))))
+-- ---- the members of one region or another: x and y are where the two begin, as the code has them
+module _ (n f k : ℕ) (w₀ : List ℕ) where
+  abbrev pub united : ℕ → ℕ
+  united j = bitOr (wordOf n f w₀ j) (wordOf n k w₀ j)
 
--- ---- those of two regions, into an empty one
-either-none : (t : ℕ → Bool) (n : ℕ) → either (testFlags t n) (memberFlags n []) ≡ testFlags t n
-unfolding memberFlags member
-either-none t n = either-test t (λ v. false) n ∙ test-flags-same _ _ n (λ v l. or-false (t v))
+  module _ (differ : f ≡ k → ⊥) (i : ℕ) (w : List ℕ) (g : Filling united n k w₀ i w) where
+    pub unite-next : (x y : ℕ) → x ≡ regionAt n f → y ≡ regionAt n k → i < setWords n → regionAt n k + setWords n ≤ length w₀
+        → Filling united n k w₀ (i + 1) (set w (y + i) (bitOr (getD w (x + i) 0) (getD w (y + i) 0)))
+    unite-next x y p q h l = rw (p, q) (next united n k w₀ i w g h l _ (λ o. rw (other-word united n k w₀ i w g h f differ o, g .ahead i (omega arith))))
 
-module _ (n a b k : ℕ) (w w′ : List ℕ) (p : a ≡ k → ⊥) (q : b ≡ k → ⊥) where
-  pub in-both-kept : Only n k w w′ → (v : ℕ) → v < n → isIn (drop (a * n) w′) v && isIn (drop (b * n) w′) v ≡ isIn (drop (a * n) w) v && isIn (drop (b * n) w) v
-  in-both-kept o v h = rw (in-kept n a k w w′ p o v h, in-kept n b k w w′ q o v h)
+    pub unite-last : setWords n ≤ i → regionFlags n k w ≡ either (regionFlags n f w₀) (regionFlags n k w₀)
+    unite-last h = flags-either n (drop (regionAt n k) w) (drop (regionAt n f) w₀) (drop (regionAt n k) w₀) (λ v l.
+        in-either (drop (regionAt n k) w) (drop (regionAt n f) w₀) (drop (regionAt n k) w₀) v
+        (getD-drop (regionAt n k) w (v / 32) 0 ∙ (g .made (omega arith) (v / 32) (omega arith)
+        ∙ rw (getD-drop (regionAt n f) w₀ (v / 32) 0, getD-drop (regionAt n k) w₀ (v / 32) 0))))
 
-  pub met : regionFlags n k w′ ≡ replicate n 0 → Only n k w w′
-      → (v : ℕ) (x : List ℕ) → Filling (λ u. isIn (drop (a * n) w′) u && isIn (drop (b * n) w′) u) n k w′ v x → n ≤ v → regionFlags n k x ≡ both (regionFlags n a w) (regionFlags n b w)
-  met z o v x g h =
-      let t : ℕ → Bool = λ u. isIn (drop (a * n) w′) u && isIn (drop (b * n) w′) u in
-      last t n k w′ v x g h
-      ∙ (rw (z, ← no-members n) (either-none t n)
-      ∙ (sym (both-test (isIn (drop (a * n) w′)) (isIn (drop (b * n) w′)) n)
-      ∙ rw (← flags-test n (drop (a * n) w′), ← flags-test n (drop (b * n) w′), flags-kept n a k w w′ p o, flags-kept n b k w w′ q o)))
+-- ---- those of two regions
+module _ (n a b k : ℕ) (w₀ : List ℕ) where
+  abbrev pub met : ℕ → ℕ
+  met j = bitAnd (wordOf n a w₀ j) (wordOf n b w₀ j)
+
+  module _ (i : ℕ) (w : List ℕ) (g : Filling met n k w₀ i w) where
+    pub meet-next : (a ≡ k → ⊥) → (b ≡ k → ⊥) → (x y z : ℕ) → x ≡ regionAt n a → y ≡ regionAt n b → z ≡ regionAt n k → i < setWords n → regionAt n k + setWords n ≤ length w₀
+        → Filling met n k w₀ (i + 1) (set w (z + i) (bitAnd (getD w (x + i) 0) (getD w (y + i) 0)))
+    meet-next d e x y z p q r h l = rw (p, q, r) (next met n k w₀ i w g h l _ (λ o. rw (other-word met n k w₀ i w g h a d o, other-word met n k w₀ i w g h b e o)))
+
+    pub meet-last : setWords n ≤ i → regionFlags n k w ≡ both (regionFlags n a w₀) (regionFlags n b w₀)
+    meet-last h = flags-both n (drop (regionAt n k) w) (drop (regionAt n a) w₀) (drop (regionAt n b) w₀) (λ v l.
+        in-both (drop (regionAt n k) w) (drop (regionAt n a) w₀) (drop (regionAt n b) w₀) v
+        (getD-drop (regionAt n k) w (v / 32) 0 ∙ (g .made (omega arith) (v / 32) (omega arith)
+        ∙ rw (getD-drop (regionAt n a) w₀ (v / 32) 0, getD-drop (regionAt n b) w₀ (v / 32) 0))))

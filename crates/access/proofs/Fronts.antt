@@ -1,23 +1,28 @@
 -- The first three regions as the 3 n words of a search, with the marks made after it. Assumes nothing.
-use Prim.Native.Nat.{ℕ, _+_, _*_, _≤_, _<_}
+use Prim.Native.Nat.{ℕ, _+_, _*_, _/_, _≤_, _<_}
 use native.Mathlib.Omega.{arith}
 use mathlib.Core.Path.{_≡_, refl, sym, ap, _∙_}
 use mathlib.Core.Logic.{_↔_}
 use mathlib.Core.Bool.{true}
 use mathlib.Core.List.{List}
 use lib.ListN.{length, getD, set, take, drop, replicate}
-use lib.Seq.{length-take-le, take-take, getD-take}
+use lib.Seq.{length-take-le, take-take, getD-take, getD-drop}
 use Rattle.model.specs.Walk.{Arc}
 use Rattle.theory.specs.Walks.{Positive}
+use Rattle.algorithms.specs.Marks.{Toward}
 use Rattle.algorithms.specs.Pass.{Is}
-use Rattle.bitset.specs.Bits.{flags}
-use Rattle.search.specs.Regions.{timesIn, orderIn}
+use Rattle.algorithms.specs.Stops.{Stopped}
+use Rattle.bitset.specs.Bits.{isIn, flags}
+use Rattle.crossing.specs.SetLaws.{flags-test, test-flags-same}
+use Rattle.search.specs.Regions.{timesIn, orderIn, wantIn}
 use Rattle.marks.specs.Due.{Flagged, due, turned}
 use Rattle.marks.specs.Region.{marksIn, Ordered}
 use Rattle.marks.proofs.Views.{times-kept, order-kept}
 use Rattle.marks.proofs.Turns as turns
-use Rattle.access.specs.Regions.{regionFlags, Only, marks, want}
-use Rattle.access.proofs.Windows.{flags-front, take-drop, flags-kept, only-same, only-then}
+use Rattle.marks.proofs.Walks.{marked-walk}
+use Rattle.layout.specs.Regions.{regionAt, regionFlags, Only, marks, want}
+use Rattle.layout.proofs.Windows.{drop-more, after-kept, flags-kept, only-same, only-then}
+use Rattle.access.proofs.Wanted.{want-region}
 
 abbrev front : ℕ → List ℕ → List ℕ
 front n w = take (3 * n) w
@@ -32,12 +37,14 @@ module _ (n : ℕ) (w : List ℕ) where
   order-front : (i : ℕ) → orderIn n i (front n w) ≡ orderIn n i w
   order-front = order-kept n w (front n w) two-front
 
-  marks-front : marksIn n (front n w) ≡ regionFlags n marks w
-  marks-front =
-      let k : 2 * n + n ≡ 3 * n = omega arith in
-      ap (flags n) (sym (take-drop (2 * n) n w ∙ ap (λ (m : ℕ). drop (2 * n) (take m w)) k)) ∙ flags-front n (drop (2 * n) w)
+  mark-front : (v : ℕ) → v < n → isIn (drop (2 * n) (front n w)) v ≡ isIn (drop (2 * n) w) v
+  unfolding isIn
+  mark-front v h = rw (getD-drop (2 * n) (front n w) (v / 32) 0, getD-take (3 * n) w (2 * n + v / 32) 0 (omega arith), getD-drop (2 * n) w (v / 32) 0)
 
-  size-front : 4 * n ≤ length w → length (front n w) ≡ 3 * n
+  marks-front : marksIn n (front n w) ≡ regionFlags n marks w
+  marks-front = flags-test n (drop (2 * n) (front n w)) ∙ (test-flags-same _ _ n mark-front ∙ sym (flags-test n (drop (2 * n) w)))
+
+  size-front : 8 * n ≤ length w → length (front n w) ≡ 3 * n
   size-front h = length-take-le (3 * n) w (omega arith)
 
   node-front : (i : ℕ) → i < n → getD (front n w) (n + i) 0 ≡ getD w (n + i) 0
@@ -49,12 +56,12 @@ pub record Marking (arcs : List Arc) (n e : ℕ) (w₀ : List ℕ) (i : ℕ) (w 
   pub others : Only n marks w₀ w
   pub standing : turns.Standing arcs n e (regionFlags n want w₀) (front n w₀) i (front n w)
 
-module _ (arcs : List Arc) (n e : ℕ) (w₀ : List ℕ) (long : 4 * n ≤ length w₀) where
+module _ (arcs : List Arc) (n e : ℕ) (w₀ : List ℕ) (long : 8 * n ≤ length w₀) where
   -- w are the words before the marks were cleared.
   pub first : (w : List ℕ) → e ≤ n → Only n marks w w₀ → regionFlags n marks w₀ ≡ replicate n 0 → Ordered n (timesIn n w) (orderIn n e w) → Marking arcs n e w₀ e w₀
   first w h o m r = record {
     size = refl;
-    others = only-same n marks w₀;
+    others = only-same _ _ w₀;
     standing = turns.first arcs n e (regionFlags n want w₀) (front n w₀) (front n w) h (size-front n w₀ long)
         (two-front n w₀ ∙ (o .front ∙ sym (two-front n w))) (marks-front n w₀ ∙ m) (rw (times-front n w, order-front n w e) r);
   }
@@ -69,7 +76,7 @@ module _ (arcs : List Arc) (n e : ℕ) (w₀ : List ℕ) (long : 4 * n ≤ lengt
         let same : regionFlags n want w ≡ regionFlags n want w₀ = flags-kept n want marks w₀ w (λ q. omega arith) (g .others) in
         record {
           size = k ∙ g .size;
-          others = only-then n marks w₀ w w′ (g .others) o;
+          others = only-then _ _ w₀ w w′ (g .others) o;
           standing = turns.next arcs n e (regionFlags n want w₀) (front n w₀) i (front n w) (g .standing) h pos (front n w′)
               (size-front n w′ (omega (arith, g .size)) ∙ sym (size-front n w (omega (arith, g .size))))
               (two-front n w′ ∙ (o .front ∙ sym (two-front n w)))
@@ -81,11 +88,22 @@ module _ (arcs : List Arc) (n e : ℕ) (w₀ : List ℕ) (long : 4 * n ≤ lengt
   last i w w′ h o g =
       let same : regionFlags n want w₀ ≡ regionFlags n want w = flags-kept n want marks w w₀ (λ q. omega arith) o in
       let l = turns.last arcs n e (regionFlags n want w₀) (front n w₀) i (front n w) (front n w′) h (two-front n w₀ ∙ (o .front ∙ sym (two-front n w))) (g .standing) in
-      (λ v. rw (marks-front n w′, times-front n w, order-front n w e, same) at (l .1 v), only-then n marks w w₀ w′ o (g .others))
+      (λ v. rw (marks-front n w′, times-front n w, order-front n w e, same) at (l .1 v), only-then _ _ w w₀ w′ o (g .others))
+
+-- The wanted nodes stay in a search.
+want-kept : (n : ℕ) (w x : List ℕ) → drop (3 * n) x ≡ drop (3 * n) w → regionFlags n want x ≡ regionFlags n want w
+want-kept n w x e = ap (flags n) (drop-more (3 * n) (regionAt n want) w x (omega arith) e)
+
+-- From the words w, the search from p has found x, and the marks made after it are y.
+pub toward-found : (arcs : List Arc) (n p e : ℕ) (w x y : List ℕ) → Stopped arcs n p (wantIn n w) (timesIn n x) (orderIn n e x) → drop (3 * n) x ≡ drop (3 * n) w
+    → ((v : ℕ) → Flagged (regionFlags n marks y) v ↔ Is arcs (timesIn n x) (Flagged (regionFlags n want x)) (orderIn n e x) v)
+    → (v : ℕ) → Flagged (regionFlags n marks y) v ↔ Toward arcs p (Flagged (regionFlags n want w)) v
+toward-found arcs n p e w x y f d m v =
+    marked-walk arcs n p (regionFlags n want w) (timesIn n x) (orderIn n e x) (rw (want-region n w) at f) _ v (rw (want-kept n w x d) at (m v))
 
 -- What stays after a search from p and the marks made after it.
-pub rest-kept : (n : ℕ) (w x y : List ℕ) → drop (3 * n) x ≡ drop (3 * n) w → Only n marks x y → drop (3 * n) y ≡ drop (3 * n) w
-rest-kept n w x y e o = let k : 2 * n + n ≡ 3 * n = omega arith in rw k at (o .back) ∙ e
+pub rest-kept : (n : ℕ) (w x y : List ℕ) → 0 < n → drop (3 * n) x ≡ drop (3 * n) w → Only n marks x y → drop (3 * n) y ≡ drop (3 * n) w
+rest-kept n w x y h e o = after-kept _ _ x y o (3 * n) (omega arith) ∙ e
 
 -- A node that is due is marked.
 pub turn-due : (arcs : List Arc) (times wanted marked : List ℕ) (v : ℕ) → true ≡ due arcs times wanted marked v → set marked v 1 ≡ turned arcs times wanted marked v

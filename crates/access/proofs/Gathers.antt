@@ -6,42 +6,42 @@ use mathlib.Core.Path.{_≡_, refl, sym, ap, _∙_}
 use mathlib.Core.Logic.{_↔_, inl, inr, ⊎-elim}
 use mathlib.Core.Bool.{true, false, true≢false}
 use mathlib.Core.List.{List}
-use lib.ListN.{length, take, drop, replicate}
+use lib.ListN.{length, drop, replicate}
+use Rattle.model.specs.Bytes.{Bytes}
 use Rattle.model.specs.Walk.{Arc}
 use Rattle.algorithms.specs.Marks.{Toward}
 use Rattle.algorithms.specs.Settle.{blank}
 use Rattle.bitset.specs.Bits.{isIn, flags}
-use Rattle.crossing.specs.Sets.{either}
+use Rattle.index.specs.Index.{Roads}
+use Rattle.crossing.specs.Sets.{either, ones}
 use Rattle.marks.specs.Due.{Flagged}
-use Rattle.access.specs.Regions.{region, regionFlags, Only, marks, want, own, gathered}
+use Rattle.layout.specs.Regions.{regionAt, regionFlags, Only, marks, want, own, gathered, transit}
 use Rattle.access.specs.Gathered.{Gathered, Joined, Kept}
-use Rattle.access.proofs.Windows.{flags-front, drop-more, region-kept}
+use Rattle.layout.proofs.Windows.{drop-more, after-kept, flags-kept}
+use Rattle.layout.proofs.Indexed.{roads-from}
 use Rattle.access.proofs.Flagging.{member→, →member, either-flagged}
 
 -- ---- what stays
-pub flags-of : (n k : ℕ) (w w′ : List ℕ) → region n k w′ ≡ region n k w → regionFlags n k w′ ≡ regionFlags n k w
-flags-of n k w w′ e = sym (flags-front n (drop (k * n) w′)) ∙ (ap (flags n) e ∙ flags-front n (drop (k * n) w))
-
 pub kept-same : (n : ℕ) (w : List ℕ) → Kept n w w
 kept-same n w = record { wanted = refl; starts = refl; rest = refl }
 
 pub kept-then : (n : ℕ) (w x y : List ℕ) → Kept n w x → Kept n x y → Kept n w y
 kept-then n w x y p q = record { wanted = q .wanted ∙ p .wanted; starts = q .starts ∙ p .starts; rest = q .rest ∙ p .rest }
 
--- Where region 5 alone is changed.
+-- Where region GATHERED alone is changed.
 pub kept-only : (n : ℕ) (w w′ : List ℕ) → Only n gathered w w′ → Kept n w w′
 kept-only n w w′ o = record {
-  wanted = region-kept n want gathered w w′ (λ q. omega arith) o;
-  starts = region-kept n own gathered w w′ (λ q. omega arith) o;
-  rest = let k : 5 * n + n ≡ 6 * n = omega arith in rw k at (o .back);
+  wanted = flags-kept n want gathered w w′ (λ q. omega arith) o;
+  starts = flags-kept n own gathered w w′ (λ q. omega arith) o;
+  rest = after-kept _ _ w w′ o (regionAt n transit) (omega arith);
 }
 
 -- Where the first three regions alone are changed.
 kept-front : (n : ℕ) (w w′ : List ℕ) → drop (3 * n) w′ ≡ drop (3 * n) w → Kept n w w′
 kept-front n w w′ e = record {
-  wanted = ap (take n) e;
-  starts = ap (take n) (drop-more (3 * n) (4 * n) w w′ (omega arith) e);
-  rest = drop-more (3 * n) (6 * n) w w′ (omega arith) e;
+  wanted = ap (flags n) (drop-more (3 * n) (regionAt n want) w w′ (omega arith) e);
+  starts = ap (flags n) (drop-more (3 * n) (regionAt n own) w w′ (omega arith) e);
+  rest = drop-more (3 * n) (regionAt n transit) w w′ (omega arith) e;
 }
 
 -- ---- one start
@@ -50,22 +50,22 @@ module _ (arcs : List Arc) (n p : ℕ) (w : List ℕ) where
   One w′ = ((v : ℕ) → Flagged (regionFlags n gathered w′) v ↔ Joined arcs (regionFlags n gathered w) (regionFlags n own w) (regionFlags n want w) p v) × Kept n w w′
 
   -- x are the words after the marks, and w′ those after the union.
-  pub from-start : p < n → true ≡ isIn (drop (own * n) w) p → (x w′ : List ℕ) → drop (3 * n) x ≡ drop (3 * n) w
+  pub from-start : p < n → true ≡ isIn (drop (regionAt n own) w) p → (x w′ : List ℕ) → drop (3 * n) x ≡ drop (3 * n) w
       → ((v : ℕ) → Flagged (regionFlags n marks x) v ↔ Toward arcs p (Flagged (regionFlags n want w)) v)
       → regionFlags n gathered w′ ≡ either (regionFlags n marks x) (regionFlags n gathered x) → Only n gathered x w′ → One w′
   from-start h e x w′ d m u o =
-      let same : regionFlags n gathered x ≡ regionFlags n gathered w = ap (flags n) (drop-more (3 * n) (5 * n) w x (omega arith) d) in
-      let s : Flagged (regionFlags n own w) p = →member n (drop (own * n) w) p h (sym e) in (
-        λ v. let k = either-flagged n (drop (marks * n) x) (drop (gathered * n) x) v in (
+      let same : regionFlags n gathered x ≡ regionFlags n gathered w = ap (flags n) (drop-more (3 * n) (regionAt n gathered) w x (omega arith) d) in
+      let s : Flagged (regionFlags n own w) p = →member n (drop (regionAt n own) w) p h (sym e) in (
+        λ v. let k = either-flagged n (drop (regionAt n marks) x) (drop (regionAt n gathered) x) v in (
           λ l. ⊎-elim (λ f. inr (s, m v .0 f)) (λ f. inl (rw same at f)) (k .0 (rw u at l)),
           λ j. rw u (k .1 (⊎-elim (λ f. inr (rw same f)) (λ t. inl (m v .1 (t .1))) j)),
         ),
         kept-then n w x w′ (kept-front n w x d) (kept-only n x w′ o),
       )
 
-  pub from-other : false ≡ isIn (drop (own * n) w) p → One w
+  pub from-other : false ≡ isIn (drop (regionAt n own) w) p → One w
   from-other e =
-      (λ v. (λ l. inl l, λ j. ⊎-elim (λ f. f) (λ t. absurd (true≢false (sym (member→ n (drop (own * n) w) p (t .0) .1) ∙ sym e))) j), kept-same n w)
+      (λ v. (λ l. inl l, λ j. ⊎-elim (λ f. f) (λ t. absurd (true≢false (sym (member→ n (drop (regionAt n own) w) p (t .0) .1) ∙ sym e))) j), kept-same n w)
 
 -- ---- the starts below p
 pub record Below (arcs : List Arc) (starts goals : List ℕ) (p v : ℕ) : Type 0 where
@@ -91,10 +91,17 @@ module _ (arcs : List Arc) (n : ℕ) (w₀ : List ℕ) where
   }
 
   module _ (p : ℕ) (w : List ℕ) (g : Gathering arcs n w₀ p w) where
+    -- As many nodes are wanted as before, and the index stays.
+    pub wanted-left : (left : ℕ) → left ≡ ones (regionFlags n want w₀) → ones (regionFlags n want w) ≤ left
+    wanted-left left e = omega (arith, ap ones (g .others .wanted), e)
+
+    pub roads-gathering : (edges closed : Bytes) → Roads edges closed n w₀ → Roads edges closed n w
+    roads-gathering edges closed r = roads-from edges closed n w₀ w (regionAt n transit) (omega arith) (g .others .rest) r
+
     pub next : p < n → (w′ : List ℕ) → length w′ ≡ length w → One arcs n p w w′ → Gathering arcs n w₀ (p + 1) w′
     next h w′ k o =
-        let mine = flags-of n own w₀ w (g .others .starts) in
-        let goal = flags-of n want w₀ w (g .others .wanted) in
+        let mine = g .others .starts in
+        let goal = g .others .wanted in
         record {
           room = omega arith;
           size = k ∙ g .size;
@@ -108,15 +115,15 @@ module _ (arcs : List Arc) (n : ℕ) (w₀ : List ℕ) where
         }
       where
         pick : (v : ℕ) (b : Below arcs (regionFlags n own w₀) (regionFlags n want w₀) (p + 1) v) → Dec (b .q ≡ p) → Joined arcs (regionFlags n gathered w) (regionFlags n own w) (regionFlags n want w) p v
-        pick v b (yes e) = inr (rw (flags-of n own w₀ w (g .others .starts), flags-of n want w₀ w (g .others .wanted), ← e) (b .start, b .on))
+        pick v b (yes e) = inr (rw (g .others .starts, g .others .wanted, ← e) (b .start, b .on))
         pick v b (no d) = inl (g .members v .1 (record { q = b .q; below = omega (arith, b .below, d); start = b .start; on = b .on }))
 
     pub last : n ≤ p → (w₁ : List ℕ) → Only n gathered w₁ w₀ → ((v : ℕ) → Flagged (regionFlags n gathered w) v ↔ Gathered arcs (regionFlags n own w₁) (regionFlags n want w₁) v) × Kept n w₁ w
     last h w₁ o =
         let k = kept-only n w₁ w₀ o in (
-          λ v. rw (← flags-of n own w₁ w₀ (k .starts), ← flags-of n want w₁ w₀ (k .wanted)) (
+          λ v. rw (← k .starts, ← k .wanted) (
             λ l. let b = g .members v .0 l in record { p = b .q; start = b .start; on = b .on },
-            λ t. g .members v .1 (record { q = t .p; below = omega (arith, member→ n (drop (own * n) w₀) (t .p) (t .start) .0); start = t .start; on = t .on }),
+            λ t. g .members v .1 (record { q = t .p; below = omega (arith, member→ n (drop (regionAt n own) w₀) (t .p) (t .start) .0); start = t .start; on = t .on }),
           ),
           kept-then n w₁ w₀ w k (g .others),
         )

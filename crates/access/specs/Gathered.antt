@@ -1,5 +1,5 @@
 -- The nodes on least walks from the nodes of one region to those of another. Assumes nothing.
-use Prim.Native.Nat.{ℕ, _*_}
+use Prim.Native.Nat.{ℕ}
 use mathlib.Core.Path.{_≡_}
 use mathlib.Core.Logic.{_⊎_}
 use mathlib.Core.List.{List}
@@ -7,7 +7,7 @@ use lib.ListN.{drop}
 use Rattle.model.specs.Walk.{Arc}
 use Rattle.algorithms.specs.Marks.{Toward}
 use Rattle.marks.specs.Due.{Flagged}
-use Rattle.access.specs.Regions.{region, want, own}
+use Rattle.layout.specs.Regions.{regionAt, regionFlags, want, own, transit}
 
 -- v lies on a least walk from a node of `starts` to one of `goals`.
 pub record Gathered (arcs : List Arc) (starts goals : List ℕ) (v : ℕ) : Type 0 where
@@ -19,8 +19,8 @@ pub record Gathered (arcs : List Arc) (starts goals : List ℕ) (v : ℕ) : Type
 abbrev pub Joined : List Arc → List ℕ → List ℕ → List ℕ → ℕ → ℕ → Type 0
 Joined arcs already starts goals p v = Flagged already v ⊎ (Flagged starts p × Toward arcs p (Flagged goals) v)
 
--- From w to w′, the wanted nodes, the starts and the words from region 6 on stay.
+-- From w to w′, the wanted nodes, the starts and the words from region TRANSIT on stay.
 pub record Kept (n : ℕ) (w w′ : List ℕ) : Type 0 where
-  pub wanted : region n want w′ ≡ region n want w
-  pub starts : region n own w′ ≡ region n own w
-  pub rest : drop (6 * n) w′ ≡ drop (6 * n) w
+  pub wanted : regionFlags n want w′ ≡ regionFlags n want w
+  pub starts : regionFlags n own w′ ≡ regionFlags n own w
+  pub rest : drop (regionAt n transit) w′ ≡ drop (regionAt n transit) w

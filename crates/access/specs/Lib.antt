@@ -1,3 +1,3 @@
-pub mod Regions
 pub mod Gathered
 pub mod Networks
+pub mod Crossed

@@ -1,45 +1,25 @@
 // The access nodes of a cell.
 ghost use mathlib.Core.Path.{_≡_};
-ghost use Prim.Native.Nat.{_+_, _*_, _≤_};
+ghost use Prim.Native.Nat.{_*_, _≤_};
 ghost use lib.ListN.{length, drop};
 ghost use Rattle.model.specs.Network.{maxNodes, nodeCount, distance};
 ghost use Rattle.model.specs.Grid.{outerRadius};
 ghost use Rattle.model.specs.Access.{crossings, accessNodes};
+ghost use Rattle.index.specs.Index.{Roads};
 ghost use Rattle.grid.specs.Stored.{modelCell};
 ghost use Rattle.crossing.specs.Sets.{testFlags, memberFlags};
 ghost use Rattle.crossing.specs.Ground.{cellsIn, openIn, Ground};
 ghost use Rattle.crossing.specs.AccessFlags.{through};
-ghost use Rattle.access.specs.Regions.{regionFlags, Only, own, gathered};
+ghost use Rattle.layout.specs.Regions.{regionAt, regionFlags, own, gathered, transit};
 ghost use Rattle.access.specs.Networks.{networkIn};
+use crate::crossings::put_crossings;
 use crate::gather::gather;
-use crate::regions::GATHERED;
-use crate::regions::OWN;
-use crate::regions::WANT;
 use crate::sets::meet;
-use crossing::square::crossing_nodes;
 use grid::Cell;
 use grid::Grid;
-
-// Makes region k the set of the crossing nodes of the square of radius r about c.
-fn put_crossings(
-    nodes: &[u8],
-    edges: &[u8],
-    closed: &[u8],
-    grid: Grid,
-    c: Cell,
-    r: u32,
-    n: usize,
-    k: usize,
-    work: &mut [u32],
-)
-    requires { ⌜ Ground (now nodes) (now edges) (now closed) grid × (n ≡ nodeCount (now nodes)) × (k * n + n ≤ length (now work)) ⌝ }
-    ensures members { λ _. ⌜ regionFlags n k (now (work .exit)) ≡ memberFlags n (crossings (cellsIn grid (now (nodes .entry))) (openIn (now (edges .entry)) (now (closed .entry))) r (modelCell c)) ⌝ }
-    ensures others { λ _. ⌜ Only n k (now (work .entry)) (now (work .exit)) ⌝ }
-{
-    let a = k * n;
-    let e = a + n;
-    crossing_nodes(nodes, edges, closed, grid, c, r, &mut work[a..e]);
-}
+use layout::regions::GATHERED;
+use layout::regions::OWN;
+use layout::regions::WANT;
 
 // Makes region GATHERED the set of the nodes on least walks from a crossing node of c to one of its outer square.
 fn cell_gather(
@@ -51,11 +31,12 @@ fn cell_gather(
     n: usize,
     work: &mut [u32],
 )
-    requires { ⌜ Ground (now nodes) (now edges) (now closed) grid × (n ≡ nodeCount (now nodes)) × (n ≤ maxNodes) × (6 * n ≤ length (now work)) ⌝ }
+    requires { ⌜ Ground (now nodes) (now edges) (now closed) grid × (n ≡ nodeCount (now nodes)) × (n ≤ maxNodes) × (8 * n ≤ length (now work)) × (1 ≤ n) ⌝ }
+    requires { ⌜ Roads (now edges) (now closed) n (now work) ⌝ }
     ensures members { λ _. ⌜ regionFlags n gathered (now (work .exit)) ≡ testFlags (through (distance (networkIn (now (nodes .entry)) (now (edges .entry)) (now (closed .entry))))
         (crossings (cellsIn grid (now (nodes .entry))) (openIn (now (edges .entry)) (now (closed .entry))) 0 (modelCell c))
         (crossings (cellsIn grid (now (nodes .entry))) (openIn (now (edges .entry)) (now (closed .entry))) outerRadius (modelCell c))) n ⌝ }
-    ensures others { λ _. ⌜ drop (6 * n) (now (work .exit)) ≡ drop (6 * n) (now (work .entry)) ⌝ }
+    ensures others { λ _. ⌜ drop (regionAt n transit) (now (work .exit)) ≡ drop (regionAt n transit) (now (work .entry)) ⌝ }
 {
     put_crossings(nodes, edges, closed, grid, c, 0, n, OWN, work);
     put_crossings(nodes, edges, closed, grid, c, Grid::OUTER, n, WANT, work);
@@ -72,10 +53,11 @@ pub fn cell_access(
     n: usize,
     work: &mut [u32],
 )
-    requires { ⌜ Ground (now nodes) (now edges) (now closed) grid × (n ≡ nodeCount (now nodes)) × (n ≤ maxNodes) × (6 * n ≤ length (now work)) ⌝ }
+    requires { ⌜ Ground (now nodes) (now edges) (now closed) grid × (n ≡ nodeCount (now nodes)) × (n ≤ maxNodes) × (8 * n ≤ length (now work)) × (1 ≤ n) ⌝ }
+    requires { ⌜ Roads (now edges) (now closed) n (now work) ⌝ }
     ensures members { λ _. ⌜ regionFlags n own (now (work .exit)) ≡ memberFlags n (accessNodes (distance (networkIn (now (nodes .entry)) (now (edges .entry)) (now (closed .entry))))
         (cellsIn grid (now (nodes .entry))) (openIn (now (edges .entry)) (now (closed .entry))) (modelCell c)) ⌝ }
-    ensures others { λ _. ⌜ drop (6 * n) (now (work .exit)) ≡ drop (6 * n) (now (work .entry)) ⌝ }
+    ensures others { λ _. ⌜ drop (regionAt n transit) (now (work .exit)) ≡ drop (regionAt n transit) (now (work .entry)) ⌝ }
 {
     cell_gather(nodes, edges, closed, grid, c, n, work);
     put_crossings(nodes, edges, closed, grid, c, Grid::INNER, n, WANT, work);

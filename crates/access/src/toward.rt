@@ -1,41 +1,42 @@
 // The nodes on least walks from one node to wanted ones, with the wanted set among the working words: `marks`, over regions.
 ghost use mathlib.Core.Path.{_≡_};
-ghost use mathlib.Core.Bool.{false};
 ghost use mathlib.Core.Logic.{_↔_};
 ghost use Prim.Native.Nat.{ℕ, _+_, _*_, _<_, _≤_};
 ghost use lib.ListN.{length, getD, drop};
-ghost use Rattle.model.specs.Network.{maxNodes, edgeCount, someEdgeBroken, numbersBroken};
+ghost use Rattle.model.specs.Network.{maxNodes};
 ghost use Rattle.algorithms.specs.Marks.{Toward};
 ghost use Rattle.algorithms.specs.Pass.{Is};
 ghost use Rattle.arcs.specs.Arcs.{arcsIn};
+ghost use Rattle.index.specs.Index.{Roads};
 ghost use Rattle.search.specs.Regions.{timesIn, orderIn};
+ghost use Rattle.crossing.specs.Sets.{ones};
 ghost use Rattle.marks.specs.Due.{Flagged, due, turned};
 ghost use Rattle.marks.specs.Region.{Ordered};
-ghost use Rattle.access.specs.Regions.{regionFlags, Only, marks, want};
-use crate::regions::MARKS;
-use crate::regions::WANT;
-use crate::regions::clear;
-use crate::regions::has;
-use crate::regions::put;
+ghost use Rattle.layout.specs.Regions.{regionFlags, Only, marks, want};
+use layout::regions::MARKS;
+use layout::regions::WANT;
+use layout::regions::clear;
+use layout::regions::has;
+use layout::regions::put;
 use marks::leads::leads;
-use search::front::search_front;
+use search::wanted::search_wanted;
 
 // Whether v is to be marked: it is wanted itself, or leads on.
 fn is_due(edges: &[u8], closed: &[u8], n: usize, work: &[u32], v: usize) -> bool
-    requires { ⌜ (v < n) × (4 * n ≤ length (now work)) ⌝ }
-    requires { ⌜ (someEdgeBroken n (now edges) ≡ false) × (numbersBroken (edgeCount (now edges)) (now closed) ≡ false) ⌝ }
+    requires { ⌜ (n ≤ maxNodes) × (v < n) × (8 * n ≤ length (now work)) ⌝ }
+    requires { ⌜ Roads (now edges) (now closed) n (now work) ⌝ }
     ensures { λ r. ⌜ r ≡ due (arcsIn (now (edges .entry)) (now (closed .entry))) (timesIn n (now (work .entry))) (regionFlags n want (now (work .entry))) (regionFlags n marks (now (work .entry))) v ⌝ }
 {
     if has(work, n, WANT, v) {
         return true;
     }
-    leads(edges, closed, &work[..n], &work[MARKS * n..], v)
+    leads(edges, closed, n, work, v)
 }
 
 // Marks v, if it is due.
 fn mark(edges: &[u8], closed: &[u8], n: usize, work: &mut [u32], v: usize)
-    requires { ⌜ (v < n) × (4 * n ≤ length (now work)) ⌝ }
-    requires { ⌜ (someEdgeBroken n (now edges) ≡ false) × (numbersBroken (edgeCount (now edges)) (now closed) ≡ false) ⌝ }
+    requires { ⌜ (n ≤ maxNodes) × (v < n) × (8 * n ≤ length (now work)) ⌝ }
+    requires { ⌜ Roads (now edges) (now closed) n (now work) ⌝ }
     ensures members { λ _. ⌜ regionFlags n marks (now (work .exit)) ≡ turned (arcsIn (now (edges .entry)) (now (closed .entry))) (timesIn n (now (work .entry))) (regionFlags n want (now (work .entry))) (regionFlags n marks (now (work .entry))) v ⌝ }
     ensures others { λ _. ⌜ Only n marks (now (work .entry)) (now (work .exit)) ⌝ }
 {
@@ -46,8 +47,8 @@ fn mark(edges: &[u8], closed: &[u8], n: usize, work: &mut [u32], v: usize)
 
 // Marks the node at position i of the order, if it is due.
 fn mark_at(edges: &[u8], closed: &[u8], n: usize, work: &mut [u32], i: usize)
-    requires { ⌜ (i < n) × (4 * n ≤ length (now work)) × (getD (now work) (n + i) 0 < n) ⌝ }
-    requires { ⌜ (someEdgeBroken n (now edges) ≡ false) × (numbersBroken (edgeCount (now edges)) (now closed) ≡ false) ⌝ }
+    requires { ⌜ (n ≤ maxNodes) × (i < n) × (8 * n ≤ length (now work)) × (getD (now work) (n + i) 0 < n) ⌝ }
+    requires { ⌜ Roads (now edges) (now closed) n (now work) ⌝ }
     ensures members { λ _. ⌜ regionFlags n marks (now (work .exit)) ≡ turned (arcsIn (now (edges .entry)) (now (closed .entry))) (timesIn n (now (work .entry))) (regionFlags n want (now (work .entry))) (regionFlags n marks (now (work .entry))) (getD (now (work .entry)) (n + i) 0) ⌝ }
     ensures others { λ _. ⌜ Only n marks (now (work .entry)) (now (work .exit)) ⌝ }
 {
@@ -57,8 +58,8 @@ fn mark_at(edges: &[u8], closed: &[u8], n: usize, work: &mut [u32], i: usize)
 
 // After a search whose order begins at position e: marks each node of the order that is wanted, or from which a tight arc leads to a marked one.
 pub fn mark_back(edges: &[u8], closed: &[u8], n: usize, e: usize, work: &mut [u32])
-    requires { ⌜ (e ≤ n) × (4 * n ≤ length (now work)) × Ordered n (timesIn n (now work)) (orderIn n e (now work)) ⌝ }
-    requires { ⌜ (someEdgeBroken n (now edges) ≡ false) × (numbersBroken (edgeCount (now edges)) (now closed) ≡ false) ⌝ }
+    requires { ⌜ (n ≤ maxNodes) × (e ≤ n) × (8 * n ≤ length (now work)) × Ordered n (timesIn n (now work)) (orderIn n e (now work)) × (1 ≤ n) ⌝ }
+    requires { ⌜ Roads (now edges) (now closed) n (now work) ⌝ }
     ensures members { λ _. ⌜ ((v : ℕ) → Flagged (regionFlags n marks (now (work .exit))) v
         ↔ Is (arcsIn (now (edges .entry)) (now (closed .entry))) (timesIn n (now (work .entry))) (Flagged (regionFlags n want (now (work .entry)))) (orderIn n e (now (work .entry))) v) ⌝ }
     ensures others { λ _. ⌜ Only n marks (now (work .entry)) (now (work .exit)) ⌝ }
@@ -71,13 +72,13 @@ pub fn mark_back(edges: &[u8], closed: &[u8], n: usize, e: usize, work: &mut [u3
     }
 }
 
-// Marks every node that lies on some least walk from p to a wanted node, every equally quick way counted, and no other.
-pub fn toward(edges: &[u8], closed: &[u8], n: usize, p: usize, work: &mut [u32])
-    requires { ⌜ (n ≤ maxNodes) × (p < n) × (4 * n ≤ length (now work)) ⌝ }
-    requires { ⌜ (someEdgeBroken n (now edges) ≡ false) × (numbersBroken (edgeCount (now edges)) (now closed) ≡ false) ⌝ }
+// Marks every node that lies on some least walk from p to a wanted node, of which there are at most `left`, every equally quick way counted, and no other.
+pub fn toward(edges: &[u8], closed: &[u8], n: usize, p: usize, left: usize, work: &mut [u32])
+    requires { ⌜ (n ≤ maxNodes) × (p < n) × (8 * n ≤ length (now work)) × (ones (regionFlags n want (now work)) ≤ left) ⌝ }
+    requires { ⌜ Roads (now edges) (now closed) n (now work) ⌝ }
     ensures members { λ _. ⌜ ((v : ℕ) → Flagged (regionFlags n marks (now (work .exit))) v ↔ Toward (arcsIn (now (edges .entry)) (now (closed .entry))) p (Flagged (regionFlags n want (now (work .entry)))) v) ⌝ }
     ensures others { λ _. ⌜ drop (3 * n) (now (work .exit)) ≡ drop (3 * n) (now (work .entry)) ⌝ }
 {
-    let e = search_front(edges, closed, n, p, work);
+    let e = search_wanted(edges, closed, n, p, left, work);
     mark_back(edges, closed, n, e, work);
 }

@@ -4,11 +4,11 @@ use Prim.Native.Nat.{ℕ, zero, suc, _+_, _-_, _*_, _≤_, _<_, min}
 use native.Mathlib.Nat.{add-assoc, zero-add, min-eq-left, min-eq-right}
 use native.Mathlib.Decide.{decLe, ℕ-discrete}
 use native.Mathlib.Omega.{arith}
-use mathlib.Core.Path.{_≡_, refl, ap}
-use mathlib.Core.Logic.{_⊎_, inl, inr, ⊎-elim}
+use mathlib.Core.Path.{_≡_, refl, sym, ap, _∙_}
+use mathlib.Core.Logic.{_⊎_, inl, inr, ⊎-elim, _↔_}
 use mathlib.Core.List.{List, [], _∷_, _++_, List·Memᴰ·head, List·Memᴰ·tail, List·Memᴰ·not-nil, List·Memᴰ·cases-cons}
 use lib.ListN.{length, getD, set, take, replicate, length-set, length-replicate, getD-replicate}
-use lib.Seq.{getD-set-same, getD-set-other, set-out, set-getD, take-suc}
+use lib.Seq.{getD-set-same, getD-set-other, set-out, set-getD, take-suc, ext-getD}
 use Rattle.model.specs.Walk.{Arc, Mem, Walk, stay, go, Least}
 use Rattle.model.specs.Distance.{Distance, unreachable, finite, dist}
 use Rattle.model.specs.Oracle.{noWalk, coded}
@@ -97,6 +97,17 @@ relax-all-hits c (b ∷ out) d a i h = pick (relax-all-hits c out (relax c b d) 
     pick : (Mem a out → a .to < length (relax c b d) → at (relax-all c out (relax c b d)) (a .to) ≤ c + a .cost) → (a ≡ b) ⊎ Mem a out → at (relax-all c out (relax c b d)) (a .to) ≤ c + a .cost
     pick rec (inr j) = rec j (rw length-set h)
     pick rec (inl e) = rw (← e) (omega (arith, relax-all-le c out (relax c a d) (a .to), getD-set-same d (a .to) (min (at d (a .to)) (c + a .cost)) 0 h))
+
+-- Lists of the same arcs relax alike, whatever their order.
+relax-all-below : (c : ℕ) (xs ys : List Arc) (d : List ℕ) → ((a : Arc) → Mem a ys → Mem a xs) → (v : ℕ) → v < length d → at (relax-all c xs d) v ≤ at (relax-all c ys d) v
+relax-all-below c xs ys d sub = relax-all-from (λ v x. v < length d → at (relax-all c xs d) v ≤ x) c ys d (λ a i h. relax-all-hits c xs d a (sub a i) h) (λ v h. relax-all-le c xs d v)
+
+pub relax-all-same : (c : ℕ) (xs ys : List Arc) (d : List ℕ) → ((a : Arc) → Mem a xs ↔ Mem a ys) → relax-all c xs d ≡ relax-all c ys d
+relax-all-same c xs ys d same =
+    ext-getD 0 (relax-all c xs d) (relax-all c ys d) (length-relax-all c xs d ∙ sym (length-relax-all c ys d))
+    (λ v h.
+    let i : v < length d = omega (arith, length-relax-all c xs d) in
+    omega (arith, relax-all-below c xs ys d (λ a m. same a .1 m) v i, relax-all-below c ys xs d (λ a m. same a .0 m) v i))
 
 lt-or : (m n : ℕ) → (m < n) ⊎ (n ≤ m)
 lt-or m n = pick (decLe n m)

@@ -6,3 +6,5 @@ pub mod Rounds
 pub mod Marks
 pub mod Pass
 pub mod Searches
+-- ---- a search that stops early
+pub mod Stops

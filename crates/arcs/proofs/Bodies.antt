@@ -1,8 +1,7 @@
 -- What the rules say of the bodies that a search goes by. Assumes nothing.
 use Prim.Native.Nat.{ℕ, _%_, _<_}
-use native.Mathlib.Omega.{arith}
 use mathlib.Core.Path.{_≡_, refl}
-use mathlib.Core.Bool.{false, not, _||_}
+use mathlib.Core.Bool.{true, false, not, _||_}
 use mathlib.Core.List.{[]}
 use borrow.Author.Tests.{eqb-false}
 use lib.Dec.{eqb, leb, ltb}
@@ -15,7 +14,6 @@ use Rattle.theory.specs.Passed.{or-false, not-false}
 use Rattle.theory.specs.Sound as sound
 use Rattle.theory.specs.Walks.{Within, Costs, Positive}
 use Rattle.arcs.specs.Arcs.{arcsIn}
-use Rattle.arcs.proofs.Ahead.{Ahead}
 
 module _ (n : ℕ) (b : Bytes) (h : someEdgeBroken n b ≡ false) where
   pub edge-fine : (i : ℕ) → i < edgeCount b → sound.Fine n (edge b i)
@@ -45,10 +43,10 @@ module _ (n : ℕ) (b : Bytes) (h : someEdgeBroken n b ≡ false) where
     unfolding arcsIn
     arcs-positive = sound.arcs-positive n (openEdges b (words16 closed)) (sound.open-fine n b (words16 closed) h)
 
--- The closed edges rise, and none of them is passed.
-pub all-ahead : (limit : ℕ) (b : Bytes) → numbersBroken limit b ≡ false → Ahead 0 (words16 b)
+-- The closed edges rise.
+pub closed-rise : (limit : ℕ) (b : Bytes) → numbersBroken limit b ≡ false → rising (words16 b) ≡ true
 unfolding numbersBroken
-all-ahead limit b h =
+closed-rise limit b h =
     let p = or-false (not (eqb (length b % 2) 0) || not (rising (words16 b))) (any (leb limit) (words16 b)) h in
     let q = or-false (not (eqb (length b % 2) 0)) (not (rising (words16 b))) (p .0) in
-    record { rises = not-false (q .1); from = λ x m. omega arith }
+    not-false (q .1)

@@ -5,12 +5,12 @@ use mathlib.Core.Bool.{Bool, true, false, cond}
 use mathlib.Core.List.{List, [], _∷_, _++_}
 use borrow.Author.Tests.{eq-eqb, ne-eqb, eqb-true}
 use lib.ListN.{getD, set}
-use Rattle.model.specs.Lists.{filter, concatMap}
+use Rattle.model.specs.Lists.{filter}
 use Rattle.model.specs.Walk.{Arc}
 use Rattle.model.specs.Network.{Edge, arcsOf}
 use Rattle.theory.specs.Members.{filter→, →filter}
 use Rattle.algorithms.specs.Dijkstra.{Out, relax, relax-all, relax-append}
-use Rattle.arcs.specs.Arcs.{leaves, leaving, overEdges}
+use Rattle.arcs.specs.Arcs.{leaves, leaving}
 
 filter-append : {A : Type 0} (p : A → Bool) (xs ys : List A) → filter p (xs ++ ys) ≡ filter p xs ++ filter p ys
 unfolding filter
@@ -55,12 +55,6 @@ pub edge-done : (u d : ℕ) (e : Edge) (t t₁ t₂ : List ℕ) → t₁ ≡ rel
 unfolding arcsOf
 edge-done u d e t t₁ t₂ p q = q ∙ ap (relax-all d (leaving u (back e ∷ []))) p ∙ sym (relax-leaving u d (there e ∷ []) (back e ∷ []) t)
 
--- ---- all open edges
 -- What edge e makes of the times.
 abbrev pub relaxing : ℕ → ℕ → Edge → List ℕ → List ℕ
 relaxing u d e t = relax-all d (leaving u (arcsOf e)) t
-
-pub relax-over : (u d : ℕ) (es : List Edge) (t : List ℕ) → overEdges (relaxing u d) es t ≡ relax-all d (leaving u (concatMap arcsOf es)) t
-unfolding overEdges concatMap
-relax-over u d [] t = unfold leaving filter relax-all in refl
-relax-over u d (e ∷ es) t = relax-over u d es (relax-all d (leaving u (arcsOf e)) t) ∙ sym (relax-leaving u d (arcsOf e) (concatMap arcsOf es) t)

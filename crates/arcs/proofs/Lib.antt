@@ -1,5 +1,3 @@
 -- The laws that the proofs cite, and that callers cite too.
 pub mod Leaving
-pub mod Ahead
 pub mod Bodies
-pub mod Passing

@@ -1,3 +1,1 @@
-// The arcs of the open edges: passing the closed ones.
-pub mod closed;
-pub mod ends;
+// The arcs of the open edges, and laws about them. There is no code here.

@@ -28,13 +28,13 @@ use Rattle.theory.specs.AuditBodies.{builtTransit, builtAccess, builtTable, is-
 use Rattle.theory.specs.Whole.{AreBytes}
 use Rattle.grid.specs.Stored.{gridOf}
 use Rattle.grid.specs.declared.Grid.{Grid}
-use Rattle.grid.proofs.Cells.{over-made}
 use Rattle.crossing.specs.Ground.{cellsIn, Ground}
 use Rattle.access.specs.Networks.{networkIn}
 use Rattle.passes.specs.Building.{accessOf, transitIn, listIn}
 use Rattle.passes.specs.Placed.{whole}
 use Rattle.passes.specs.BuildingLaws.{count-cells, access-body}
-use Rattle.query.proofs.Cells.{grid-kept}
+use Rattle.query.specs.Grids.{oracleGrid}
+use Rattle.query.proofs.Cells.{over-oracle}
 use Rattle.auditor.specs.Same.{KeepsLists, sameList, sameLists, sameBodies}
 use Rattle.auditor.proofs.AccessBytes.{Sized, same-whole}
 
@@ -105,16 +105,12 @@ module _ (o : Bytes) (shaped : wellShaped o ≡ true) (small : AreBytes o) (grid
           rw (← x, ← y, ← z) (and (equal-self (transitBody o)) (and (equal-self (accessBody o)) (equal-self (tableBody o))))
 
 -- ---- with the bodies as the code has them
-pub grid-is : (o nb gb : Bytes) (g : ℕ) → gb ≡ gridBody o → g ≡ gridNumber gb → nb ≡ nodeBody o → gridOver g (nodes nb) ≡ gridOver (gridNumber (gridBody o)) (nodes (nodeBody o))
-grid-is o nb gb g p q r = rw (q, p, r)
-
-module _ (o : Bytes) (shaped : wellShaped o ≡ true) (grid : Grid) (made : gridOf grid ≡ gridOver (gridNumber (gridBody o)) (nodes (nodeBody o)))
-    (nb eb cb : Bytes) (p : nb ≡ nodeBody o) (q : eb ≡ edgeBody o) (r : cb ≡ closedBody o) (ab : Bytes) (s : ab ≡ accessBody o) where
-  pub bodies-asked : (n room : ℕ) → n ≡ nodeCount (nodeBody o) → 8 * n ≤ room → Ground nb eb cb grid × (n ≡ nodeCount nb) × (n ≤ maxNodes) × (8 * n ≤ room) × KeepsLists n ab
+module _ (o : Bytes) (shaped : wellShaped o ≡ true) (grid : Grid) (made : gridOf grid ≡ oracleGrid o) (nb eb cb : Bytes) (p : nb ≡ nodeBody o) (q : eb ≡ edgeBody o) (r : cb ≡ closedBody o) (ab : Bytes) (s : ab ≡ accessBody o) where
+  pub bodies-asked : (n room : ℕ) → n ≡ nodeCount (nodeBody o) → 8 * n ≤ room → Ground nb eb cb grid × (n ≡ nodeCount nb) × (n ≤ maxNodes) × (8 * n ≤ room) × KeepsLists n ab × (1 ≤ n)
   bodies-asked n room e h =
       let k = all-shaped o shaped in
-      let over = over-made grid (nodeBody o) (gridNumber (gridBody o)) made (k .sound .nodes-rule) (k .sound .coordinates) (grid-kept (gridBody o) (k .grid)) in
-      (rw (p, q, r) (record { over = over; edges-rule = k .sound .some-edge; closed-rule = k .sound .closed }), rw p e, rw e (node-bytes o (k .sound) .0), h, (transitCount (transitBody o), rw (e, s) (k .access)))
+      (record { over = over-oracle o nb p grid made k; edges-rule = rw (p, q) (k .sound .some-edge); closed-rule = rw (q, r) (k .sound .closed) }, rw p e, rw e (node-bytes o (k .sound) .0), h, (transitCount (transitBody o), rw (e, s) (k .access)), rw e (node-bytes o (k .sound) .1))
 
   pub bodies-told : AreBytes o → (tb xb : Bytes) → tb ≡ transitBody o → xb ≡ tableBody o → sameBodies nb eb cb grid tb ab xb ≡ not (differsFromBuilt o)
+  unfolding oracleGrid
   bodies-told small tb xb t x = rw (p, q, r, s, t, x) (is-built-tells o shaped small grid made)

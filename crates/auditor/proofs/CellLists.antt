@@ -1,5 +1,5 @@
 -- The lists of one cell, from the words of a search and the sets in the regions. Assumes nothing.
-use Prim.Native.Nat.{ℕ, _*_, _<_}
+use Prim.Native.Nat.{ℕ, _<_}
 use mathlib.Core.Path.{_≡_, ap}
 use mathlib.Core.Bool.{true, false}
 use mathlib.Core.List.{List}
@@ -16,18 +16,18 @@ use Rattle.grid.specs.declared.Grid.{Grid}
 use Rattle.crossing.specs.Ground.{cellsIn}
 use Rattle.crossing.specs.Cells.{sameCell, firstOfCell, same-cell}
 use Rattle.access.specs.Networks.{networkIn}
-use Rattle.access.specs.Regions.{own}
+use Rattle.layout.specs.Regions.{regionAt, own, transit}
 use Rattle.emit.specs.Parts.{listBytesOf}
 use Rattle.emit.specs.PartLaws.{list-values}
-use Rattle.passes.specs.Building.{accessOf, transitIn, listIn, membersIn, transit}
+use Rattle.passes.specs.Building.{accessOf, transitIn, listIn, membersIn}
 use Rattle.passes.specs.BuildingLaws.{distance-words, access-below, same-access}
 use Rattle.auditor.specs.Same.{KeepsLists, sameList, sameBeside, sameOfCell}
 
 pub listed : (n : ℕ) (access : Bytes) → KeepsLists n access → (v : ℕ) → v < n → Listed access v
 listed n access k v h = (k .0, record { nodes = n; below = h; kept = k .1 })
 
--- Region 6 stays where the words from it on do.
-pub transit-kept : (n : ℕ) (w w′ : List ℕ) → drop (6 * n) w′ ≡ drop (6 * n) w → membersIn n transit w′ ≡ membersIn n transit w
+-- Region TRANSIT stays where the words from it on do.
+pub transit-kept : (n : ℕ) (w w′ : List ℕ) → drop (regionAt n transit) w′ ≡ drop (regionAt n transit) w → membersIn n transit w′ ≡ membersIn n transit w
 transit-kept n w w′ e = rw e
 
 module _ (nodes edges closed : Bytes) (grid : Grid) (access : Bytes) (u : ℕ) where

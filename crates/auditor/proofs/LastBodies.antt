@@ -18,7 +18,8 @@ use Rattle.grid.specs.declared.Grid.{Grid}
 use Rattle.emit.specs.Members.{membersOf}
 use Rattle.emit.specs.Parts.{numbersBytes, rowBytes}
 use Rattle.emit.specs.PartLaws.{length-numbers}
-use Rattle.passes.specs.Building.{transitIn, membersIn, transit}
+use Rattle.layout.specs.Regions.{transit}
+use Rattle.passes.specs.Building.{transitIn, membersIn}
 use Rattle.passes.specs.BuildingLaws.{table-words}
 use Rattle.auditor.specs.Same.{sameLists, sameBodies}
 

@@ -1,21 +1,17 @@
 -- What the audit hands back and leaves in the words. Assumes nothing.
 use Prim.Native.Nat.{ℕ, _*_, _≤_}
-use native.Mathlib.Omega.{arith}
 use mathlib.Core.Path.{_≡_, refl, sym, _∙_, ap}
 use mathlib.Core.Bool.{Bool, true, false, not, cond, false≢true}
 use mathlib.Core.List.{List, [], _∷_, _++_, append-assoc}
 use lib.ListN.{length, drop}
-use borrow.Author.Tests.{ltb-false}
 use Rattle.model.specs.Bytes.{Bytes}
 use Rattle.model.specs.Contents.{nodeBody}
 use Rattle.model.specs.Network.{nodeCount}
-use Rattle.model.specs.Rules.{rule, firstBroken, networkRules, shapeRules, auditRules, wellShaped, workTooSmall, wordsNeeded, differsFromBuilt}
+use Rattle.model.specs.Rules.{rule, firstBroken, networkRules, shapeRules, auditRules, wordsNeeded, differsFromBuilt}
 use Rattle.model.specs.Calls.{clears, cleared, workAfter, auditRefusal, Audit}
 use Rattle.theory.specs.Firsts.{counted, first-append, first-stays}
-use Rattle.theory.specs.Passed.{shape-counted}
-use Rattle.query.proofs.Kept.{shaped, split}
+use Rattle.query.specs.Opened.{roomRules}
 use Rattle.query.proofs.Answers.{upTo14, first-most, words-kept}
-use Rattle.auditor.specs.Same.{roomRules}
 
 room-counted : (o : Bytes) (words : ℕ) → counted (roomRules o words) ≡ true
 unfolding counted roomRules shapeRules networkRules
@@ -23,16 +19,6 @@ room-counted o words = refl
 
 room-most : (o : Bytes) (words : ℕ) → firstBroken (roomRules o words) ≤ 14
 room-most o words = first-most (roomRules o words) (unfold upTo14 roomRules shapeRules networkRules in refl)
-
-pub record RoomKept (o : Bytes) (words : ℕ) : Type 0 where
-  pub shape : wellShaped o ≡ true
-  pub enough : wordsNeeded o ≤ words
-
-pub room-kept : (o : Bytes) (words : ℕ) → firstBroken (roomRules o words) ≡ 0 → RoomKept o words
-unfolding roomRules workTooSmall
-room-kept o words h =
-    let p = split (shapeRules o) 14 (workTooSmall o words) (shape-counted o) (omega arith) h in
-    record { shape = shaped o (p .0); enough = ltb-false words (wordsNeeded o) (p .1) }
 
 -- Rule 16 comes last.
 with-last : (o : Bytes) (words : ℕ) → auditRules o words ≡ roomRules o words ++ (rule 16 (differsFromBuilt o) ∷ [])

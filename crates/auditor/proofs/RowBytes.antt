@@ -11,15 +11,14 @@ use Rattle.model.specs.Lists.{equal}
 use Rattle.model.specs.Bytes.{Bytes}
 use Rattle.theory.specs.Tests.{refuted}
 use Rattle.bitset.specs.Bits.{isIn}
-use Rattle.access.specs.Regions.{region}
-use Rattle.access.proofs.Windows.{in-front}
+use Rattle.layout.specs.Regions.{regionAt, region, transit}
+use Rattle.layout.proofs.Windows.{in-front}
 use Rattle.emit.specs.Members.{ifIn}
 use Rattle.emit.specs.Parts.{rowBytes}
 use Rattle.emit.specs.PartLaws.{length-row}
 use Rattle.emit.specs.Records.{begins, compared}
 use Rattle.emit.specs.declared.compare.Compared.the-variants.{Same, Differs}
 use Rattle.emit.proofs.Turns.{compared-out, compared-in}
-use Rattle.passes.specs.Building.{transit}
 use Rattle.theory.specs.Audits.{equal→}
 
 begins-front : (r l : Bytes) → equal (take (length r) l) r ≡ begins r l
@@ -53,10 +52,10 @@ module _ (b : Bytes) (at size : ℕ) (times l : List ℕ) (e : size ≡ 4 * leng
   unfolding compared
   row-other q = rw (← begins-front row (drop at b), ← part, q)
 
--- The row of v, where region 6 has v.
+-- The row of v, where region TRANSIT has v.
 module _ (n v : ℕ) (w : List ℕ) (h : v < n) (b : Bytes) (at : ℕ) (row : Bytes) where
-  pub row-out : isIn (drop (6 * n) w) v ≡ false → Same at ≡ compared b at (ifIn (region n transit w) v row)
-  row-out q = compared-out (region n transit w) v b at row (in-front n (drop (6 * n) w) v h ∙ q)
+  pub row-out : isIn (drop (regionAt n transit) w) v ≡ false → Same at ≡ compared b at (ifIn (region n transit w) v row)
+  row-out q = compared-out (region n transit w) v b at row (in-front n (drop (regionAt n transit) w) v h ∙ q)
 
-  pub row-in : isIn (drop (6 * n) w) v ≡ true → compared b at row ≡ compared b at (ifIn (region n transit w) v row)
-  row-in q = compared-in (region n transit w) v b at row (in-front n (drop (6 * n) w) v h ∙ q)
+  pub row-in : isIn (drop (regionAt n transit) w) v ≡ true → compared b at row ≡ compared b at (ifIn (region n transit w) v row)
+  row-in q = compared-in (region n transit w) v b at row (in-front n (drop (regionAt n transit) w) v h ∙ q)

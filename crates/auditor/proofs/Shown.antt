@@ -1,44 +1,39 @@
 -- What parts of the working words show. Assumes nothing.
-use Prim.Native.Nat.{ℕ, _+_, _-_, _*_, _≤_}
+use Prim.Native.Nat.{ℕ, _*_, _≤_}
 use native.Mathlib.Omega.{arith}
 use mathlib.Core.Path.{_≡_}
 use mathlib.Core.List.{List}
-use borrow.Rule.Slice.PartMut.{midOf}
 use lib.ListN.{length, take}
 use lib.Seq.{length-take-le}
 use Rattle.model.specs.Lists.{equal}
 use Rattle.model.specs.Bytes.{Bytes}
 use Rattle.model.specs.Network.{maxNodes}
-use Rattle.access.specs.Regions.{region, own}
-use Rattle.access.proofs.Windows.{part-is, part-length}
+use Rattle.layout.specs.Regions.{region, own, transit}
+use Rattle.layout.proofs.Windows.{region-length}
 use Rattle.emit.specs.Members.{membersOf, HasBits, Among}
 use Rattle.emit.specs.Parts.{numbersBytes, rowBytes, listBytesOf}
-use Rattle.passes.specs.Building.{membersIn, transit}
+use Rattle.passes.specs.Building.{membersIn}
 
-module _ (n : ℕ) (w : List ℕ) (long : 8 * n ≤ length w) where
-  abbrev ownPart : List ℕ
-  ownPart = midOf (4 * n) (4 * n + n - 4 * n) w
+pub has-times : (n : ℕ) (w : List ℕ) → 8 * n ≤ length w → n ≤ length (take n w)
+has-times n w long = omega (arith, length-take-le n w (omega arith))
 
-  abbrev transitPart : List ℕ
-  transitPart = midOf (6 * n) (6 * n + n - 6 * n) w
+-- t and o are the words of the regions TRANSIT and OWN, as the code lends them.
+module _ (n : ℕ) (w : List ℕ) (long : 8 * n ≤ length w) (some : 1 ≤ n) (t : List ℕ) (q : t ≡ region n transit w) where
+  pub has-transit : HasBits n t
+  has-transit = rw q (omega (arith, region-length n transit w (omega arith)))
 
-  pub has-transit : HasBits n transitPart
-  has-transit = omega (arith, part-length (6 * n) n w (omega arith))
+  pub numbers-shown : (b : Bytes) → equal b (numbersBytes (membersOf n t)) ≡ equal b (numbersBytes (membersIn n transit w))
+  numbers-shown b = rw q
 
-  has-own : HasBits n ownPart
-  has-own = omega (arith, part-length (4 * n) n w (omega arith))
+  pub row-shown : (b : Bytes) → equal b (rowBytes (take n w) (membersOf n t)) ≡ equal b (rowBytes (take n w) (membersIn n transit w))
+  row-shown b = rw q
 
-  pub has-times : n ≤ length (take n w)
-  has-times = omega (arith, length-take-le n w (omega arith))
+  module _ (o : List ℕ) (p : o ≡ region n own w) where
+    has-own : HasBits n o
+    has-own = rw p (omega (arith, region-length n own w (omega arith)))
 
-  pub list-asked : n ≤ maxNodes → Among n (region n own w) (region n transit w) → (n ≤ maxNodes) × HasBits n ownPart × HasBits n transitPart × (n ≤ length (take n w)) × Among n ownPart transitPart
-  list-asked few among = (few, has-own, has-transit, has-times, rw (part-is (4 * n) n w, part-is (6 * n) n w) among)
+    pub list-asked : n ≤ maxNodes → Among n (region n own w) (region n transit w) → (n ≤ maxNodes) × HasBits n o × HasBits n t × (n ≤ length (take n w)) × Among n o t
+    list-asked few among = (few, has-own, has-transit, has-times n w long, rw (p, q) among)
 
-  pub numbers-shown : (b : Bytes) → equal b (numbersBytes (membersOf n transitPart)) ≡ equal b (numbersBytes (membersIn n transit w))
-  numbers-shown b = rw (part-is (6 * n) n w)
-
-  pub row-shown : (b : Bytes) → equal b (rowBytes (take n w) (membersOf n transitPart)) ≡ equal b (rowBytes (take n w) (membersIn n transit w))
-  row-shown b = rw (part-is (6 * n) n w)
-
-  pub list-shown : (b : Bytes) → equal b (listBytesOf (take n w) (membersOf n transitPart) (membersOf n ownPart)) ≡ equal b (listBytesOf (take n w) (membersIn n transit w) (membersIn n own w))
-  list-shown b = rw (part-is (4 * n) n w, part-is (6 * n) n w)
+    pub list-shown : (b : Bytes) → equal b (listBytesOf (take n w) (membersOf n t) (membersOf n o)) ≡ equal b (listBytesOf (take n w) (membersIn n transit w) (membersIn n own w))
+    list-shown b = rw (p, q)

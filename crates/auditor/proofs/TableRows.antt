@@ -9,7 +9,7 @@ use Rattle.model.specs.Lists.{equal, concatMap}
 use Rattle.model.specs.Bytes.{Bytes}
 use Rattle.model.specs.Walk.{Arc}
 use Rattle.algorithms.specs.Rounds.{distanceWords}
-use Rattle.access.specs.Regions.{region}
+use Rattle.layout.specs.Regions.{region, transit}
 use Rattle.emit.specs.Members.{ifIn}
 use Rattle.emit.specs.Parts.{rowBytes}
 use Rattle.emit.specs.Records.{compared}
@@ -17,7 +17,7 @@ use Rattle.emit.specs.declared.compare.Compared.{Compared}
 use Rattle.emit.specs.declared.compare.Compared.the-variants.{Same, Differs}
 use Rattle.emit.proofs.Turns.{membersFrom, members-all, members-step, members-end}
 use Rattle.emit.proofs.Comparing.{Left, left-start, left-different, left-next, left-end}
-use Rattle.passes.specs.Building.{membersIn, transit}
+use Rattle.passes.specs.Building.{membersIn}
 use Rattle.auditor.proofs.Behind.{Kept, kept-same, kept-then, transit-behind}
 
 module _ (arcs : List Arc) (n : ℕ) (b : Bytes) (w : List ℕ) where

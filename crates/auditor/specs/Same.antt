@@ -2,12 +2,10 @@
 use Prim.Native.Nat.{ℕ}
 use mathlib.Core.Path.{_≡_}
 use mathlib.Core.Bool.{Bool, false, not, _&&_, _||_}
-use mathlib.Core.List.{List, [], _∷_, _++_}
 use Rattle.model.specs.Lists.{all, equal, upTo, concatMap}
 use Rattle.model.specs.Bytes.{Bytes, bytes16, cut}
 use Rattle.model.specs.Network.{nodeCount, distance}
 use Rattle.model.specs.Oracle.{listPart, accessBroken, tableBytes}
-use Rattle.model.specs.Rules.{Rule, rule, shapeRules, workTooSmall}
 use Rattle.grid.specs.declared.Grid.{Grid}
 use Rattle.crossing.specs.Ground.{cellsIn}
 use Rattle.crossing.specs.Cells.{sameCell, firstOfCell}
@@ -39,7 +37,3 @@ unfoldable pub sameBodies : Bytes → Bytes → Bytes → Grid → Bytes → Byt
 sameBodies nodes edges closed grid transit access table =
     equal transit (concatMap bytes16 (transitIn nodes edges closed grid)) &&
     (sameLists nodes edges closed grid access && equal table (tableBytes (distance (networkIn nodes edges closed)) (transitIn nodes edges closed grid)))
-
--- The rules of the audit before 16.
-unfoldable pub roomRules : Bytes → ℕ → List Rule
-roomRules o words = shapeRules o ++ (rule 14 (workTooSmall o words) ∷ [])

@@ -3,11 +3,9 @@ ghost use mathlib.Core.Path.{_≡_};
 ghost use mathlib.Core.Bool.{true, not};
 ghost use Prim.Native.Nat.{_*_, _≤_};
 ghost use lib.ListN.{length, drop};
-ghost use Rattle.model.specs.Contents.{nodeBody, gridBody};
-ghost use Rattle.model.specs.Network.{maxNodes, nodes, nodeCount};
-ghost use Rattle.model.specs.Grid.{gridOver, gridNumber};
+ghost use Rattle.model.specs.Contents.{nodeBody};
+ghost use Rattle.model.specs.Network.{maxNodes, nodeCount};
 ghost use Rattle.model.specs.Rules.{wellShaped, differsFromBuilt};
-ghost use Rattle.grid.specs.Stored.{gridOf};
 ghost use Rattle.crossing.specs.Ground.{Ground};
 ghost use Rattle.auditor.specs.Same.{KeepsLists, sameBodies};
 use crate::lists::same_lists;
@@ -16,18 +14,18 @@ use crate::transit::same_transit;
 use codec::records::NUMBER_SIZE;
 use codec::records::VALUE_SIZE;
 use grid::Grid;
+use index::chains::build_index;
 use passes::transit::mark_transit;
+use query::kinds::grid_of;
 use reader::oracle::ACCESS;
 use reader::oracle::CLOSED;
 use reader::oracle::EDGES;
-use reader::oracle::GRID;
 use reader::oracle::NODES;
 use reader::oracle::TABLE;
 use reader::oracle::TRANSIT;
 use reader::oracle::oracle_body;
-use rules::grid::grid_number;
 
-// Compares the bodies one after the other; the first difference ends it.
+// Compares the bodies one after the other, by the index of the edges; the first difference ends it.
 fn same_bodies(
     nodes: &[u8],
     edges: &[u8],
@@ -39,10 +37,11 @@ fn same_bodies(
     table: &[u8],
     work: &mut [u32],
 ) -> bool
-    requires { ⌜ Ground (now nodes) (now edges) (now closed) grid × (n ≡ nodeCount (now nodes)) × (n ≤ maxNodes) × (8 * n ≤ length (now work)) × KeepsLists n (now access) ⌝ }
+    requires { ⌜ Ground (now nodes) (now edges) (now closed) grid × (n ≡ nodeCount (now nodes)) × (n ≤ maxNodes) × (8 * n ≤ length (now work)) × KeepsLists n (now access) × (1 ≤ n) ⌝ }
     ensures same { λ r. ⌜ r ≡ sameBodies (now (nodes .entry)) (now (edges .entry)) (now (closed .entry)) grid (now (transit .entry)) (now (access .entry)) (now (table .entry)) ⌝ }
     ensures rest { λ _. ⌜ drop (8 * n) (now (work .exit)) ≡ drop (8 * n) (now (work .entry)) ⌝ }
 {
+    build_index(edges, closed, n, work);
     mark_transit(nodes, edges, closed, grid, n, work);
     if !same_transit(work, n, transit) {
         return false;
@@ -52,15 +51,6 @@ fn same_bodies(
     }
     let size = VALUE_SIZE * (transit.len() / NUMBER_SIZE);
     same_table(edges, closed, n, size, table, work)
-}
-
-// The grid of an oracle.
-fn grid_of(o: &[u8]) -> Grid
-    requires { ⌜ wellShaped (now o) ≡ true ⌝ }
-    ensures { λ r. ⌜ gridOf r ≡ gridOver (gridNumber (gridBody (now (o .entry)))) (nodes (nodeBody (now (o .entry)))) ⌝ }
-{
-    let g = grid_number(oracle_body(o, GRID));
-    Grid::over(oracle_body(o, NODES), g)
 }
 
 // Whether the oracle, of n nodes, is the one built from its bodies 1 to 4.

@@ -1,36 +1,38 @@
 // Body 7: the table, row by row.
 ghost use mathlib.Core.Path.{_≡_};
-ghost use mathlib.Core.Bool.{false};
 ghost use Prim.Native.Nat.{_*_, _<_, _≤_};
 ghost use lib.ListN.{length, take, drop};
 ghost use Rattle.model.specs.Lists.{equal, concatMap};
-ghost use Rattle.model.specs.Network.{maxNodes, edgeCount, someEdgeBroken, numbersBroken};
+ghost use Rattle.model.specs.Network.{maxNodes};
 ghost use Rattle.algorithms.specs.Rounds.{distanceWords};
 ghost use Rattle.arcs.specs.Arcs.{arcsIn};
-ghost use Rattle.access.specs.Regions.{region};
+ghost use Rattle.index.specs.Index.{Roads};
+ghost use Rattle.layout.specs.Regions.{region, transit};
 ghost use Rattle.emit.specs.Members.{ifIn};
 ghost use Rattle.emit.specs.Parts.{rowBytes};
 ghost use Rattle.emit.specs.Records.{compared};
-ghost use Rattle.passes.specs.Building.{membersIn, transit};
-use access::regions::TRANSIT;
-use access::regions::has;
+ghost use Rattle.passes.specs.Building.{membersIn};
+use bitset::bits::set_words;
 use emit::compare::Compared;
 use emit::rows::same_row;
+use layout::regions::TRANSIT;
+use layout::regions::has;
+use layout::regions::region_at;
 use search::front::search_front;
 
 // Whether b is the row of the times in region TIMES, with the columns of region TRANSIT.
 fn is_row(work: &[u32], n: usize, b: &[u8]) -> bool
-    requires { ⌜ 8 * n ≤ length (now work) ⌝ }
+    requires { ⌜ (8 * n ≤ length (now work)) × (1 ≤ n) ⌝ }
     ensures { λ r. ⌜ r ≡ equal (now (b .entry)) (rowBytes (take n (now (work .entry))) (membersIn n transit (now (work .entry)))) ⌝ }
 {
-    let a = TRANSIT * n;
-    let e = a + n;
+    let a = region_at(n, TRANSIT);
+    let e = a + set_words(n);
     same_row(n, &work[a..e], &work[..n], b)
 }
 
 // Compares that row, of `size` bytes, with what stands at `at`.
 fn row_at(work: &[u32], n: usize, size: usize, table: &[u8], at: usize) -> Compared
-    requires { ⌜ (8 * n ≤ length (now work)) × (size ≡ 4 * length (membersIn n transit (now work))) × (at ≤ length (now table)) ⌝ }
+    requires { ⌜ (8 * n ≤ length (now work)) × (size ≡ 4 * length (membersIn n transit (now work))) × (at ≤ length (now table)) × (1 ≤ n) ⌝ }
     ensures { λ r. ⌜ r ≡ compared (now (table .entry)) at (rowBytes (take n (now (work .entry))) (membersIn n transit (now (work .entry)))) ⌝ }
 {
     if table.len() - at < size {
@@ -56,7 +58,7 @@ fn same_from(
     work: &mut [u32],
 ) -> Compared
     requires { ⌜ (n ≤ maxNodes) × (v < n) × (8 * n ≤ length (now work)) × (size ≡ 4 * length (membersIn n transit (now work))) × (at ≤ length (now table)) ⌝ }
-    requires { ⌜ (someEdgeBroken n (now edges) ≡ false) × (numbersBroken (edgeCount (now edges)) (now closed) ≡ false) ⌝ }
+    requires { ⌜ Roads (now edges) (now closed) n (now work) ⌝ }
     ensures same { λ r. ⌜ r ≡ compared (now (table .entry)) at (ifIn (region n transit (now (work .entry))) v (rowBytes (distanceWords (arcsIn (now (edges .entry)) (now (closed .entry))) n v) (membersIn n transit (now (work .entry))))) ⌝ }
     ensures others { λ _. ⌜ drop (3 * n) (now (work .exit)) ≡ drop (3 * n) (now (work .entry)) ⌝ }
 {
@@ -77,7 +79,7 @@ pub fn same_table(
     work: &mut [u32],
 ) -> bool
     requires { ⌜ (n ≤ maxNodes) × (8 * n ≤ length (now work)) × (size ≡ 4 * length (membersIn n transit (now work))) ⌝ }
-    requires { ⌜ (someEdgeBroken n (now edges) ≡ false) × (numbersBroken (edgeCount (now edges)) (now closed) ≡ false) ⌝ }
+    requires { ⌜ Roads (now edges) (now closed) n (now work) ⌝ }
     ensures same { λ r. ⌜ r ≡ equal (now (table .entry)) (concatMap (λ v. rowBytes (distanceWords (arcsIn (now (edges .entry)) (now (closed .entry))) n v) (membersIn n transit (now (work .entry)))) (membersIn n transit (now (work .entry)))) ⌝ }
     ensures others { λ _. ⌜ drop (3 * n) (now (work .exit)) ≡ drop (3 * n) (now (work .entry)) ⌝ }
 {

@@ -5,16 +5,19 @@ ghost use lib.ListN.{length};
 ghost use Rattle.model.specs.Lists.{equal};
 ghost use Rattle.model.specs.Network.{maxNodes};
 ghost use Rattle.emit.specs.Parts.{numbersBytes};
-ghost use Rattle.passes.specs.Building.{membersIn, transit};
-use access::regions::TRANSIT;
+ghost use Rattle.layout.specs.Regions.{transit};
+ghost use Rattle.passes.specs.Building.{membersIn};
+use bitset::bits::set_words;
 use emit::numbers::same_numbers;
+use layout::regions::TRANSIT;
+use layout::regions::region_at;
 
 // Whether b is the numbers of the nodes in region TRANSIT.
 pub fn same_transit(work: &[u32], n: usize, b: &[u8]) -> bool
-    requires { ⌜ (n ≤ maxNodes) × (8 * n ≤ length (now work)) ⌝ }
+    requires { ⌜ (n ≤ maxNodes) × (8 * n ≤ length (now work)) × (1 ≤ n) ⌝ }
     ensures { λ r. ⌜ r ≡ equal (now (b .entry)) (numbersBytes (membersIn n transit (now (work .entry)))) ⌝ }
 {
-    let a = TRANSIT * n;
-    let e = a + n;
+    let a = region_at(n, TRANSIT);
+    let e = a + set_words(n);
     same_numbers(n, &work[a..e], b)
 }

@@ -1,2 +1,3 @@
--- The laws that the proofs cite; `Members` has those for callers.
+-- The laws that the proofs cite; `Members` and `Joined` have those for callers.
 pub mod Members
+pub mod Joined

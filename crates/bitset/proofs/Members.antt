@@ -19,10 +19,10 @@ use Rattle.bitset.specs.Bits.{isIn, insertIn, flag, flags}
 
 -- ---- the bits of a number
 
-abbrev bit : ℕ → ℕ → ℕ
+abbrev pub bit : ℕ → ℕ → ℕ
 bit a j = a / 2 ^ j % 2
 
-or-bit : (a b j : ℕ) → bit (bitOr a b) j ≡ max (bit a j) (bit b j)
+pub or-bit : (a b j : ℕ) → bit (bitOr a b) j ≡ max (bit a j) (bit b j)
 or-bit a b j =
     let p = mod-lt (a / 2 ^ j) (zero-lt-suc 1) in
     let q = mod-lt (b / 2 ^ j) (zero-lt-suc 1) in

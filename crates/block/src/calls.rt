@@ -5,6 +5,7 @@ use crate::block_record;
 use crate::names::block_refusal;
 use crate::rows::times_between;
 use query::local::zero_front;
+use query::opened::open_words;
 use query::refusals::WORDS;
 use reader::oracle::node_count;
 
@@ -16,6 +17,7 @@ pub fn block(o: &[u8], starts: &[u32], ends: &[u32], work: &mut [u32]) -> Block
     if rule != 0 {
         return block_record(rule, [[0u32; 12]; 12]);
     }
+    open_words(o, work);
     let times = times_between(o, starts, ends, work);
     zero_front(work, WORDS * node_count(o));
     block_record(0, times)

@@ -3,6 +3,7 @@ ghost use mathlib.Core.Path.{_≡_};
 
 pub mod calls;
 pub mod names;
+pub mod questions;
 pub mod rows;
 
 // What the block call hands back: the number of the broken rule and zeros, or 0 with a row for each start and a column for each end.

@@ -1,9 +1,10 @@
 // The rules of a call that names nodes in lists.
 ghost use mathlib.Core.Path.{_≡_};
+ghost use mathlib.Core.Bool.{true};
 ghost use mathlib.Core.List.{_++_};
 ghost use lib.Dec.{leb};
 ghost use Rattle.model.specs.Lists.{any};
-ghost use Rattle.model.specs.Rules.{firstBroken};
+ghost use Rattle.model.specs.Rules.{firstBroken, wellShaped};
 ghost use Rattle.block.specs.Block.{namedRules, namesBroken, sidesRules, blockRules};
 use query::refusals::work_too_small;
 use reader::files::shape_refusal;
@@ -26,14 +27,11 @@ pub fn some_missing(n: usize, names: &[u32]) -> bool
     false
 }
 
-// Rules 1 to 12, for the nodes of two lists.
+// Rule 12 for the nodes of two lists, of an oracle that keeps 1 to 11.
 pub fn named_refusal(o: &[u8], starts: &[u32], ends: &[u32]) -> u32
+    requires { ⌜ wellShaped (now o) ≡ true ⌝ }
     ensures { λ r. ⌜ r ≡ firstBroken (namedRules (now (o .entry)) (now (starts .entry) ++ now (ends .entry))) ⌝ }
 {
-    let r = shape_refusal(o);
-    if r != 0 {
-        return r;
-    }
     let n = node_count(o);
     if some_missing(n, starts) {
         return 12;
@@ -51,8 +49,9 @@ pub fn names_broken(names: &[u32]) -> bool
     names.len() == 0 || NAMES < names.len()
 }
 
-// Rules 1 to 12, and 17.
+// Rules 12 and 17, of an oracle that keeps 1 to 11.
 pub fn sides_refusal(o: &[u8], starts: &[u32], ends: &[u32]) -> u32
+    requires { ⌜ wellShaped (now o) ≡ true ⌝ }
     ensures { λ r. ⌜ r ≡ firstBroken (sidesRules (now (o .entry)) (now (starts .entry)) (now (ends .entry))) ⌝ }
 {
     let r = named_refusal(o, starts, ends);
@@ -68,11 +67,22 @@ pub fn sides_refusal(o: &[u8], starts: &[u32], ends: &[u32]) -> u32
     0
 }
 
+// Rules 1 to 12, and 17.
+fn listed_refusal(o: &[u8], starts: &[u32], ends: &[u32]) -> u32
+    ensures { λ r. ⌜ r ≡ firstBroken (sidesRules (now (o .entry)) (now (starts .entry)) (now (ends .entry))) ⌝ }
+{
+    let r = shape_refusal(o);
+    if r != 0 {
+        return r;
+    }
+    sides_refusal(o, starts, ends)
+}
+
 // Rules 1 to 12, 17 and 14.
 pub fn block_refusal(o: &[u8], starts: &[u32], ends: &[u32], words: usize) -> u32
     ensures { λ r. ⌜ r ≡ firstBroken (blockRules (now (o .entry)) (now (starts .entry)) (now (ends .entry)) words) ⌝ }
 {
-    let r = sides_refusal(o, starts, ends);
+    let r = listed_refusal(o, starts, ends);
     if r != 0 {
         return r;
     }

@@ -10,9 +10,10 @@ ghost use Rattle.model.specs.Contents.{nodeBody};
 ghost use Rattle.model.specs.Network.{nodeCount};
 ghost use Rattle.model.specs.Oracle.{coded};
 ghost use Rattle.model.specs.Query.{distanceOf};
-ghost use Rattle.model.specs.Rules.{wellShaped, noSuchNode, localPair, wordsNeeded};
+ghost use Rattle.model.specs.Rules.{wellShaped, noSuchNode, localPair};
 ghost use Rattle.grid.specs.Stored.{gridOf};
 ghost use Rattle.query.specs.Grids.{oracleGrid};
+ghost use Rattle.query.specs.Opened.{gridAt, Opened};
 ghost use Rattle.query.specs.Toward.{Toward};
 ghost use Rattle.block.specs.Block.{maxNames, square, rowOf, unusedRow, blockOf};
 use codec::records::NO_WALK;
@@ -20,9 +21,9 @@ use grid::Grid;
 use model::Answer;
 use model::Kind;
 use query::calls::far_of;
-use query::kinds::grid_of;
 use query::kinds::is_local;
 use query::kinds::kind_in;
+use query::opened::opened_grid;
 use query::ways::times_to;
 
 // The seconds of an answer as the table marks them.
@@ -70,9 +71,9 @@ fn some_local(o: &[u8], grid: Grid, s: usize, ends: &[u32]) -> bool
 
 // The words hold the times from s afterwards, where some end is local to it. As edges run both ways, they are those to s.
 fn search_near(o: &[u8], grid: Grid, s: usize, ends: &[u32], work: &mut [u32])
-    requires { ⌜ (wellShaped (now o) ≡ true) × (gridOf grid ≡ oracleGrid (now o)) × (s < nodeCount (nodeBody (now o))) × (any (noSuchNode (now o)) (now ends) ≡ false) × (wordsNeeded (now o) ≤ length (now work)) ⌝ }
+    requires { ⌜ Opened (now o) (now work) × (gridOf grid ≡ oracleGrid (now o)) × (s < nodeCount (nodeBody (now o))) × (any (noSuchNode (now o)) (now ends) ≡ false) ⌝ }
     ensures times { λ _. ⌜ (any (localPair (now (o .entry)) s) (now (ends .entry)) ≡ true → Toward (now (o .entry)) s (now (work .exit))) ⌝ }
-    ensures rest { λ _. ⌜ drop (wordsNeeded (now (o .entry))) (now (work .exit)) ≡ drop (wordsNeeded (now (o .entry))) (now (work .entry)) ⌝ }
+    ensures others { λ _. ⌜ drop (gridAt (nodeCount (nodeBody (now (o .entry))))) (now (work .exit)) ≡ drop (gridAt (nodeCount (nodeBody (now (o .entry))))) (now (work .entry)) ⌝ }
 {
     if some_local(o, grid, s, ends) {
         times_to(o, s, work);
@@ -112,10 +113,10 @@ fn with_row(
     ends: &[u32],
     work: &mut [u32],
 ) -> [[u32; 12]; 12]
-    requires { ⌜ (wellShaped (now o) ≡ true) × (gridOf grid ≡ oracleGrid (now o)) × (s < nodeCount (nodeBody (now o))) × (any (noSuchNode (now o)) (now ends) ≡ false) × (length (now ends) ≤ maxNames) ⌝ }
-    requires { ⌜ (wordsNeeded (now o) ≤ length (now work)) × (i < maxNames) × (getD times i [] ≡ unusedRow) ⌝ }
+    requires { ⌜ Opened (now o) (now work) × (gridOf grid ≡ oracleGrid (now o)) × (s < nodeCount (nodeBody (now o))) × (any (noSuchNode (now o)) (now ends) ≡ false) × (length (now ends) ≤ maxNames) ⌝ }
+    requires { ⌜ (i < maxNames) × (getD times i [] ≡ unusedRow) ⌝ }
     ensures times { λ r. ⌜ r ≡ set times i (rowOf (now (o .entry)) (now (ends .entry)) s) ⌝ }
-    ensures rest { λ _. ⌜ drop (wordsNeeded (now (o .entry))) (now (work .exit)) ≡ drop (wordsNeeded (now (o .entry))) (now (work .entry)) ⌝ }
+    ensures others { λ _. ⌜ drop (gridAt (nodeCount (nodeBody (now (o .entry))))) (now (work .exit)) ≡ drop (gridAt (nodeCount (nodeBody (now (o .entry))))) (now (work .entry)) ⌝ }
 {
     search_near(o, grid, s, ends, work);
     with_squares(times, i, o, grid, s, ends, work)
@@ -153,10 +154,10 @@ fn with_start(
     ends: &[u32],
     work: &mut [u32],
 ) -> [[u32; 12]; 12]
-    requires { ⌜ (wellShaped (now o) ≡ true) × (gridOf grid ≡ oracleGrid (now o)) × (any (noSuchNode (now o)) (now starts) ≡ false) × (any (noSuchNode (now o)) (now ends) ≡ false) ⌝ }
-    requires { ⌜ (length (now starts) ≤ maxNames) × (length (now ends) ≤ maxNames) × (wordsNeeded (now o) ≤ length (now work)) × (i < length (now starts)) × (times ≡ blockOf (now o) (take i (now starts)) (now ends)) ⌝ }
+    requires { ⌜ Opened (now o) (now work) × (gridOf grid ≡ oracleGrid (now o)) × (any (noSuchNode (now o)) (now starts) ≡ false) × (any (noSuchNode (now o)) (now ends) ≡ false) ⌝ }
+    requires { ⌜ (length (now starts) ≤ maxNames) × (length (now ends) ≤ maxNames) × (i < length (now starts)) × (times ≡ blockOf (now o) (take i (now starts)) (now ends)) ⌝ }
     ensures times { λ r. ⌜ r ≡ blockOf (now (o .entry)) (take (i + 1) (now (starts .entry))) (now (ends .entry)) ⌝ }
-    ensures rest { λ _. ⌜ drop (wordsNeeded (now (o .entry))) (now (work .exit)) ≡ drop (wordsNeeded (now (o .entry))) (now (work .entry)) ⌝ }
+    ensures others { λ _. ⌜ drop (gridAt (nodeCount (nodeBody (now (o .entry))))) (now (work .exit)) ≡ drop (gridAt (nodeCount (nodeBody (now (o .entry))))) (now (work .entry)) ⌝ }
 {
     let k = first_named(starts, i);
     if k < i {
@@ -167,12 +168,12 @@ fn with_start(
 
 // The block of two lists of one to twelve nodes.
 pub fn times_between(o: &[u8], starts: &[u32], ends: &[u32], work: &mut [u32]) -> [[u32; 12]; 12]
-    requires { ⌜ (wellShaped (now o) ≡ true) × (any (noSuchNode (now o)) (now starts) ≡ false) × (any (noSuchNode (now o)) (now ends) ≡ false) ⌝ }
-    requires { ⌜ (length (now starts) ≤ maxNames) × (length (now ends) ≤ maxNames) × (wordsNeeded (now o) ≤ length (now work)) ⌝ }
+    requires { ⌜ Opened (now o) (now work) × (any (noSuchNode (now o)) (now starts) ≡ false) × (any (noSuchNode (now o)) (now ends) ≡ false) ⌝ }
+    requires { ⌜ (length (now starts) ≤ maxNames) × (length (now ends) ≤ maxNames) ⌝ }
     ensures times { λ r. ⌜ r ≡ blockOf (now (o .entry)) (now (starts .entry)) (now (ends .entry)) ⌝ }
-    ensures rest { λ _. ⌜ drop (wordsNeeded (now (o .entry))) (now (work .exit)) ≡ drop (wordsNeeded (now (o .entry))) (now (work .entry)) ⌝ }
+    ensures others { λ _. ⌜ drop (gridAt (nodeCount (nodeBody (now (o .entry))))) (now (work .exit)) ≡ drop (gridAt (nodeCount (nodeBody (now (o .entry))))) (now (work .entry)) ⌝ }
 {
-    let grid = grid_of(o);
+    let grid = opened_grid(o, work);
     let mut times = [[0u32; 12]; 12];
     let mut i = 0;
     while i < starts.len() {

@@ -8,22 +8,27 @@ use mathlib.Core.List.{List}
 use lib.ListN.{length, take, drop}
 use lib.Seq.{length-take-le, take-append-le, take-take, drop-at}
 use Rattle.model.specs.Bytes.{Bytes, word32, bytes16, cut, splice}
-use Rattle.model.specs.Network.{maxNodes, edgeCount, someEdgeBroken, numbersBroken, distance}
+use Rattle.model.specs.Network.{maxNodes, distance}
 use Rattle.model.specs.Oracle.{startSize, entrySize, listBytes, entryBytes}
 use Rattle.theory.specs.ReadLaws.{length-concatMap, length-value}
 use Rattle.algorithms.specs.Rounds.{distanceWords}
 use Rattle.arcs.specs.Arcs.{arcsIn}
+use Rattle.bitset.specs.Bits.{setWords}
+use Rattle.index.specs.Index.{Roads}
 use Rattle.grid.specs.declared.Grid.{Grid}
 use Rattle.crossing.specs.Ground.{cellsIn}
 use Rattle.crossing.specs.Cells.{sameCell, firstOfCell, same-cell}
 use Rattle.access.specs.Networks.{networkIn}
-use Rattle.access.specs.Regions.{region, own}
-use Rattle.access.proofs.Windows.{take-drop, drop-more}
+use Rattle.layout.specs.Regions.{regionAt, region, own, transit}
+use Rattle.layout.proofs.Windows.{take-drop, drop-more}
+use Rattle.layout.proofs.Indexed.{roads-from}
 use Rattle.emit.specs.Members.{membersOf, Among}
 use Rattle.emit.specs.Parts.{listSize, listBytesOf}
 use Rattle.emit.proofs.Writing.{take-splice, drop-splice, length-splice}
-use Rattle.passes.specs.Building.{accessOf, transitIn, listIn, membersIn, transit}
+use Rattle.passes.specs.Building.{accessOf, transitIn, listIn, membersIn}
 use Rattle.passes.specs.BuildingLaws.{list-words, among, same-access}
+use Rattle.passes.specs.Sought.{Sought}
+use Rattle.passes.proofs.Seeking.{sought-later}
 use Rattle.passes.specs.Covered.{seen-none, seen-all, seen-later, to-none, to-all, to-other, to-same}
 use Rattle.passes.specs.Placed.{Placed, offset, whole, length-whole, offset-above, offset-within, offset-order, assembled, read-start}
 use Rattle.bodies.specs.Listed.{Based, Begun, Listed, ListedTo}
@@ -92,11 +97,11 @@ module _ (b e c : Bytes) (grid : Grid) (n : ℕ) where
 
   -- The words go on to serve where the transit nodes stay.
   module _ (w w′ : List ℕ) (based : Based b e c grid n w) (k : length w′ ≡ length w) where
-    pub based-still : drop (6 * n) w′ ≡ drop (6 * n) w → Based b e c grid n w′
-    based-still q = record { ground = based .ground; count = based .count; few = based .few; words = omega (arith, based .words, k); transits = ap (λ (l : List ℕ). membersOf n (take n l)) q ∙ based .transits }
+    pub based-still : drop (regionAt n transit) w′ ≡ drop (regionAt n transit) w → Based b e c grid n w′
+    based-still q = record { ground = based .ground; count = based .count; few = based .few; words = omega (arith, based .words, k); some = based .some; roads = roads-from e c n w w′ (regionAt n transit) (omega arith) q (based .roads); transits = ap (λ (l : List ℕ). membersOf n (take (setWords n) l)) q ∙ based .transits }
 
     pub based-later : drop (3 * n) w′ ≡ drop (3 * n) w → Based b e c grid n w′
-    based-later q = based-still (drop-more (3 * n) (6 * n) w w′ (omega arith) q)
+    based-later q = based-still (drop-more (3 * n) (regionAt n transit) w w′ (omega arith) q)
 
   -- ---- the list of v, where the words are those for the cell of u
   module _ (w : List ℕ) (based : Based b e c grid n w) (u v : ℕ) (u-in : u < n) (v-in : v < n) (os : membersIn n own w ≡ accessOf b e c grid u) (body : Bytes) (l : ListedTo b e c grid n u v body) where
@@ -110,24 +115,22 @@ module _ (b e c : Bytes) (grid : Grid) (n : ℕ) where
       its-size : length (listIn b e c grid v) ≡ listSize (length (membersIn n own w))
       its-size = length-its v ∙ rw (os, same-nodes)
 
-      pub list-room : (size : ℕ) → size ≡ listSize (length (membersIn n own w))
-          → ((n ≤ maxNodes) × (v < n) × (8 * n ≤ length w) × Among n (region n own w) (region n transit w) × (size ≡ listSize (length (membersIn n own w))))
-          × (((someEdgeBroken n e ≡ false) × (numbersBroken (edgeCount e) c ≡ false))
-          × ((4 * v + 4 ≤ length body) × (word32 body (4 * v) + size ≤ length body)))
-      list-room size s = (
+      pub list-room : (left : ℕ) → Sought n left w
+          → ((n ≤ maxNodes) × (v < n) × (8 * n ≤ length w) × Among n (region n own w) (region n transit w) × Sought n left w)
+          × (Roads e c n w
+          × ((4 * v + 4 ≤ length body) × (word32 body (4 * v) + listSize left ≤ length body)))
+      list-room left s = (
         (based .few, v-in, based .words, among b e c grid n (based .count) w u u-in (based .transits) os, s),
         (
-          (rw (based .count) (based .ground .edges-rule), based .ground .closed-rule),
-          (start-fits n (listIn b e c grid) body (l .begun) v v-in, omega (arith, s, its-size, start-at n (listIn b e c grid) body (l .begun) v v-in, fits-at n (listIn b e c grid) body (l .begun) v v-in)),
+          based .roads,
+          (start-fits n (listIn b e c grid) body (l .begun) v v-in, omega (arith, ap listSize (s .count), its-size, start-at n (listIn b e c grid) body (l .begun) v v-in, fits-at n (listIn b e c grid) body (l .begun) v v-in)),
         ),
       )
 
-      pub list-done : (w′ : List ℕ) (new : Bytes) → length w′ ≡ length w → take n w′ ≡ distanceWords (arcsIn e c) n v → drop (3 * n) w′ ≡ drop (3 * n) w
-          → new ≡ splice (word32 body (4 * v)) (listBytesOf (take n w′) (membersIn n transit w′) (membersIn n own w′)) body → ListedTo b e c grid n u (v + 1) new
-      list-done w′ new k times q s =
+      pub list-done : (new : Bytes) → new ≡ splice (word32 body (4 * v)) (listBytesOf (distanceWords (arcsIn e c) n v) (membersIn n transit w) (membersIn n own w)) body → ListedTo b e c grid n u (v + 1) new
+      list-done new s =
           let list = listIn b e c grid in
-          let after = based-later w w′ based k q in
-          let its : listBytesOf (take n w′) (membersIn n transit w′) (membersIn n own w′) ≡ list v = list-words b e c grid n (based .count) w′ v times (after .transits) u same-nodes (own-later n w w′ q ∙ os) in
+          let its : listBytesOf (distanceWords (arcsIn e c) n v) (membersIn n transit w) (membersIn n own w) ≡ list v = list-words b e c grid n (based .count) w v u (based .transits) same-nodes os in
           let is : new ≡ with-it n list body (l .begun) v v-in = s ∙ rw (start-at n list body (l .begun) v v-in, its) in
           rw is
           (record {
@@ -154,20 +157,19 @@ module _ (b e c : Bytes) (grid : Grid) (n : ℕ) where
       listed-all h l = assembled n (listIn b e c grid) body (l .begun .size) (l .begun .starts) (seen-all (cellsIn grid b) (Placed n (listIn b e c grid) body) n u h (l .seen))
 
 -- ---- the words for the cell of u, while its lists are written
-pub record Working (b e c : Bytes) (grid : Grid) (n u size : ℕ) (w₀ w : List ℕ) : Type 0 where
+pub record Working (b e c : Bytes) (grid : Grid) (n u left : ℕ) (w₀ w : List ℕ) : Type 0 where
   pub based : Based b e c grid n w
   pub owns : membersIn n own w ≡ accessOf b e c grid u
-  pub sized : size ≡ listSize (length (membersIn n own w))
+  pub sought : Sought n left w
   pub kept : length w ≡ length w₀
-  pub others : drop (6 * n) w ≡ drop (6 * n) w₀
+  pub others : drop (regionAt n transit) w ≡ drop (regionAt n transit) w₀
 
-pub working-next : (b e c : Bytes) (grid : Grid) (n u size : ℕ) (w₀ w w′ : List ℕ) → Working b e c grid n u size w₀ w → length w′ ≡ length w → drop (3 * n) w′ ≡ drop (3 * n) w → Working b e c grid n u size w₀ w′
-working-next b e c grid n u size w₀ w w′ g k q =
-    let same = own-later n w w′ q in
+pub working-next : (b e c : Bytes) (grid : Grid) (n u left : ℕ) (w₀ w w′ : List ℕ) → Working b e c grid n u left w₀ w → length w′ ≡ length w → drop (3 * n) w′ ≡ drop (3 * n) w → Working b e c grid n u left w₀ w′
+working-next b e c grid n u left w₀ w w′ g k q =
     record {
       based = based-later b e c grid n w w′ (g .based) k q;
-      owns = same ∙ g .owns;
-      sized = rw same (g .sized);
+      owns = own-later n w w′ q ∙ g .owns;
+      sought = sought-later n left w (g .sought) w′ q;
       kept = k ∙ g .kept;
-      others = drop-more (3 * n) (6 * n) w w′ (omega arith) q ∙ g .others;
+      others = drop-more (3 * n) (regionAt n transit) w w′ (omega arith) q ∙ g .others;
     }

@@ -1,14 +1,14 @@
 -- A part of the output, lent and come back, and regions of the working words that a search leaves as they are. Assumes nothing.
 use Prim.Native.Nat.{ℕ, _+_, _-_, _*_, _≤_}
 use native.Mathlib.Omega.{arith}
-use native.Mathlib.Nat.{mul-le-mul-right}
 use mathlib.Core.Path.{_≡_, sym, ap}
 use mathlib.Core.List.{List, append-assoc}
 use borrow.Rule.Slice.PartMut.{midOf, putMid, post-is, mid-len}
 use lib.ListN.{length, take, drop}
 use Rattle.model.specs.Bytes.{Bytes, splice}
-use Rattle.access.specs.Regions.{region}
-use Rattle.access.proofs.Windows.{drop-more}
+use Rattle.bitset.specs.Bits.{setWords}
+use Rattle.layout.specs.Regions.{regionAt, region}
+use Rattle.layout.proofs.Windows.{drop-more, at-sets}
 
 -- What came back stands in the output at the place of the part.
 pub part-written : (a e : ℕ) (out ys : Bytes) → a ≤ e → e ≤ length out → length ys ≡ length (midOf a (e - a) out) → putMid a (e - a) out ys ≡ splice a ys out
@@ -19,4 +19,4 @@ part-written a e out ys h l k =
 
 -- A region behind the words that changed.
 pub region-later : (n k : ℕ) (w w′ : List ℕ) → 3 ≤ k → drop (3 * n) w′ ≡ drop (3 * n) w → region n k w′ ≡ region n k w
-region-later n k w w′ h e = ap (take n) (drop-more (3 * n) (k * n) w w′ (mul-le-mul-right n h) e)
+region-later n k w w′ h e = ap (take (setWords n)) (drop-more (3 * n) (regionAt n k) w w′ (omega (arith, at-sets n k h)) e)

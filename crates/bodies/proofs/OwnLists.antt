@@ -8,36 +8,35 @@ use lib.ListN.{length, take, drop}
 use lib.Seq.{length-take-le}
 use Rattle.model.specs.Bytes.{Bytes, splice}
 use Rattle.model.specs.Network.{maxNodes}
-use Rattle.access.specs.Regions.{region, own}
-use Rattle.access.proofs.Windows.{part-is, part-length}
+use Rattle.layout.specs.Regions.{region, own, transit}
+use Rattle.layout.proofs.Windows.{region-length}
 use Rattle.emit.specs.Members.{membersOf, HasBits, Among}
 use Rattle.emit.specs.Parts.{listSize, listBytesOf}
-use Rattle.passes.specs.Building.{membersIn, transit}
+use Rattle.model.specs.Walk.{Arc}
+use Rattle.algorithms.specs.Rounds.{distanceWords}
+use Rattle.algorithms.specs.Stops.{Stopped}
+use Rattle.search.specs.Regions.{timesIn, wantIn}
+use Rattle.passes.specs.Building.{membersIn}
+use Rattle.passes.specs.Sought.{Sought}
+use Rattle.passes.proofs.Seeking.{sought-list}
 use Rattle.bodies.proofs.Lent.{part-written, region-later}
 
--- The words of region k, lent.
-abbrev pub lent : ℕ → ℕ → List ℕ → List ℕ
-lent n k work = midOf (k * n) (k * n + n - k * n) work
+-- o and t are the words of the regions OWN and TRANSIT, as the code lends them.
+module _ (n : ℕ) (work : List ℕ) (some : 1 ≤ n) (long : 8 * n ≤ length work) (o : List ℕ) (p : o ≡ region n own work) where
+  pub has-own : HasBits n o
+  has-own = rw p (omega (arith, region-length n own work (omega arith)))
 
-module _ (n : ℕ) (work : List ℕ) (long : 8 * n ≤ length work) where
-  pub counted-own : (r : ℕ) → r ≡ length (membersOf n (lent n own work)) → 2 + 6 * r ≡ listSize (length (membersIn n own work))
-  unfolding listSize
-  counted-own r e = rw (e, part-is (own * n) n work)
+  module _ (t : List ℕ) (q : t ≡ region n transit work) where
+    pub own-parts : (out : Bytes) → n ≤ maxNodes → Among n (region n own work) (region n transit work) → length out ≡ listSize (length (membersIn n own work))
+        → ((n ≤ maxNodes) × HasBits n o × HasBits n t × (n ≤ length (take n work)))
+        × (Among n o t × (length out ≡ listSize (length (membersOf n o))))
+    own-parts out few among size = (
+      (few, has-own, rw q (omega (arith, region-length n transit work (omega arith))), omega (arith, length-take-le n work (omega arith))),
+      (rw (p, q) among, rw p size),
+    )
 
-  pub has-own : HasBits n (lent n own work)
-  has-own = omega (arith, part-length (own * n) n work (omega arith))
-
-  pub own-parts : (out : Bytes) → n ≤ maxNodes → Among n (region n own work) (region n transit work) → length out ≡ listSize (length (membersIn n own work))
-      → ((n ≤ maxNodes) × HasBits n (lent n own work) × HasBits n (lent n transit work) × (n ≤ length (take n work)))
-      × (Among n (lent n own work) (lent n transit work) × (length out ≡ listSize (length (membersOf n (lent n own work)))))
-  own-parts out few among size = (
-    (few, has-own, omega (arith, part-length (transit * n) n work (omega arith)), omega (arith, length-take-le n work (omega arith))),
-    (rw (part-is (own * n) n work, part-is (transit * n) n work) among, rw (part-is (own * n) n work) size),
-  )
-
-  pub own-written : (ys : Bytes) → ys ≡ listBytesOf (take n work) (membersOf n (lent n transit work)) (membersOf n (lent n own work))
-      → ys ≡ listBytesOf (take n work) (membersIn n transit work) (membersIn n own work)
-  own-written ys e = e ∙ rw (part-is (own * n) n work, part-is (transit * n) n work)
+    pub own-written : (ys : Bytes) → ys ≡ listBytesOf (take n work) (membersOf n t) (membersOf n o) → ys ≡ listBytesOf (take n work) (membersIn n transit work) (membersIn n own work)
+    own-written ys e = e ∙ rw (p, q)
 
 -- Bytes of this size, at a position.
 module _ (start size : ℕ) (body : Bytes) (h : start + size ≤ length body) where
@@ -54,3 +53,12 @@ module _ (n : ℕ) (w w′ : List ℕ) (e : drop (3 * n) w′ ≡ drop (3 * n) w
 
   pub own-later : membersIn n own w′ ≡ membersIn n own w
   own-later = ap (membersOf n) (region-later n own w w′ (omega arith) e)
+
+  transit-later : membersIn n transit w′ ≡ membersIn n transit w
+  transit-later = ap (membersOf n) (region-later n transit w w′ (omega arith) e)
+
+  -- The list written from what the search from s has found.
+  pub list-found : (left : ℕ) → Sought n left w → (arcs : List Arc) (s : ℕ) (order : List ℕ) → Stopped arcs n s (wantIn n w) (timesIn n w′) order → (at : ℕ) (old new : Bytes)
+      → new ≡ splice at (listBytesOf (timesIn n w′) (membersIn n transit w′) (membersIn n own w′)) old → new ≡ splice at (listBytesOf (distanceWords arcs n s) (membersIn n transit w) (membersIn n own w)) old
+  list-found left g arcs s order f at old new q =
+      q ∙ ap (λ (l : Bytes). splice at l old) (rw (transit-later, own-later) (sought-list n left w g arcs s (timesIn n w′) order f (membersIn n transit w)))

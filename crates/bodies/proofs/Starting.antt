@@ -1,4 +1,4 @@
--- The starts of the lists, from the numbers of entries in region 7. Assumes nothing.
+-- The starts of the lists, from the numbers of entries in region COUNTS. Assumes nothing.
 use Prim.Native.Nat.{ℕ, _*_, _≤_, _<_}
 use native.Mathlib.Omega.{arith}
 use mathlib.Core.Path.{_≡_, sym, _∙_, ap}
@@ -7,43 +7,42 @@ use lib.ListN.{length, getD, take, drop, length-append, length-drop}
 use lib.Seq.{length-take-le, getD-take, getD-drop, take-at}
 use Rattle.model.specs.Bytes.{Bytes}
 use Rattle.grid.specs.declared.Grid.{Grid}
-use Rattle.access.specs.Regions.{region}
-use Rattle.access.proofs.Windows.{part-is}
+use Rattle.layout.specs.Regions.{regionAt, countsIn, counts}
 use Rattle.emit.specs.Parts.{Counted, startsOf, listSizes}
 use Rattle.emit.specs.PartLaws.{starts-lists}
-use Rattle.passes.specs.Building.{accessOf, listIn, counts}
+use Rattle.passes.specs.Building.{accessOf, listIn}
 use Rattle.passes.specs.Placed.{whole, front, length-front, length-whole}
 use Rattle.passes.specs.BuildingLaws.{access-few}
 use Rattle.bodies.specs.Listed.{Based, Begun, Counts}
-use Rattle.bodies.proofs.OwnLists.{lent}
 use Rattle.bodies.proofs.CellLists.{length-its}
 
-module _ (n : ℕ) (work : List ℕ) where
-  pub starts-room : (body : Bytes) → 4 * n ≤ length body → Counted n (region n counts work) → Counted n (lent n counts work) × (length (take (4 * n) body) ≡ 4 * n)
-  starts-room body h c = (rw (part-is (counts * n) n work) c, length-take-le (4 * n) body h)
+-- s are the words of region COUNTS, as the code lends them.
+module _ (n : ℕ) (work s : List ℕ) (p : s ≡ countsIn n work) where
+  pub starts-room : (body : Bytes) → 4 * n ≤ length body → Counted n (countsIn n work) → Counted n s × (length (take (4 * n) body) ≡ 4 * n)
+  starts-room body h c = (rw p c, length-take-le (4 * n) body h)
 
-  pub starts-put : (body ys : Bytes) → ys ≡ startsOf (4 * n) (listSizes n (lent n counts work)) → ys ++ drop (4 * n) body ≡ startsOf (4 * n) (listSizes n (region n counts work)) ++ drop (4 * n) body
-  starts-put body ys e = rw (e, part-is (counts * n) n work)
+  pub starts-put : (body ys : Bytes) → ys ≡ startsOf (4 * n) (listSizes n s) → ys ++ drop (4 * n) body ≡ startsOf (4 * n) (listSizes n (countsIn n work)) ++ drop (4 * n) body
+  starts-put body ys e = rw (e, p)
 
 module _ (b e c : Bytes) (grid : Grid) (n : ℕ) (work : List ℕ) (based : Based b e c grid n work) (all : Counts b e c grid n work) where
-  pub count-is : (v : ℕ) → v < n → getD (region n counts work) v 0 ≡ length (accessOf b e c grid v)
-  count-is v h = getD-take n (drop (counts * n) work) v 0 h ∙ (getD-drop (counts * n) work v 0 ∙ all v h)
+  pub count-is : (v : ℕ) → v < n → getD (countsIn n work) v 0 ≡ length (accessOf b e c grid v)
+  count-is v h = getD-take n (drop (regionAt n counts) work) v 0 h ∙ (getD-drop (regionAt n counts) work v 0 ∙ all v h)
 
-  pub counted-all : Counted n (region n counts work)
+  pub counted-all : Counted n (countsIn n work)
   counted-all = (
     based .few,
-    omega (arith, based .words, length-drop (counts * n) work, length-take-le n (drop (counts * n) work) (simp length-drop (omega (arith, based .words)))),
+    omega (arith, based .words, based .some, length-drop (regionAt n counts) work, length-take-le n (drop (regionAt n counts) work) (simp length-drop (omega (arith, based .words, based .some)))),
     λ v h. omega (arith, count-is v h, based .few, access-few b e c grid n (based .count) v),
   )
 
-  starts-are : startsOf (4 * n) (listSizes n (region n counts work)) ≡ front n (listIn b e c grid)
-  starts-are = sym (starts-lists (listIn b e c grid) n (region n counts work) (λ v h. length-its b e c grid n v ∙ rw (count-is v h)))
+  starts-are : startsOf (4 * n) (listSizes n (countsIn n work)) ≡ front n (listIn b e c grid)
+  starts-are = sym (starts-lists (listIn b e c grid) n (countsIn n work) (λ v h. length-its b e c grid n v ∙ rw (count-is v h)))
 
   module _ (body : Bytes) (size : length body ≡ length (whole n (listIn b e c grid))) where
     pub starts-fit : 4 * n ≤ length body
     starts-fit = omega (arith, size, length-whole n (listIn b e c grid))
 
-    pub begun-first : (new : Bytes) → new ≡ startsOf (4 * n) (listSizes n (region n counts work)) ++ drop (4 * n) body → length body < 4294967296 → Begun n (listIn b e c grid) new
+    pub begun-first : (new : Bytes) → new ≡ startsOf (4 * n) (listSizes n (countsIn n work)) ++ drop (4 * n) body → length body < 4294967296 → Begun n (listIn b e c grid) new
     begun-first new put small =
         let list = listIn b e c grid in
         let is : new ≡ front n list ++ drop (4 * n) body = put ∙ rw starts-are in

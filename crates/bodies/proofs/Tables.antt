@@ -13,33 +13,33 @@ use Rattle.algorithms.specs.Rounds.{distanceWords}
 use Rattle.theory.specs.ReadLaws.{length-concatMap}
 use Rattle.arcs.specs.Arcs.{arcsIn}
 use Rattle.bitset.specs.Bits.{isIn}
-use Rattle.access.specs.Regions.{region}
-use Rattle.access.proofs.Windows.{part-is, part-length, in-front}
+use Rattle.layout.specs.Regions.{regionAt, region, transit}
+use Rattle.layout.proofs.Windows.{region-length, in-front}
 use Rattle.emit.specs.Members.{membersOf, HasBits, ifIn}
 use Rattle.emit.specs.Parts.{rowBytes}
 use Rattle.emit.specs.PartLaws.{length-row}
 use Rattle.emit.specs.Records.{Wrote}
 use Rattle.emit.proofs.Writing.{Written, written-start}
 use Rattle.emit.proofs.Turns.{membersFrom, members-all, wrote-out, wrote-in, fits-in}
-use Rattle.passes.specs.Building.{membersIn, transit}
+use Rattle.passes.specs.Building.{membersIn}
 use Rattle.bodies.specs.Rows.{rowIn}
 use Rattle.bodies.proofs.Lent.{part-written, region-later}
 
--- ---- a row, from the words
-module _ (n at t : ℕ) (work : List ℕ) (out : Bytes) (long : 8 * n ≤ length work) (e : t ≡ length (membersIn n transit work)) (h : at + 4 * t ≤ length out) where
-  pub row-room : HasBits n (midOf (6 * n) (6 * n + n - 6 * n) work) × (n ≤ length (take n work)) × (length (midOf at (at + 4 * t - at) out) ≡ 4 * length (membersOf n (midOf (6 * n) (6 * n + n - 6 * n) work)))
+-- ---- a row, from the words: s are those of region TRANSIT, as the code lends them
+module _ (n at t : ℕ) (work : List ℕ) (out : Bytes) (long : 8 * n ≤ length work) (e : t ≡ length (membersIn n transit work)) (h : at + 4 * t ≤ length out) (some : 1 ≤ n) (s : List ℕ) (p : s ≡ region n transit work) where
+  pub row-room : HasBits n s × (n ≤ length (take n work)) × (length (midOf at (at + 4 * t - at) out) ≡ 4 * length (membersOf n s))
   row-room =
       let z : at + 4 * t - at ≡ 4 * t = omega arith in (
-        omega (arith, part-length (6 * n) n work (omega arith)),
+        rw p (omega (arith, region-length n transit work (omega arith))),
         omega (arith, length-take-le n work (omega arith)),
-        mid-len at (at + 4 * t) out h ∙ (z ∙ rw (part-is (6 * n) n work) (ap (λ (m : ℕ). 4 * m) e)),
+        mid-len at (at + 4 * t) out h ∙ (z ∙ rw p (ap (λ (m : ℕ). 4 * m) e)),
       )
 
-  pub row-written : (ys : Bytes) → length ys ≡ length (midOf at (at + 4 * t - at) out) → ys ≡ rowBytes (take n work) (membersOf n (midOf (6 * n) (6 * n + n - 6 * n) work))
+  pub row-written : (ys : Bytes) → length ys ≡ length (midOf at (at + 4 * t - at) out) → ys ≡ rowBytes (take n work) (membersOf n s)
       → putMid at (at + 4 * t - at) out ys ≡ splice at (rowBytes (take n work) (membersIn n transit work)) out
   row-written ys k q =
       part-written at (at + 4 * t) out ys (omega arith) h k ∙
-      ap (λ (b : Bytes). splice at b out) (q ∙ ap (λ (s : List ℕ). rowBytes (take n work) (membersOf n s)) (part-is (6 * n) n work))
+      ap (λ (b : Bytes). splice at b out) (q ∙ ap (λ (s : List ℕ). rowBytes (take n work) (membersOf n s)) p)
 
 -- ---- the row of v, where it is a transit node
 module _ (edges closed : Bytes) (n v : ℕ) (work : List ℕ) (h : v < n) where
@@ -50,14 +50,14 @@ module _ (edges closed : Bytes) (n v : ℕ) (work : List ℕ) (h : v < n) where
   unfolding rowIn
   length-its = length-row (distanceWords (arcsIn edges closed) n v) (membersIn n transit work)
 
-  inside : isIn (region n transit work) v ≡ isIn (drop (transit * n) work) v
-  inside = in-front n (drop (transit * n) work) v h
+  inside : isIn (region n transit work) v ≡ isIn (drop (regionAt n transit) work) v
+  inside = in-front n (drop (regionAt n transit) work) v h
 
   module _ (t at : ℕ) (out : Bytes) (e : t ≡ length (membersIn n transit work)) where
-    pub no-row : isIn (drop (transit * n) work) v ≡ false → Wrote out at (ifIn (region n transit work) v row) at out
+    pub no-row : isIn (drop (regionAt n transit) work) v ≡ false → Wrote out at (ifIn (region n transit work) v row) at out
     no-row q = wrote-out (region n transit work) v out at row (inside ∙ q)
 
-    module _ (q : isIn (drop (transit * n) work) v ≡ true) where
+    module _ (q : isIn (drop (regionAt n transit) work) v ≡ true) where
       pub row-fits : at + length (ifIn (region n transit work) v row) ≤ length out → at + 4 * t ≤ length out
       row-fits l = omega (arith, fits-in (region n transit work) v at (length out) row (inside ∙ q) l, length-its, e)
 

@@ -6,19 +6,23 @@ use lib.ListN.{length, getD, take}
 use Rattle.model.specs.Bytes.{Bytes}
 use Rattle.model.specs.Network.{maxNodes, nodeCount}
 use Rattle.model.specs.Oracle.{startSize}
+use Rattle.index.specs.Index.{Roads}
 use Rattle.grid.specs.declared.Grid.{Grid}
 use Rattle.crossing.specs.Ground.{cellsIn, Ground}
-use Rattle.passes.specs.Building.{accessOf, transitIn, listIn, membersIn, transit}
+use Rattle.layout.specs.Regions.{regionAt, counts, transit}
+use Rattle.passes.specs.Building.{accessOf, transitIn, listIn, membersIn}
 use Rattle.passes.specs.Covered.{Seen, SeenTo}
 use Rattle.passes.specs.Placed.{Placed, front, whole}
 
--- What the lists are worked out by: an accepted network of n nodes with a grid, and working words with its transit nodes.
+-- What the lists are worked out by: an accepted network of n nodes with a grid, and working words with its transit nodes and the index of its edges.
 pub record Based (nodes edges closed : Bytes) (grid : Grid) (n : ℕ) (work : List ℕ) : Type 0 where
   pub ground : Ground nodes edges closed grid
   pub count : n ≡ nodeCount nodes
   pub few : n ≤ maxNodes
   pub words : 8 * n ≤ length work
+  pub some : 1 ≤ n
   pub transits : membersIn n transit work ≡ transitIn nodes edges closed grid
+  pub roads : Roads edges closed n work
 
 -- A body with the size of the whole one, and with its starts.
 pub record Begun (n : ℕ) (list : ℕ → Bytes) (body : Bytes) : Type 0 where
@@ -36,6 +40,6 @@ pub record ListedTo (nodes edges closed : Bytes) (grid : Grid) (n u v : ℕ) (bo
   pub begun : Begun n (listIn nodes edges closed grid) body
   pub seen : SeenTo (cellsIn grid nodes) (Placed n (listIn nodes edges closed grid) body) n u v
 
--- Region 7 of the working words has the number of access nodes of each node.
+-- Region COUNTS of the working words has the number of access nodes of each node.
 abbrev pub Counts : Bytes → Bytes → Bytes → Grid → ℕ → List ℕ → Type 0
-Counts nodes edges closed grid n work = (v : ℕ) → v < n → getD work (7 * n + v) 0 ≡ length (accessOf nodes edges closed grid v)
+Counts nodes edges closed grid n work = (v : ℕ) → v < n → getD work (regionAt n counts + v) 0 ≡ length (accessOf nodes edges closed grid v)

@@ -3,42 +3,47 @@ ghost use mathlib.Core.Path.{_≡_};
 ghost use Prim.Native.Nat.{_+_, _*_, _<_, _≤_};
 ghost use mathlib.Core.List.{_++_};
 ghost use lib.ListN.{length, drop};
-ghost use Rattle.access.specs.Regions.{region, own};
-ghost use Rattle.emit.specs.Parts.{Counted, startsOf, listSize, listSizes};
-ghost use Rattle.passes.specs.Building.{accessOf, listIn, membersIn, counts};
+ghost use Rattle.crossing.specs.Beside.{CellSquare};
+ghost use Rattle.layout.specs.Regions.{regionAt, countsIn, transit, own};
+ghost use Rattle.emit.specs.Parts.{Counted, startsOf, listSizes};
+ghost use Rattle.passes.specs.Building.{accessOf, listIn, membersIn};
 ghost use Rattle.passes.specs.Placed.{whole};
+ghost use Rattle.passes.specs.Sought.{Sought};
 ghost use Rattle.bodies.specs.Listed.{Based, Listed, ListedTo, Counts};
-use crate::lists::own_size;
 use crate::lists::put_list;
-use access::regions::COUNTS;
 use codec::records::START_SIZE;
+use crossing::cells::beside;
+use crossing::cells::cell_square;
 use crossing::cells::first_of_cell;
-use crossing::cells::same_cell;
 use emit::starts::write_starts;
 use grid::Grid;
-use passes::own::own_access;
+use grid::square::Square;
+use layout::regions::COUNTS;
+use layout::regions::region_at;
+use passes::own::own_wanted;
 
-// Writes the list of v, if v has the cell of u.
+// Writes the list of v, if v has the cell of u, which the square is of. The cell has `left` access nodes.
 fn list_beside(
     nodes: &[u8],
     edges: &[u8],
     closed: &[u8],
     grid: Grid,
+    square: Square,
     n: usize,
     u: usize,
     v: usize,
-    size: usize,
+    left: usize,
     work: &mut [u32],
     body: &mut [u8],
 )
-    requires { ⌜ Based (now nodes) (now edges) (now closed) grid n (now work) × (u < n) × (v < n) ⌝ }
-    requires { ⌜ (membersIn n own (now work) ≡ accessOf (now nodes) (now edges) (now closed) grid u) × (size ≡ listSize (length (membersIn n own (now work)))) ⌝ }
+    requires { ⌜ Based (now nodes) (now edges) (now closed) grid n (now work) × (u < n) × (v < n) × CellSquare (now nodes) grid u square ⌝ }
+    requires { ⌜ (membersIn n own (now work) ≡ accessOf (now nodes) (now edges) (now closed) grid u) × Sought n left (now work) ⌝ }
     requires { ⌜ ListedTo (now nodes) (now edges) (now closed) grid n u v (now body) ⌝ }
     ensures lists { λ _. ⌜ ListedTo (now (nodes .entry)) (now (edges .entry)) (now (closed .entry)) grid n u (v + 1) (now (body .exit)) ⌝ }
     ensures others { λ _. ⌜ drop (3 * n) (now (work .exit)) ≡ drop (3 * n) (now (work .entry)) ⌝ }
 {
-    if same_cell(nodes, grid, u, v) {
-        put_list(edges, closed, n, v, size, work, body);
+    if beside(nodes, square, v) {
+        put_list(edges, closed, n, v, left, work, body);
     }
 }
 
@@ -55,13 +60,25 @@ fn lists_of_cell(
 )
     requires { ⌜ Based (now nodes) (now edges) (now closed) grid n (now work) × (u < n) × Listed (now nodes) (now edges) (now closed) grid n u (now body) ⌝ }
     ensures lists { λ _. ⌜ Listed (now (nodes .entry)) (now (edges .entry)) (now (closed .entry)) grid n (u + 1) (now (body .exit)) ⌝ }
-    ensures others { λ _. ⌜ drop (6 * n) (now (work .exit)) ≡ drop (6 * n) (now (work .entry)) ⌝ }
+    ensures others { λ _. ⌜ drop (regionAt n transit) (now (work .exit)) ≡ drop (regionAt n transit) (now (work .entry)) ⌝ }
 {
-    own_access(nodes, edges, closed, grid, n, u, work);
-    let size = own_size(n, work);
+    let left = own_wanted(nodes, edges, closed, grid, n, u, work);
+    let square = cell_square(nodes, grid, u);
     let mut v = 0;
     while v < n {
-        list_beside(nodes, edges, closed, grid, n, u, v, size, work, body);
+        list_beside(
+            nodes,
+            edges,
+            closed,
+            grid,
+            square,
+            n,
+            u,
+            v,
+            left,
+            work,
+            body,
+        );
         v += 1;
     }
 }
@@ -79,7 +96,7 @@ fn lists_at(
 )
     requires { ⌜ Based (now nodes) (now edges) (now closed) grid n (now work) × (u < n) × Listed (now nodes) (now edges) (now closed) grid n u (now body) ⌝ }
     ensures lists { λ _. ⌜ Listed (now (nodes .entry)) (now (edges .entry)) (now (closed .entry)) grid n (u + 1) (now (body .exit)) ⌝ }
-    ensures others { λ _. ⌜ drop (6 * n) (now (work .exit)) ≡ drop (6 * n) (now (work .entry)) ⌝ }
+    ensures others { λ _. ⌜ drop (regionAt n transit) (now (work .exit)) ≡ drop (regionAt n transit) (now (work .entry)) ⌝ }
 {
     if first_of_cell(nodes, grid, u) {
         lists_of_cell(nodes, edges, closed, grid, n, u, work, body);
@@ -98,7 +115,7 @@ fn put_lists(
 )
     requires { ⌜ Based (now nodes) (now edges) (now closed) grid n (now work) × Listed (now nodes) (now edges) (now closed) grid n 0 (now body) ⌝ }
     ensures bytes { λ _. ⌜ now (body .exit) ≡ whole n (listIn (now (nodes .entry)) (now (edges .entry)) (now (closed .entry)) grid) ⌝ }
-    ensures others { λ _. ⌜ drop (6 * n) (now (work .exit)) ≡ drop (6 * n) (now (work .entry)) ⌝ }
+    ensures others { λ _. ⌜ drop (regionAt n transit) (now (work .exit)) ≡ drop (regionAt n transit) (now (work .entry)) ⌝ }
 {
     let mut u = 0;
     while u < n {
@@ -109,10 +126,10 @@ fn put_lists(
 
 // The starts, from the numbers of entries.
 fn put_starts(n: usize, work: &[u32], body: &mut [u8])
-    requires { ⌜ (8 * n ≤ length (now work)) × (4 * n ≤ length (now body)) × Counted n (region n counts (now work)) ⌝ }
-    ensures { λ _. ⌜ now (body .exit) ≡ startsOf (4 * n) (listSizes n (region n counts (now (work .entry)))) ++ drop (4 * n) (now (body .entry)) ⌝ }
+    requires { ⌜ (8 * n ≤ length (now work)) × (4 * n ≤ length (now body)) × Counted n (countsIn n (now work)) × (1 ≤ n) ⌝ }
+    ensures { λ _. ⌜ now (body .exit) ≡ startsOf (4 * n) (listSizes n (countsIn n (now (work .entry)))) ++ drop (4 * n) (now (body .entry)) ⌝ }
 {
-    let a = COUNTS * n;
+    let a = region_at(n, COUNTS);
     let e = a + n;
     let m = START_SIZE * n;
     write_starts(&work[a..e], n, &mut body[..m]);
@@ -131,7 +148,7 @@ pub fn put_access(
     requires { ⌜ Based (now nodes) (now edges) (now closed) grid n (now work) × Counts (now nodes) (now edges) (now closed) grid n (now work) ⌝ }
     requires { ⌜ (length (now body) ≡ length (whole n (listIn (now nodes) (now edges) (now closed) grid))) × (length (now body) < 4294967296) ⌝ }
     ensures bytes { λ _. ⌜ now (body .exit) ≡ whole n (listIn (now (nodes .entry)) (now (edges .entry)) (now (closed .entry)) grid) ⌝ }
-    ensures others { λ _. ⌜ drop (6 * n) (now (work .exit)) ≡ drop (6 * n) (now (work .entry)) ⌝ }
+    ensures others { λ _. ⌜ drop (regionAt n transit) (now (work .exit)) ≡ drop (regionAt n transit) (now (work .entry)) ⌝ }
 {
     put_starts(n, work, body);
     put_lists(nodes, edges, closed, grid, n, work, body);

@@ -2,20 +2,21 @@
 use Prim.Native.Nat.{ℕ, _+_, _*_, _≤_, _<_}
 use native.Mathlib.Omega.{arith}
 use mathlib.Core.Path.{_≡_, ap}
-use mathlib.Core.Bool.{false}
 use mathlib.Core.List.{List, _++_}
 use lib.ListN.{length, drop, length-append, length-drop}
 use Rattle.model.specs.Lists.{concatMap}
 use Rattle.model.specs.Bytes.{Bytes, bytes16}
 use Rattle.model.specs.Contents.{entryAt, oracleEdition, oracleEntries}
-use Rattle.model.specs.Network.{distance, maxNodes, nodeCount, edgeCount, someEdgeBroken, numbersBroken}
+use Rattle.model.specs.Network.{distance, maxNodes, nodeCount}
 use Rattle.model.specs.Oracle.{tableBytes}
+use Rattle.index.specs.Index.{Roads}
 use Rattle.grid.specs.declared.Grid.{Grid}
 use Rattle.access.specs.Networks.{networkIn}
 use Rattle.emit.specs.Parts.{headBytes, numbersBytes, total}
 use Rattle.emit.specs.PartLaws.{length-numbers, length-head}
 use Rattle.emit.specs.Records.{Wrote}
-use Rattle.passes.specs.Building.{transitIn, listIn, membersIn, transit}
+use Rattle.layout.specs.Regions.{regionAt, transit}
+use Rattle.passes.specs.Building.{transitIn, listIn, membersIn}
 use Rattle.passes.specs.BuildingLaws.{transit-few, table-words}
 use Rattle.passes.specs.Placed.{whole}
 use Rattle.bodies.specs.Listed.{Based, Counts}
@@ -46,8 +47,8 @@ table-is b e c grid n size l q = table-words b e c grid n size l q
 
 -- ---- bodies 5 to 7
 module _ (b e c : Bytes) (grid : Grid) (n t a : ℕ) (w : List ℕ) (p : Planned b e c grid n t a w) where
-  pub transit-room : (at room : ℕ) → at + 2 * t + a + 4 * t * t ≤ room → (n ≤ maxNodes) × (8 * n ≤ length w) × (t ≡ length (membersIn n transit w)) × (at + 2 * t ≤ room)
-  transit-room at room h = (p .based .few, p .based .words, rw (p .based .transits) (p .transits), omega arith)
+  pub transit-room : (at room : ℕ) → at + 2 * t + a + 4 * t * t ≤ room → (n ≤ maxNodes) × (8 * n ≤ length w) × (t ≡ length (membersIn n transit w)) × (at + 2 * t ≤ room) × (1 ≤ n)
+  transit-room at room h = (p .based .few, p .based .words, rw (p .based .transits) (p .transits), omega arith, p .based .some)
 
   transit-ends : {old new : Bytes} {at m : ℕ} → Wrote old at (numbersBytes (membersIn n transit w)) m new → m ≡ at + 2 * t
   transit-ends q = omega (arith, q .ends, length-numbers (membersIn n transit w), ap length (p .based .transits), p .transits)
@@ -56,15 +57,15 @@ module _ (b e c : Bytes) (grid : Grid) (n t a : ℕ) (w : List ℕ) (p : Planned
     pub access-room : length mid ≡ length old → a < 4294967296 → (Based b e c grid n w × Counts b e c grid n w) × ((a ≡ length (whole n (listIn b e c grid))) × (a < 4294967296) × (m + a ≤ length mid))
     access-room k s = ((p .based, p .counts), (p .access, s, omega (arith, transit-ends q)))
 
-    module _ (w′ : List ℕ) (kept : length w′ ≡ length w) (others : drop (6 * n) w′ ≡ drop (6 * n) w) (k : ℕ) (next : Bytes) (r : Wrote mid m (whole n (listIn b e c grid)) k next) where
+    module _ (w′ : List ℕ) (kept : length w′ ≡ length w) (others : drop (regionAt n transit) w′ ≡ drop (regionAt n transit) w) (k : ℕ) (next : Bytes) (r : Wrote mid m (whole n (listIn b e c grid)) k next) where
       after : Based b e c grid n w′
       after = based-still b e c grid n w w′ (p .based) kept others
 
       pub table-room : length next ≡ length old
-          → ((n ≤ maxNodes) × (8 * n ≤ length w′) × (t ≡ length (membersIn n transit w′)) × (k + 4 * t * t ≤ length next) × (t ≤ maxNodes)) × ((someEdgeBroken n e ≡ false) × (numbersBroken (edgeCount e) c ≡ false))
+          → ((n ≤ maxNodes) × (8 * n ≤ length w′) × (t ≡ length (membersIn n transit w′)) × (k + 4 * t * t ≤ length next) × (t ≤ maxNodes)) × Roads e c n w′
       table-room l = (
         (after .few, after .words, rw (after .transits) (p .transits), omega (arith, transit-ends q, r .ends, p .access), omega (arith, p .transits, p .based .few, transit-few b e c grid n (p .based .count))),
-        (rw (p .based .count) (p .based .ground .edges-rule), p .based .ground .closed-rule),
+        after .roads,
       )
 
       pub back-written : {end : ℕ} {new : Bytes} → length mid ≡ length old → Wrote next k (concatMap (rowIn e c n (membersIn n transit w′)) (membersIn n transit w′)) end new → Wrote old at (backBytes b e c grid n) end new

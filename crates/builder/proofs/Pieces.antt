@@ -8,12 +8,13 @@ use borrow.Rule.Slice.PartMut.{midOf, putMid, mid-len}
 use lib.ListN.{length, take, drop, length-append}
 use lib.Seq.{length-take-le}
 use Rattle.model.specs.Bytes.{Bytes, splice}
-use Rattle.access.proofs.Windows.{part-is, part-length}
+use Rattle.layout.proofs.Windows.{region-length}
 use Rattle.emit.specs.Members.{membersOf, HasBits}
 use Rattle.emit.specs.Parts.{numbersBytes}
 use Rattle.emit.specs.Records.{Wrote}
 use Rattle.emit.proofs.Writing.{splice-then}
-use Rattle.passes.specs.Building.{membersIn, transit}
+use Rattle.layout.specs.Regions.{region, transit}
+use Rattle.passes.specs.Building.{membersIn}
 use Rattle.bodies.proofs.Lent.{part-written}
 
 -- One part after another is one of both.
@@ -39,13 +40,13 @@ wrote-front m out ys bytes h k q =
     let l : length ys ≡ m = k ∙ length-take-le m out h in
     record { ends = omega (arith, l, ap length q); spliced = rw (← q, zero-add, l) }
 
--- ---- the transit nodes
-module _ (n t at : ℕ) (work : List ℕ) (out : Bytes) (long : 8 * n ≤ length work) (e : t ≡ length (membersIn n transit work)) (h : at + 2 * t ≤ length out) where
-  pub numbers-room : HasBits n (midOf (6 * n) (6 * n + n - 6 * n) work) × (length (midOf at (at + 2 * t - at) out) ≡ 2 * length (membersOf n (midOf (6 * n) (6 * n + n - 6 * n) work)))
+-- ---- the transit nodes: s are the words of region TRANSIT, as the code lends them
+module _ (n t at : ℕ) (work : List ℕ) (out : Bytes) (long : 8 * n ≤ length work) (e : t ≡ length (membersIn n transit work)) (h : at + 2 * t ≤ length out) (some : 1 ≤ n) (s : List ℕ) (p : s ≡ region n transit work) where
+  pub numbers-room : HasBits n s × (length (midOf at (at + 2 * t - at) out) ≡ 2 * length (membersOf n s))
   numbers-room =
       let z : at + 2 * t - at ≡ 2 * t = omega arith in
-      (omega (arith, part-length (6 * n) n work (omega arith)), mid-len at (at + 2 * t) out h ∙ (z ∙ rw (part-is (6 * n) n work) (ap (λ (m : ℕ). 2 * m) e)))
+      (rw p (omega (arith, region-length n transit work (omega arith))), mid-len at (at + 2 * t) out h ∙ (z ∙ rw p (ap (λ (m : ℕ). 2 * m) e)))
 
-  pub numbers-written : (ys : Bytes) → length ys ≡ length (midOf at (at + 2 * t - at) out) → ys ≡ numbersBytes (membersOf n (midOf (6 * n) (6 * n + n - 6 * n) work))
+  pub numbers-written : (ys : Bytes) → length ys ≡ length (midOf at (at + 2 * t - at) out) → ys ≡ numbersBytes (membersOf n s)
       → Wrote out at (numbersBytes (membersIn n transit work)) (at + 2 * t) (putMid at (at + 2 * t - at) out ys)
-  numbers-written ys k q = wrote-part at (at + 2 * t) out ys (numbersBytes (membersIn n transit work)) (omega arith) h k (q ∙ rw (part-is (6 * n) n work))
+  numbers-written ys k q = wrote-part at (at + 2 * t) out ys (numbersBytes (membersIn n transit work)) (omega arith) h k (q ∙ rw p)

@@ -3,17 +3,19 @@ use Prim.Native.Nat.{ℕ, _+_, _*_, _≤_}
 use native.Mathlib.Omega.{arith}
 use mathlib.Core.Path.{_≡_, _∙_}
 use mathlib.Core.List.{List}
-use lib.ListN.{length}
+use lib.ListN.{length, drop}
 use Rattle.model.specs.Bytes.{Bytes}
 use Rattle.model.specs.Network.{maxNodes, nodeCount}
 use Rattle.theory.specs.Sound.{node-bytes}
+use Rattle.index.specs.Index.{Roads}
 use Rattle.grid.specs.declared.Grid.{Grid}
 use Rattle.grid.proofs.Cells.{over-made}
 use Rattle.crossing.specs.Ground.{Ground}
 use Rattle.crossing.specs.Sets.{ones}
-use Rattle.access.specs.Regions.{region, regionFlags}
+use Rattle.layout.specs.Regions.{regionAt, countsIn, regionFlags, transit}
+use Rattle.layout.proofs.Windows.{drop-more}
 use Rattle.emit.specs.Parts.{Counted, listSizes, total}
-use Rattle.passes.specs.Building.{transitIn, listIn, membersIn, transit, counts}
+use Rattle.passes.specs.Building.{transitIn, listIn, membersIn}
 use Rattle.passes.specs.Placed.{length-whole}
 use Rattle.passes.proofs.Listing.{count-members}
 use Rattle.bodies.specs.Listed.{Based, Counts}
@@ -33,26 +35,33 @@ module _ (f : Bytes) (g : ℕ) (b e c : Bytes) (grid : Grid) (n : ℕ) (l : Laid
         closed-rule = rw (l .of-edges, l .of-closed) (s .closed);
       }
 
+  pub laid-some : 1 ≤ n
+  laid-some = rw (l .count, l .of-nodes) (node-bytes f (l .passed .sound) .1)
+
+  -- The words of the regions are among the first 8 n.
+  pub behind-regions : (w w′ : List ℕ) → drop (regionAt n transit) w′ ≡ drop (regionAt n transit) w → drop (8 * n) w′ ≡ drop (8 * n) w
+  behind-regions w w′ d = drop-more (regionAt n transit) (8 * n) w w′ (omega (arith, laid-some)) d
+
   laid-few : n ≤ maxNodes
   laid-few = rw (l .count, l .of-nodes) (node-bytes f (l .passed .sound) .0)
 
   module _ (w : List ℕ) (words : 8 * n ≤ length w) where
-    pub pass-requires : Ground b e c grid × (n ≡ nodeCount b) × (n ≤ maxNodes) × (8 * n ≤ length w)
-    pass-requires = (laid-ground, l .count, laid-few, words)
+    pub pass-requires : Ground b e c grid × (n ≡ nodeCount b) × (n ≤ maxNodes) × (8 * n ≤ length w) × (1 ≤ n)
+    pass-requires = (laid-ground, l .count, laid-few, words, laid-some)
 
-    module _ (members : membersIn n transit w ≡ transitIn b e c grid) (all : Counts b e c grid n w) where
+    module _ (members : membersIn n transit w ≡ transitIn b e c grid) (all : Counts b e c grid n w) (roads : Roads e c n w) where
       based-first : Based b e c grid n w
-      based-first = record { ground = laid-ground; count = l .count; few = laid-few; words = words; transits = members }
+      based-first = record { ground = laid-ground; count = l .count; few = laid-few; words = words; some = laid-some; transits = members; roads = roads }
 
-      pub sizes-requires : (8 * n ≤ length w) × Counted n (region n counts w)
-      sizes-requires = (words, counted-all b e c grid n w based-first all)
+      pub sizes-requires : (8 * n ≤ length w) × Counted n (countsIn n w) × (1 ≤ n)
+      sizes-requires = (words, counted-all b e c grid n w based-first all, laid-some)
 
-      pub planned : (t a : ℕ) → t ≡ ones (regionFlags n transit w) → a ≡ 4 * n + total (listSizes n (region n counts w)) → Planned b e c grid n t a w
+      pub planned : (t a : ℕ) → t ≡ ones (regionFlags n transit w) → a ≡ 4 * n + total (listSizes n (countsIn n w)) → Planned b e c grid n t a w
       planned t a p q =
           let list = listIn b e c grid in
           record {
             based = based-first;
             counts = all;
             transits = p ∙ (count-members n transit w ∙ rw members);
-            access = q ∙ omega (arith, length-whole n list, length-lists list n (region n counts w) (λ v h. length-its b e c grid n v ∙ rw (count-is b e c grid n w based-first all v h)));
+            access = q ∙ omega (arith, length-whole n list, length-lists list n (countsIn n w) (λ v h. length-its b e c grid n v ∙ rw (count-is b e c grid n w based-first all v h)));
           }

@@ -1,19 +1,16 @@
 -- The size of lists, summed up one after the other. Assumes nothing.
-use Prim.Native.Nat.{ℕ, _+_, _-_, _*_, _≤_, _<_}
+use Prim.Native.Nat.{ℕ, _+_, _*_, _≤_, _<_}
 use native.Mathlib.Omega.{arith}
 use mathlib.Core.Path.{_≡_, refl, _∙_, ap}
 use mathlib.Core.List.{List, [], _∷_, map, map-map}
-use borrow.Rule.Slice.PartMut.{midOf}
 use lib.ListN.{length, getD, length-append}
 use Rattle.model.specs.Lists.{concat, upTo}
 use Rattle.model.specs.Bytes.{Bytes}
 use Rattle.theory.specs.RangeLaws.{rest, rest-all, rest-step, rest-end}
 use Rattle.theory.specs.Members.{range→}
-use Rattle.access.specs.Regions.{region}
-use Rattle.access.proofs.Windows.{part-is}
+use Rattle.layout.specs.Regions.{countsIn}
 use Rattle.emit.specs.Parts.{Counted, listSize, listSizes, total}
 use Rattle.emit.specs.PartLaws.{map-same}
-use Rattle.passes.specs.Building.{counts}
 
 module _ (counts : List ℕ) (n : ℕ) where
   -- The size of the lists from list v on.
@@ -48,10 +45,10 @@ length-lists f n counts h =
     length-concat (map f (upTo n)) ∙
     ap total (map-map length f (upTo n) ∙ map-same _ _ (upTo n) (λ v m. h v (omega (arith, range→ 0 n v m .1))))
 
--- ---- the numbers as a part of the words
-module _ (n : ℕ) (work : List ℕ) where
-  pub counted-part : Counted n (region n counts work) → Counted n (midOf (7 * n) (7 * n + n - 7 * n) work)
-  counted-part c = rw (part-is (7 * n) n work) c
+-- ---- the numbers as the words of region COUNTS, as the code lends them
+module _ (n : ℕ) (work s : List ℕ) (p : s ≡ countsIn n work) where
+  pub counted-part : Counted n (countsIn n work) → Counted n s
+  counted-part c = rw p c
 
-  pub sized-part : (r : ℕ) → r ≡ total (listSizes n (midOf (7 * n) (7 * n + n - 7 * n) work)) → 4 * n + r ≡ 4 * n + total (listSizes n (region n counts work))
-  sized-part r e = rw (e, part-is (7 * n) n work)
+  pub sized-part : (r : ℕ) → r ≡ total (listSizes n s) → 4 * n + r ≡ 4 * n + total (listSizes n (countsIn n work))
+  sized-part r e = rw (e, p)

@@ -3,8 +3,14 @@ ghost use mathlib.Core.Path.{_≡_};
 ghost use Prim.Native.Nat.{_*_, _≤_};
 ghost use lib.ListN.{length, drop};
 ghost use Rattle.model.specs.Rules.{firstBroken, wordsNeeded};
+ghost use Rattle.model.specs.Network.{maxNodes, nodeCount};
 ghost use Rattle.model.specs.Calls.{Build};
 ghost use Rattle.theory.specs.Passed.{Passed};
+ghost use Rattle.index.specs.Index.{Roads};
+ghost use Rattle.crossing.specs.Ground.{Ground};
+ghost use Rattle.layout.specs.Regions.{transit};
+ghost use Rattle.passes.specs.Building.{transitIn, membersIn};
+ghost use Rattle.bodies.specs.Listed.{Counts};
 ghost use Rattle.builder.specs.Given.{workRules, BuildGiven};
 ghost use Rattle.builder.specs.Laid.{Laid};
 use crate::network::CLOSED;
@@ -15,9 +21,10 @@ use crate::network::node_count;
 use crate::sizes::access_size;
 use crate::sizes::whole_size;
 use crate::whole::write_oracle;
-use access::regions::TRANSIT;
 use access::sets::count;
 use grid::Grid;
+use index::chains::build_index;
+use layout::regions::TRANSIT;
 use model::Built;
 use passes::transit::mark_transit;
 use query::local::zero_front;
@@ -38,6 +45,18 @@ fn build_refusal(network: &[u8], g: u32, words: usize) -> u32
     0
 }
 
+// Puts the index of the edges, the transit nodes and how many access nodes each node has into the working words.
+fn prepare(nodes: &[u8], edges: &[u8], closed: &[u8], grid: Grid, n: usize, work: &mut [u32])
+    requires { ⌜ Ground (now nodes) (now edges) (now closed) grid × (n ≡ nodeCount (now nodes)) × (n ≤ maxNodes) × (8 * n ≤ length (now work)) × (1 ≤ n) ⌝ }
+    ensures members { λ _. ⌜ membersIn n transit (now (work .exit)) ≡ transitIn (now (nodes .entry)) (now (edges .entry)) (now (closed .entry)) grid ⌝ }
+    ensures counted { λ _. ⌜ Counts (now (nodes .entry)) (now (edges .entry)) (now (closed .entry)) grid n (now (work .exit)) ⌝ }
+    ensures roads { λ _. ⌜ Roads (now (edges .entry)) (now (closed .entry)) n (now (work .exit)) ⌝ }
+    ensures behind { λ _. ⌜ drop (8 * n) (now (work .exit)) ≡ drop (8 * n) (now (work .entry)) ⌝ }
+{
+    build_index(edges, closed, n, work);
+    mark_transit(nodes, edges, closed, grid, n, work);
+}
+
 // Building over the bodies. The size is known before any output is written.
 fn build_in(
     network: &[u8],
@@ -54,7 +73,7 @@ fn build_in(
     ensures given { λ r. ⌜ BuildGiven (now (network .entry)) g (now (out .entry)) r (now (out .exit)) ⌝ }
     ensures rest { λ _. ⌜ drop (8 * n) (now (work .exit)) ≡ drop (8 * n) (now (work .entry)) ⌝ }
 {
-    mark_transit(nodes, edges, closed, grid, n, work);
+    prepare(nodes, edges, closed, grid, n, work);
     let t = count(work, n, TRANSIT);
     let a = access_size(n, work);
     let size = whole_size(network.len(), t, a);

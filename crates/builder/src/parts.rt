@@ -7,10 +7,11 @@ ghost use Rattle.model.specs.Contents.{entryAt, oracleEdition, oracleEntries};
 ghost use Rattle.model.specs.Network.{maxNodes};
 ghost use Rattle.emit.specs.Parts.{headBytes, numbersBytes, total};
 ghost use Rattle.emit.specs.Records.{Wrote};
-ghost use Rattle.passes.specs.Building.{membersIn, transit};
+ghost use Rattle.layout.specs.Regions.{transit};
+ghost use Rattle.passes.specs.Building.{membersIn};
 use crate::sizes::NETWORK_HEAD;
 use crate::sizes::ORACLE_HEAD;
-use access::regions::TRANSIT;
+use bitset::bits::set_words;
 use codec::bytes::write16;
 use codec::records::NUMBER_SIZE;
 use contents::ORACLE_EDITION;
@@ -18,6 +19,8 @@ use contents::ORACLE_ENTRIES;
 use emit::copy::copy;
 use emit::head::write_head;
 use emit::numbers::write_numbers;
+use layout::regions::TRANSIT;
+use layout::regions::region_at;
 
 // The head, for bodies of these sizes.
 pub fn put_head(sizes: [u32; ORACLE_ENTRIES], out: &mut [u8])
@@ -48,11 +51,11 @@ pub fn put_grid(g: u32, out: &mut [u8], at: usize) -> usize
 
 // Body 5, for t transit nodes.
 pub fn put_transit(n: usize, t: usize, work: &[u32], out: &mut [u8], at: usize) -> usize
-    requires { ⌜ (n ≤ maxNodes) × (8 * n ≤ length (now work)) × (t ≡ length (membersIn n transit (now work))) × (at + 2 * t ≤ length (now out)) ⌝ }
+    requires { ⌜ (n ≤ maxNodes) × (8 * n ≤ length (now work)) × (t ≡ length (membersIn n transit (now work))) × (at + 2 * t ≤ length (now out)) × (1 ≤ n) ⌝ }
     ensures { λ r. ⌜ Wrote (now (out .entry)) at (numbersBytes (membersIn n transit (now (work .entry)))) r (now (out .exit)) ⌝ }
 {
-    let a = TRANSIT * n;
-    let e = a + n;
+    let a = region_at(n, TRANSIT);
+    let e = a + set_words(n);
     let end = at + NUMBER_SIZE * t;
     write_numbers(n, &work[a..e], &mut out[at..end]);
     end

@@ -2,11 +2,9 @@
 ghost use mathlib.Core.Path.{_≡_};
 ghost use Prim.Native.Nat.{_+_, _*_, _<_, _≤_};
 ghost use lib.ListN.{length};
-ghost use Rattle.access.specs.Regions.{region};
+ghost use Rattle.layout.specs.Regions.{countsIn};
 ghost use Rattle.emit.specs.Parts.{Counted, listSizes, total};
-ghost use Rattle.passes.specs.Building.{counts};
 ghost use Rattle.builder.specs.Plan.{sizesIn, wholeSize};
-use access::regions::COUNTS;
 use codec::records::NUMBER_SIZE;
 use codec::records::START_SIZE;
 use codec::records::VALUE_SIZE;
@@ -15,6 +13,8 @@ use contents::HEAD_SIZE;
 use contents::NETWORK_ENTRIES;
 use contents::ORACLE_ENTRIES;
 use emit::starts::list_size;
+use layout::regions::COUNTS;
+use layout::regions::region_at;
 
 // Where the first body of a network stands, and that of an oracle.
 pub const NETWORK_HEAD: usize = HEAD_SIZE + ENTRY_SIZE * NETWORK_ENTRIES;
@@ -37,10 +37,10 @@ fn lists_size(counts: &[u32], n: usize) -> usize
 
 // The size of body 6, its starts included.
 pub fn access_size(n: usize, work: &[u32]) -> usize
-    requires { ⌜ (8 * n ≤ length (now work)) × Counted n (region n counts (now work)) ⌝ }
-    ensures { λ r. ⌜ r ≡ 4 * n + total (listSizes n (region n counts (now (work .entry)))) ⌝ }
+    requires { ⌜ (8 * n ≤ length (now work)) × Counted n (countsIn n (now work)) × (1 ≤ n) ⌝ }
+    ensures { λ r. ⌜ r ≡ 4 * n + total (listSizes n (countsIn n (now (work .entry)))) ⌝ }
 {
-    let a = COUNTS * n;
+    let a = region_at(n, COUNTS);
     let e = a + n;
     let lists = lists_size(&work[a..e], n);
     START_SIZE * n + lists

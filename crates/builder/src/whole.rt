@@ -1,15 +1,16 @@
 // The whole oracle, part by part.
 ghost use mathlib.Core.Path.{_≡_};
-ghost use mathlib.Core.Bool.{false};
 ghost use mathlib.Core.List.{_++_};
 ghost use Prim.Native.Nat.{_+_, _*_, _<_, _≤_};
 ghost use lib.ListN.{length, drop};
 ghost use Rattle.model.specs.Contents.{entryAt, oracleEntries};
 ghost use Rattle.model.specs.Lists.{concatMap};
-ghost use Rattle.model.specs.Network.{maxNodes, edgeCount, someEdgeBroken, numbersBroken};
+ghost use Rattle.model.specs.Network.{maxNodes};
+ghost use Rattle.index.specs.Index.{Roads};
 ghost use Rattle.emit.specs.Parts.{total};
 ghost use Rattle.emit.specs.Records.{Wrote};
-ghost use Rattle.passes.specs.Building.{listIn, membersIn, transit};
+ghost use Rattle.layout.specs.Regions.{regionAt, transit};
+ghost use Rattle.passes.specs.Building.{listIn, membersIn};
 ghost use Rattle.passes.specs.Placed.{whole};
 ghost use Rattle.bodies.specs.Listed.{Based, Counts};
 ghost use Rattle.bodies.specs.Rows.{rowIn};
@@ -50,7 +51,7 @@ fn access_part(
     requires { ⌜ Based (now nodes) (now edges) (now closed) grid n (now work) × Counts (now nodes) (now edges) (now closed) grid n (now work) ⌝ }
     requires { ⌜ (a ≡ length (whole n (listIn (now nodes) (now edges) (now closed) grid))) × (a < 4294967296) × (at + a ≤ length (now out)) ⌝ }
     ensures bytes { λ r. ⌜ Wrote (now (out .entry)) at (whole n (listIn (now (nodes .entry)) (now (edges .entry)) (now (closed .entry)) grid)) r (now (out .exit)) ⌝ }
-    ensures others { λ _. ⌜ drop (6 * n) (now (work .exit)) ≡ drop (6 * n) (now (work .entry)) ⌝ }
+    ensures others { λ _. ⌜ drop (regionAt n transit) (now (work .exit)) ≡ drop (regionAt n transit) (now (work .entry)) ⌝ }
 {
     let end = at + a;
     put_access(nodes, edges, closed, grid, n, work, &mut out[at..end]);
@@ -68,7 +69,7 @@ fn table_part(
     at: usize,
 ) -> usize
     requires { ⌜ (n ≤ maxNodes) × (8 * n ≤ length (now work)) × (t ≡ length (membersIn n transit (now work))) × (at + 4 * t * t ≤ length (now out)) × (t ≤ maxNodes) ⌝ }
-    requires { ⌜ (someEdgeBroken n (now edges) ≡ false) × (numbersBroken (edgeCount (now edges)) (now closed) ≡ false) ⌝ }
+    requires { ⌜ Roads (now edges) (now closed) n (now work) ⌝ }
     ensures bytes { λ r. ⌜ Wrote (now (out .entry)) at (concatMap (rowIn (now (edges .entry)) (now (closed .entry)) n (membersIn n transit (now (work .entry)))) (membersIn n transit (now (work .entry)))) r (now (out .exit)) ⌝ }
     ensures others { λ _. ⌜ drop (3 * n) (now (work .exit)) ≡ drop (3 * n) (now (work .entry)) ⌝ }
 {
@@ -92,7 +93,7 @@ fn put_back(
 ) -> usize
     requires { ⌜ Planned (now nodes) (now edges) (now closed) grid n t a (now work) × (at + 2 * t + a + 4 * t * t ≤ length (now out)) × (a < 4294967296) ⌝ }
     ensures bytes { λ r. ⌜ Wrote (now (out .entry)) at (backBytes (now (nodes .entry)) (now (edges .entry)) (now (closed .entry)) grid n) r (now (out .exit)) ⌝ }
-    ensures others { λ _. ⌜ drop (6 * n) (now (work .exit)) ≡ drop (6 * n) (now (work .entry)) ⌝ }
+    ensures others { λ _. ⌜ drop (regionAt n transit) (now (work .exit)) ≡ drop (regionAt n transit) (now (work .entry)) ⌝ }
 {
     let lists = put_transit(n, t, work, out, at);
     let table = access_part(nodes, edges, closed, grid, n, a, work, out, lists);
@@ -116,7 +117,7 @@ pub fn write_oracle(
     requires { ⌜ Planned (now nodes) (now edges) (now closed) grid n t a (now work) × (29 + length (now nodes) + length (now edges) + length (now closed) ≡ length (now network)) ⌝ }
     requires { ⌜ (wholeSize (length (now network)) t a ≤ length (now out)) × (wholeSize (length (now network)) t a < 4294967296) ⌝ }
     ensures bytes { λ r. ⌜ Wrote (now (out .entry)) 0 (frontBytes (now (network .entry)) g (sizesIn (length (now (nodes .entry))) (length (now (edges .entry))) (length (now (closed .entry))) t a) ++ backBytes (now (nodes .entry)) (now (edges .entry)) (now (closed .entry)) grid n) r (now (out .exit)) ⌝ }
-    ensures others { λ _. ⌜ drop (6 * n) (now (work .exit)) ≡ drop (6 * n) (now (work .entry)) ⌝ }
+    ensures others { λ _. ⌜ drop (regionAt n transit) (now (work .exit)) ≡ drop (regionAt n transit) (now (work .entry)) ⌝ }
 {
     let sizes = head_sizes(nodes.len(), edges.len(), closed.len(), t, a);
     let at = put_front(network, g, sizes, out);

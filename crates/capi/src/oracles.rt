@@ -48,7 +48,7 @@ fn kind_number(kind: Kind) -> u32
     }
 }
 
-fn reply_of(a: Answer) -> Reply
+pub fn reply_of(a: Answer) -> Reply
     ensures { λ r. ⌜ r ≡ reply a ⌝ }
 {
     match a {

@@ -1,6 +1,6 @@
 // Numbers of 16 and 32 bits in bytes, the low byte first.
 ghost use mathlib.Core.Path.{_≡_};
-ghost use Prim.Native.Nat.{ℕ, _+_, _<_, _≤_};
+ghost use Prim.Native.Nat.{_+_, _<_, _≤_};
 ghost use lib.ListN.{length, getD};
 ghost use Rattle.model.specs.Bytes.{word16, word32, bytes16, bytes32, splice};
 

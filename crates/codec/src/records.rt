@@ -1,6 +1,6 @@
 // The records of the bodies: nodes, edges, and lists of 16-bit numbers.
 ghost use mathlib.Core.Path.{_≡_};
-ghost use Prim.Native.Nat.{ℕ, _+_, _*_, _<_, _≤_};
+ghost use Prim.Native.Nat.{_+_, _*_, _<_, _≤_};
 ghost use lib.ListN.{length};
 ghost use Rattle.model.specs.Bytes.{word16};
 ghost use Rattle.model.specs.Network.{coordinate, node, nodeSize, edge, edgeSize};

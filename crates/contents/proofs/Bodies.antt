@@ -8,7 +8,8 @@ use lib.ListN.{length, getD, set, take, drop, length-set}
 use lib.Seq.{getD-set-same, getD-set-other}
 use borrow.Author.Tests.{eqb-true, not-false}
 use Rattle.model.specs.Bytes.{Bytes, cut}
-use Rattle.model.specs.Contents.{bodyPart, body, oracleEntries}
+use mathlib.Core.Bool.{false}
+use Rattle.model.specs.Contents.{bodyPart, body, bodiesBroken, oracleEntries}
 use Rattle.theory.specs.Tests.{both}
 use Rattle.contents.specs.Reading.{noEntry, held, noContents, extended, readNext, readSteps, contentsOf, HasBody}
 use Rattle.theory.specs.Joined.{body-within}
@@ -68,3 +69,13 @@ module _ (f : Bytes) (c : Contents) (k : ℕ) (has : HasBody f c k) where
   pub its-part : take (at .offset + at .size - at .offset) (drop (at .offset) f) ≡ body f k
   unfolding held body cut bodyPart
   its-part = rw (its-entry, add-sub-cancel-left)
+
+-- The same by the entry alone.
+module _ (f : Bytes) (entries k : ℕ) (joined : bodiesBroken entries f ≡ false) (below : k < entries) (e : Entry) (is : e ≡ held f k) where
+  pub entry-in-file : e .offset + e .size ≤ length f
+  unfolding held
+  entry-in-file = rw is (body-within f entries k joined below)
+
+  pub entry-part : take (e .offset + e .size - e .offset) (drop (e .offset) f) ≡ body f k
+  unfolding held body cut bodyPart
+  entry-part = rw (is, add-sub-cancel-left)

@@ -156,6 +156,8 @@ pub fn body_of(entries: usize, f: &[u8], k: usize) -> &[u8]
     requires { ⌜ (entries ≤ oracleEntries) × (k < entries) × (entryAt entries ≤ length (now f)) × (bodiesBroken entries (now f) ≡ false) ⌝ }
     ensures { λ r. ⌜ now r ≡ body (now (f .entry)) k ⌝ }
 {
-    let c = read(entries, f);
-    c.body(f, k)
+    let entry = read_entry(f, k);
+    let start = entry.offset as usize;
+    let end = start + entry.size as usize;
+    &f[start..end]
 }

@@ -1,5 +1,4 @@
--- The laws that the proofs cite.
-mod Inserted
+-- The laws that the proofs cite; `Crossed` has those for callers.
 mod Counted
-mod Crossed
+pub mod Crossed
 mod Alike

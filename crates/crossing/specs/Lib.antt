@@ -3,5 +3,6 @@ pub mod Sets
 pub mod SetLaws
 pub mod Ground
 pub mod Cells
+pub mod Beside
 pub mod AccessFlags
 pub mod FirstNodes

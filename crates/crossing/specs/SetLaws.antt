@@ -80,6 +80,14 @@ module _ (p q : ℕ → Bool) (n : ℕ) where
   unfolding both testFlags
   both-test = zip-tests min _&&_ min-and p q (upTo n)
 
+-- A set of words whose members are those of one set or the other, or of one and the other.
+module _ (n : ℕ) (s a b : List ℕ) where
+  pub flags-either : ((v : ℕ) → v < n → isIn s v ≡ isIn a v || isIn b v) → flags n s ≡ either (flags n a) (flags n b)
+  flags-either h = rw (flags-test n s, flags-test n a, flags-test n b, either-test (isIn a) (isIn b) n) (test-flags-same _ _ n h)
+
+  pub flags-both : ((v : ℕ) → v < n → isIn s v ≡ isIn a v && isIn b v) → flags n s ≡ both (flags n a) (flags n b)
+  flags-both h = rw (flags-test n s, flags-test n a, flags-test n b, both-test (isIn a) (isIn b) n) (test-flags-same _ _ n h)
+
 -- How many pass a test.
 ones-map : (p : ℕ → Bool) (l : List ℕ) → ones (map (λ v. cond (p v) 1 0) l) ≡ length (filter p l)
 unfolding ones filter

@@ -1,12 +1,10 @@
 // Sets of nodes below n, one bit a node.
 ghost use mathlib.Core.Path.{_≡_};
-ghost use mathlib.Core.Bool.{cond};
 ghost use Prim.Native.Nat.{_*_, _/_, _<_, _≤_};
 ghost use lib.ListN.{length};
-ghost use Rattle.bitset.specs.Bits.{wordBits, insertIn, flag, flags};
+ghost use Rattle.bitset.specs.Bits.{wordBits, flag, flags};
 ghost use Rattle.crossing.specs.Sets.{ones};
 use bitset::bits::contains;
-use bitset::bits::insert;
 
 // 1 for a member, and 0 for another.
 fn bit(s: &[u32], v: usize) -> usize
@@ -27,14 +25,4 @@ pub fn count(n: usize, s: &[u32]) -> usize
         v += 1;
     }
     k
-}
-
-// Inserts v where `wanted` says so.
-pub fn insert_if(s: &mut [u32], v: usize, wanted: bool)
-    requires { ⌜ v / wordBits < length (now s) ⌝ }
-    ensures { λ _. ⌜ now (s .exit) ≡ cond wanted (insertIn (now (s .entry)) v) (now (s .entry)) ⌝ }
-{
-    if wanted {
-        insert(s, v);
-    }
 }

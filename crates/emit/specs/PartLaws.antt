@@ -22,7 +22,7 @@ pub map-same : (f g : ℕ → ℕ) (l : List ℕ) → ((x : ℕ) → List·Mem�
 map-same f g [] h = refl
 map-same f g (x ∷ l) h = rw (h x (List·Memᴰ·head refl), map-same f g l (λ y m. h y (List·Memᴰ·tail m)))
 
-concat-same : (f g : ℕ → Bytes) (l : List ℕ) → ((x : ℕ) → List·Memᴰ x l → f x ≡ g x) → concatMap f l ≡ concatMap g l
+pub concat-same : (f g : ℕ → Bytes) (l : List ℕ) → ((x : ℕ) → List·Memᴰ x l → f x ≡ g x) → concatMap f l ≡ concatMap g l
 unfolding concatMap
 concat-same f g [] h = refl
 concat-same f g (x ∷ l) h = rw (h x (List·Memᴰ·head refl), concat-same f g l (λ y m. h y (List·Memᴰ·tail m)))

@@ -1,4 +1,5 @@
--- The laws that the proofs cite; `Cells` has those for callers.
+-- The laws that the proofs cite; `Cells` and `Reached` have those for callers.
 mod Spans
 mod Bounds
 pub mod Cells
+pub mod Reached

@@ -1,17 +1,20 @@
 // The grid over the nodes: the cell of each node, the squares about a cell, and which cells are far.
 ghost use mathlib.Core.Path.{_≡_};
 ghost use mathlib.Core.Bool.{not, false};
-ghost use Prim.Native.Nat.{_<_};
+ghost use Prim.Native.Nat.{_+_, _-_, _<_, _≤_, min};
 ghost use Rattle.model.specs.Network.{node, nodes, nodeCount, nodesBroken};
 ghost use Rattle.model.specs.Grid.{gridOver, cellIndex, cellOf, gap, within, kindOf, innerRadius, outerRadius};
 ghost use Rattle.grid.specs.Stored.{gridOf, modelCell, Over, Holds};
+ghost use Rattle.grid.specs.Squares.{Bounded, SquareOf, startOf};
 use crate::span::Span;
 use crate::span::larger;
+use crate::square::Square;
 use codec::records::node_x;
 use codec::records::node_y;
 use model::Kind;
 
 mod span;
+pub mod square;
 
 // g × g cells from the least x and the least y on, which the larger of the two spreads is divided into.
 pub struct Grid {
@@ -31,6 +34,20 @@ fn difference(x: u32, y: u32) -> u32
     ensures { λ r. ⌜ r ≡ gap x y ⌝ }
 {
     if x < y { y - x } else { x - y }
+}
+
+// The smaller of k and g.
+fn cut(k: u64, g: u32) -> u32
+    ensures { λ r. ⌜ r ≡ min k g ⌝ }
+{
+    if k < g as u64 { k as u32 } else { g }
+}
+
+// x less y, and no less than 0.
+fn less(x: u32, y: u32) -> u64
+    ensures { λ r. ⌜ r ≡ x - y ⌝ }
+{
+    if y < x { (x - y) as u64 } else { 0 }
 }
 
 impl Grid {
@@ -99,6 +116,40 @@ impl Grid {
         Cell {
             column: self.column(x),
             row: self.row(y),
+        }
+    }
+
+    // How far from its origin the cells with index k begin.
+    fn start(self, k: u64) -> u32
+        requires { ⌜ Bounded self ⌝ }
+        ensures { λ r. ⌜ (r ≡ startOf self k) × (r ≤ self .spread + 1) ⌝ }
+    {
+        (cut(k, self.g) * (self.spread + 1) + (self.g - 1)) / self.g
+    }
+
+    // From where on, and up to where, the cells lie whose index differs from k by r at most.
+    fn reach(self, k: u32, r: u32) -> Span
+        requires { ⌜ Bounded self ⌝ }
+        ensures { λ s. ⌜ (s .low ≡ startOf self (k - r)) × (s .high ≡ startOf self (k + r + 1)) × (s .low ≤ s .high) × (s .high ≤ self .spread + 1) ⌝ }
+    {
+        Span {
+            low: self.start(less(k, r)),
+            high: self.start(k as u64 + r as u64 + 1),
+        }
+    }
+
+    // The square of radius r about the cell c.
+    pub fn square(self, c: Cell, r: u32) -> Square
+        requires { ⌜ Bounded self ⌝ }
+        ensures { λ s. ⌜ SquareOf self (modelCell c) r s ⌝ }
+    {
+        let across = self.reach(c.column, r);
+        let up = self.reach(c.row, r);
+        Square {
+            left: self.left + across.low,
+            width: across.high - across.low,
+            bottom: self.bottom + up.low,
+            height: up.high - up.low,
         }
     }
 

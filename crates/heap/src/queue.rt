@@ -1,5 +1,4 @@
 // Entering, lowering and taking out.
-ghost use mathlib.Core.Path.{_≡_};
 ghost use Prim.Native.Nat.{_+_, _<_, _≤_};
 ghost use lib.ListN.{take};
 ghost use Rattle.model.specs.Oracle.{noWalk};

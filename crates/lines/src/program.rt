@@ -6,9 +6,11 @@ ghost use lib.ListN.{length};
 ghost use Rattle.model.specs.Contents.{nodeBody};
 ghost use Rattle.model.specs.Network.{nodeCount};
 ghost use Rattle.model.specs.Rules.{wellShaped};
+ghost use Rattle.query.specs.Opened.{Opened};
 use crate::lines::write_header;
 use crate::lines::write_refused;
 use crate::rows::write_row;
+use query::opened::open_words;
 use reader::files::shape_refusal;
 use reader::oracle::node_count;
 use reader::oracle::transit_count;
@@ -40,14 +42,15 @@ fn print_header(o: &[u8], out: &mut [u8])
 }
 
 fn print_row(o: &[u8], s: usize, work: &mut [u32], out: &mut [u8])
-    requires { ⌜ (wellShaped (now o) ≡ true) × (s < nodeCount (nodeBody (now o))) × (length (now o) ≤ length (now work)) × (5 * length (now o) ≤ length (now out)) ⌝ }
+    requires { ⌜ Opened (now o) (now work) × (s < nodeCount (nodeBody (now o))) × (5 * length (now o) ≤ length (now out)) ⌝ }
+    ensures { λ _. ⌜ Opened (now (o .entry)) (now (work .exit)) ⌝ }
 {
     let end = write_row(o, s, work, out);
     io::write_all(STDOUT, &out[..end]);
 }
 
 fn print_rows(o: &[u8], work: &mut [u32], out: &mut [u8])
-    requires { ⌜ (wellShaped (now o) ≡ true) × (length (now o) ≤ length (now work)) × (5 * length (now o) ≤ length (now out)) ⌝ }
+    requires { ⌜ Opened (now o) (now work) × (5 * length (now o) ≤ length (now out)) ⌝ }
 {
     let n = node_count(o);
     let mut s = 0;
@@ -67,6 +70,7 @@ fn print_listing(o: &[u8], work: &mut [u32], out: &mut [u8])
         return;
     }
     print_header(o, out);
+    open_words(o, work);
     print_rows(o, work, out);
 }
 

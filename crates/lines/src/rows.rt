@@ -1,31 +1,29 @@
 // The lines of the pairs of a node with the nodes above it.
 ghost use mathlib.Core.Path.{_≡_};
-ghost use mathlib.Core.Bool.{true};
-ghost use Prim.Native.Nat.{_<_, _≤_};
-ghost use lib.ListN.{length};
+ghost use Prim.Native.Nat.{_<_};
 ghost use Rattle.model.specs.Contents.{nodeBody};
 ghost use Rattle.model.specs.Network.{nodeCount};
 ghost use Rattle.model.specs.Query.{timeAnswer};
-ghost use Rattle.model.specs.Rules.{wellShaped, wordsNeeded};
 ghost use Rattle.model.specs.Listing.{pairLine};
 ghost use Rattle.emit.specs.Records.{Wrote};
+ghost use Rattle.query.specs.Opened.{Opened};
 ghost use Rattle.query.specs.Toward.{Toward};
 ghost use Rattle.lines.specs.Texts.{Room, Holds, rowText};
 use crate::lines::write_pair;
 use model::Answer;
 use model::Kind;
 use query::calls::far_of;
-use query::kinds::kind_between;
+use query::opened::opened_kind;
 use query::ways::times_to;
 use reader::oracle::node_count;
 use tables::far::answer_of;
 
 // The time between s and t, from the words that a search from s has left.
 fn answer_between(o: &[u8], s: usize, t: usize, work: &[u32]) -> Answer
-    requires { ⌜ (wellShaped (now o) ≡ true) × (s < nodeCount (nodeBody (now o))) × (t < nodeCount (nodeBody (now o))) × Toward (now o) s (now work) ⌝ }
+    requires { ⌜ Opened (now o) (now work) × (s < nodeCount (nodeBody (now o))) × (t < nodeCount (nodeBody (now o))) × Toward (now o) s (now work) ⌝ }
     ensures { λ r. ⌜ r ≡ timeAnswer (now (o .entry)) s t ⌝ }
 {
-    let kind = kind_between(o, s, t);
+    let kind = opened_kind(o, s, t, work);
     match kind {
         Kind::Far => far_of(o, s, t),
         Kind::Local => answer_of(Kind::Local, 0, work[t]),
@@ -33,7 +31,7 @@ fn answer_between(o: &[u8], s: usize, t: usize, work: &[u32]) -> Answer
 }
 
 fn write_line(o: &[u8], s: usize, t: usize, work: &[u32], out: &mut [u8], at: usize) -> usize
-    requires { ⌜ (wellShaped (now o) ≡ true) × (s < nodeCount (nodeBody (now o))) × (t < nodeCount (nodeBody (now o))) × Toward (now o) s (now work) ⌝ }
+    requires { ⌜ Opened (now o) (now work) × (s < nodeCount (nodeBody (now o))) × (t < nodeCount (nodeBody (now o))) × Toward (now o) s (now work) ⌝ }
     requires { ⌜ Room (now out) at (pairLine (now o) s t) ⌝ }
     ensures { λ r. ⌜ Wrote (now (out .entry)) at (pairLine (now (o .entry)) s t) r (now (out .exit)) ⌝ }
 {
@@ -41,7 +39,7 @@ fn write_line(o: &[u8], s: usize, t: usize, work: &[u32], out: &mut [u8], at: us
 }
 
 fn write_lines(o: &[u8], s: usize, work: &[u32], out: &mut [u8]) -> usize
-    requires { ⌜ (wellShaped (now o) ≡ true) × (s < nodeCount (nodeBody (now o))) × Toward (now o) s (now work) × Room (now out) 0 (rowText (now o) s) ⌝ }
+    requires { ⌜ Opened (now o) (now work) × (s < nodeCount (nodeBody (now o))) × Toward (now o) s (now work) × Room (now out) 0 (rowText (now o) s) ⌝ }
     ensures { λ r. ⌜ Wrote (now (out .entry)) 0 (rowText (now (o .entry)) s) r (now (out .exit)) ⌝ }
 {
     let n = node_count(o);
@@ -56,8 +54,9 @@ fn write_lines(o: &[u8], s: usize, work: &[u32], out: &mut [u8]) -> usize
 
 // One search serves the row.
 pub fn write_row(o: &[u8], s: usize, work: &mut [u32], out: &mut [u8]) -> usize
-    requires { ⌜ (wellShaped (now o) ≡ true) × (s < nodeCount (nodeBody (now o))) × (wordsNeeded (now o) ≤ length (now work)) × Room (now out) 0 (rowText (now o) s) ⌝ }
-    ensures { λ r. ⌜ Holds (now (out .exit)) r (rowText (now (o .entry)) s) ⌝ }
+    requires { ⌜ Opened (now o) (now work) × (s < nodeCount (nodeBody (now o))) × Room (now out) 0 (rowText (now o) s) ⌝ }
+    ensures text { λ r. ⌜ Holds (now (out .exit)) r (rowText (now (o .entry)) s) ⌝ }
+    ensures opened { λ _. ⌜ Opened (now (o .entry)) (now (work .exit)) ⌝ }
 {
     times_to(o, s, work);
     write_lines(o, s, work, out)

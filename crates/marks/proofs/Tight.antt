@@ -1,21 +1,26 @@
--- Arcs that lead on, one at a time: of one arc, of one edge, of all open edges. Assumes nothing.
+-- Arcs that lead on, one at a time: of one arc, of one edge, of the open edges at a node. Assumes nothing.
 use Prim.Native.Nat.{ℕ, _+_, _<_, _≤_}
-use mathlib.Core.Path.{_≡_, refl, sym, _∙_, subst}
-use mathlib.Core.Bool.{Bool, true, false, _||_, cond, or-false, or-assoc}
-use mathlib.Core.List.{List, [], _∷_, _++_}
-use borrow.Author.Tests.{eq-eqb, ne-eqb}
+use mathlib.Core.Path.{_≡_, refl, sym, ap, _∙_}
+use mathlib.Core.Bool.{Bool, true, false, cond, or-false, true≢false}
+use mathlib.Core.Logic.{⊎-elim}
+use mathlib.Core.List.{List, [], _∷_, _++_, List·Memᴰ, List·Memᴰ·not-nil}
+use borrow.Author.Tests.{eq-eqb, ne-eqb, eqb-true}
 use lib.Dec.{eqb, ltb}
-use lib.ListN.{drop}
-use Rattle.model.specs.Lists.{any, concatMap}
-use Rattle.model.specs.Bytes.{Bytes, words16}
+use Rattle.model.specs.Lists.{any}
+use Rattle.model.specs.Bytes.{Bytes}
 use Rattle.model.specs.Walk.{Arc}
-use Rattle.model.specs.Network.{Edge, edge, arcsOf, edgeCount, openEdges}
+use Rattle.model.specs.Network.{Edge, edge, arcsOf, edgeCount}
+use Rattle.theory.specs.Tests.{both, refuted}
+use Rattle.theory.specs.Members.{any→, →any, filter→, →filter, concatMap→}
 use Rattle.algorithms.specs.Dijkstra.{at}
-use Rattle.arcs.specs.Arcs.{arcsIn, closedAt, overEdges}
-use Rattle.arcs.proofs.Ahead.{edgesFrom, Partway, partway-open, partway-last}
+use Rattle.arcs.specs.Arcs.{arcsIn, leaves, leaving}
 use Rattle.arcs.proofs.Leaving.{there, back}
 use Rattle.bitset.specs.Bits.{isIn, flag, flags}
 use Rattle.bitset.proofs.Members.{flag-at}
+use Rattle.index.specs.declared.cursor.Cursor.{Cursor}
+use Rattle.index.specs.Cursor.{Passing, Stepped}
+use Rattle.index.proofs.Step.{mem-split}
+use Rattle.index.proofs.Same.{arcsOver, AllOf, passing-all, open-arc, →arcs-same}
 use Rattle.marks.specs.Due.{leading, due}
 
 -- ---- a node of the set is one whose flag is not 0
@@ -62,31 +67,38 @@ module _ (p : Arc → Bool) (e : Edge) (u w c : ℕ) (first : u ≡ e .first) (s
   unfolding any arcsOf
   edge-back h = let k : p (there e) ≡ false = rw (first, second, seconds) at h in rw (k, first, second, seconds) (sym (or-false (p (back e))))
 
--- ---- all open edges
-any-append : {A : Type 0} (p : A → Bool) (xs ys : List A) → any p (xs ++ ys) ≡ any p xs || any p ys
-unfolding any
-any-append p [] ys = refl
-any-append p (x ∷ xs) ys = rw (any-append p xs ys) (sym (or-assoc (p x) (any p xs) (any p ys)))
+-- ---- the loop over the open edges at v, which stops at the first edge that leads on: none of those passed does
+pub record Unled (p : Arc → Bool) (edges closed : Bytes) (n : ℕ) (w : List ℕ) (v : ℕ) (c : Cursor) : Type 0 where
+  pub done : List ℕ
+  pub passing : Passing edges closed n w v done c
+  pub none : (j : ℕ) → List·Memᴰ j done → any p (arcsOf (edge edges j)) ≡ false
 
--- What edge e makes of 'found so far'.
-abbrev pub finding : (Arc → Bool) → Edge → Bool → Bool
-finding p e found = found || any p (arcsOf e)
+module _ (p : Arc → Bool) (edges closed : Bytes) (n : ℕ) (w : List ℕ) (v : ℕ) (c : Cursor) where
+  pub unled-first : Passing edges closed n w v [] c → Unled p edges closed n w v c
+  unled-first h = record { done = []; passing = h; none = λ j m. absurd (List·Memᴰ·not-nil m) }
 
-pub find-over : (p : Arc → Bool) (es : List Edge) (found : Bool) → overEdges (finding p) es found ≡ found || any p (concatMap arcsOf es)
-unfolding overEdges concatMap
-find-over p [] found = unfold any in sym (or-false found)
-find-over p (e ∷ es) found = find-over p es (found || any p (arcsOf e)) ∙ rw (any-append p (arcsOf e) (concatMap arcsOf es)) (or-assoc found (any p (arcsOf e)) (any p (concatMap arcsOf es)))
+  module _ (u : Unled p edges closed n w v c) where
+    pub unled-next : (r : Bool) (c′ : Cursor) → r ≡ false → r ≡ any p (arcsOf (edge edges (c .edge))) → Stepped edges closed n w v c c′ → Unled p edges closed n w v c′
+    unled-next r c′ e f s = record { done = u .done ++ c .edge ∷ []; passing = s .passing (u .done) (u .passing); none = λ j m. ⊎-elim (λ k. u .none j k) (λ q. ap (λ (z : ℕ). any p (arcsOf (edge edges z))) q ∙ sym f ∙ e) (mem-split j (c .edge) (u .done) m) }
 
--- ---- the loop over the open edges, which stops at the first edge that leads on
-module _ (p : Arc → Bool) (b closed : Bytes) (i j : ℕ) where
-  pub passed-open : (r : Bool) → Partway (finding p) b closed false i j false → i < edgeCount b → closedAt closed j i ≡ false → r ≡ any p (arcsOf (edge b i))
-      → Partway (finding p) b closed false (i + 1) j r
-  passed-open r w h k e = subst (λ (s : Bool). Partway (finding p) b closed false (i + 1) j s) (sym e) (partway-open (finding p) b closed false i j false w h k)
+    pub led : (r : Bool) → r ≡ true → r ≡ any p (arcsOf (edge edges (c .edge))) → c .edge < edgeCount edges → true ≡ any p (arcsIn edges closed)
+    led r e f l =
+        let (a, m, t) = any→ p (arcsOf (edge edges (c .edge))) (sym f ∙ e) in
+        sym (→any p (arcsIn edges closed) (open-arc edges closed v (u .done) (c .edge) a (u .passing .valid .here l) m) t)
 
-  pub found-at : Partway (finding p) b closed false i j true → true ≡ any p (arcsIn b closed)
-  unfolding arcsIn
-  found-at w = sym (find-over p (edgesFrom b (drop j (words16 closed)) i) true) ∙ (w .whole ∙ find-over p (openEdges b (words16 closed)) false)
+    pub unled-last : edgeCount edges ≤ c .edge → ((a : Arc) → p a ≡ true → a .from ≡ v) → false ≡ any p (arcsIn edges closed)
+    unfolding leaving leaves arcsOver
+    unled-last h from = sym (refuted (λ e. none-such (any→ p (arcsIn edges closed) e)))
+      where
+        all : AllOf edges closed v (u .done)
+        all = passing-all edges closed v (u .done) n w c h (u .passing)
 
-  pub found-none : edgeCount b ≤ i → Partway (finding p) b closed false i j false → false ≡ any p (arcsIn b closed)
-  unfolding arcsIn
-  found-none h w = partway-last (finding p) b closed false i j false w h ∙ find-over p (openEdges b (words16 closed)) false
+        none-such : (a : Arc) × List·Memᴰ a (arcsIn edges closed) × (p a ≡ true) → ⊥
+        none-such (a, m, t) =
+            let k = →arcs-same edges closed v (u .done) all a (→filter (leaves v) (arcsIn edges closed) m (eq-eqb (a .from) v (from a t))) in
+            let (j, i, l) = concatMap→ (λ z. leaving v (arcsOf (edge edges z))) (u .done) k in
+            true≢false (sym (→any p (arcsOf (edge edges j)) (filter→ (leaves v) (arcsOf (edge edges j)) l .0) t) ∙ u .none j i)
+
+pub leading-from : (times marks : List ℕ) (v : ℕ) (a : Arc) → leading times marks v a ≡ true → a .from ≡ v
+unfolding leading
+leading-from times marks v a e = eqb-true (a .from) v (both {b = eqb (a .from) v} e .0)

@@ -1,5 +1,5 @@
 -- The members of a region as a list, by its flags. Assumes nothing.
-use Prim.Native.Nat.{ℕ, _*_, _<_}
+use Prim.Native.Nat.{ℕ, _<_, _≤_}
 use native.Mathlib.Omega.{arith}
 use mathlib.Core.Path.{_≡_, sym, _∙_, ap}
 use mathlib.Core.Bool.{Bool}
@@ -19,13 +19,13 @@ use Rattle.grid.specs.Stored.{gridOf}
 use Rattle.grid.specs.declared.Grid.{Grid}
 use Rattle.grid.proofs.Cells.{cell-at}
 use Rattle.crossing.specs.Sets.{testFlags, memberFlags, ones}
-use Rattle.crossing.specs.SetLaws.{flags-test, test-flag, ones-test, filter-flags}
+use Rattle.crossing.specs.SetLaws.{flags-test, test-flag, ones-test, ones-most, filter-flags}
 use Rattle.crossing.specs.Ground.{cellsIn, openIn, Ground}
 use Rattle.emit.specs.Members.{membersOf}
 use Rattle.emit.specs.MemberLaws.{members-passing}
 use Rattle.access.specs.Networks.{networkIn}
-use Rattle.access.specs.Regions.{region, regionFlags}
-use Rattle.access.proofs.Windows.{in-front, flags-front}
+use Rattle.layout.specs.Regions.{regionAt, region, regionFlags}
+use Rattle.layout.proofs.Windows.{in-front, flags-front}
 use Rattle.access.proofs.Flagging as flagging
 use Rattle.access.proofs.Cells.{count-cells}
 use Rattle.passes.specs.Building.{accessOf, membersIn}
@@ -40,22 +40,25 @@ module _ (n k : ℕ) (w : List ℕ) where
   -- How many members a region has, as `count` tells it.
   pub count-members : ones (regionFlags n k w) ≡ length (membersIn n k w)
   unfolding membersOf
-  count-members = ap ones (sym (flags-front n (drop (k * n) w)) ∙ flags-test n (region n k w)) ∙ ones-test (isIn (region n k w)) n
+  count-members = ap ones (sym (flags-front n (drop (regionAt n k) w)) ∙ flags-test n (region n k w)) ∙ ones-test (isIn (region n k w)) n
+
+  pub members-few : length (membersIn n k w) ≤ n
+  members-few = omega (arith, count-members, ones-most n (drop (regionAt n k) w))
 
   pub flagged-member : (v : ℕ) → Flagged (regionFlags n k w) v ↔ List·Memᴰ v (membersIn n k w)
   unfolding membersOf
   flagged-member v = (
-    λ f. let (h, e) = flagging.member→ n (drop (k * n) w) v f in →filter (isIn (region n k w)) (upTo n) (→upTo n v h) (in-front n (drop (k * n) w) v h ∙ e),
+    λ f. let (h, e) = flagging.member→ n (drop (regionAt n k) w) v f in →filter (isIn (region n k w)) (upTo n) (→upTo n v h) (in-front n (drop (regionAt n k) w) v h ∙ e),
     λ m.
         let (i, e) = filter→ (isIn (region n k w)) (upTo n) m in
         let h : v < n = omega (arith, range→ 0 n v i) in
-        flagging.→member n (drop (k * n) w) v h (sym (in-front n (drop (k * n) w) v h) ∙ e),
+        flagging.→member n (drop (regionAt n k) w) v h (sym (in-front n (drop (regionAt n k) w) v h) ∙ e),
   )
 
   -- The flags of those that pass a test.
   pub members-listed : (p : ℕ → Bool) → regionFlags n k w ≡ memberFlags n (filter p (upTo n)) → membersIn n k w ≡ filter p (upTo n)
-  members-listed p e = members-passing n (region n k w) p (λ v h. in-front n (drop (k * n) w) v h
-      ∙ tests-agree (isIn (drop (k * n) w)) p n (sym (flags-test n (drop (k * n) w)) ∙ (e ∙ filter-flags n p)) v h)
+  members-listed p e = members-passing n (region n k w) p (λ v h. in-front n (drop (regionAt n k) w) v h
+      ∙ tests-agree (isIn (drop (regionAt n k) w)) p n (sym (flags-test n (drop (regionAt n k) w)) ∙ (e ∙ filter-flags n p)) v h)
 
 -- Region k has the access nodes of the cell of u.
 pub access-listed : (b e c : Bytes) (grid : Grid) → Ground b e c grid → (n : ℕ) → n ≡ nodeCount b → (u : ℕ) → u < n → (k : ℕ) (w : List ℕ) (cell : model.Cell)

@@ -1,5 +1,5 @@
 -- One node after another: what the regions TRANSIT and COUNTS hold. Assumes nothing.
-use Prim.Native.Nat.{ℕ, _+_, _*_, _≤_, _<_}
+use Prim.Native.Nat.{ℕ, _+_, _≤_, _<_}
 use native.Mathlib.Omega.{arith}
 use mathlib.Core.Path.{_≡_, refl, sym, ap, _∙_}
 use mathlib.Core.Logic.{_↔_, _⊎_, inl, inr, ⊎-elim}
@@ -13,14 +13,15 @@ use Rattle.model.specs.Grid.{Cell}
 use Rattle.algorithms.specs.Settle.{blank}
 use Rattle.bitset.specs.Bits.{flags}
 use Rattle.marks.specs.Due.{Flagged}
+use Rattle.index.specs.Index.{indexAt}
 use Rattle.grid.specs.declared.Grid.{Grid}
 use Rattle.crossing.specs.Sets.{either, ones}
 use Rattle.crossing.specs.Cells.{sameCell, firstOfCell, same-cell}
 use Rattle.crossing.specs.Ground.{cellsIn, Ground}
-use Rattle.access.specs.Regions.{regionFlags, Only, own}
-use Rattle.access.proofs.Windows.{drop-more, flags-kept}
+use Rattle.layout.specs.Regions.{regionAt, OnlyIn, regionFlags, Only, own, transit, counts}
+use Rattle.layout.proofs.Windows.{drop-more, after-kept, flags-before}
 use Rattle.access.proofs.Flagging.{either-flagged}
-use Rattle.passes.specs.Building.{accessOf, transitIn, membersIn, transit, counts}
+use Rattle.passes.specs.Building.{accessOf, transitIn, membersIn}
 use Rattle.passes.specs.Covered.{Covered, Beside, seen-none, seen-later, seen-all, to-all}
 use Rattle.passes.specs.Passed.{Told, Passed}
 use Rattle.passes.proofs.Listing.{flagged-member, count-members}
@@ -43,28 +44,28 @@ module _ (b e c : Bytes) (grid : Grid) (n : ℕ) where
 
   -- The first of its cell: from the words w, the access nodes put into x, their union with region TRANSIT into y, and their count into z.
   module _ (u : ℕ) (h : u < n) (w x y z : List ℕ) (g : Passed b e c grid n u w)
-      (mine : membersIn n own x ≡ accessOf b e c grid u) (rest : drop (6 * n) x ≡ drop (6 * n) w)
+      (mine : membersIn n own x ≡ accessOf b e c grid u) (rest : drop (regionAt n transit) x ≡ drop (regionAt n transit) w)
       (united : regionFlags n transit y ≡ either (regionFlags n own x) (regionFlags n transit x)) (apart : Only n transit x y)
       (k : ℕ) (count : k ≡ ones (regionFlags n own x))
-      (put : (v : ℕ) → v < n → getD z (7 * n + v) 0 ≡ cond (sameCell cs u v) k (getD y (7 * n + v) 0)) (alone : Only n counts y z) where
+      (put : (v : ℕ) → v < n → getD z (regionAt n counts + v) 0 ≡ cond (sameCell cs u v) k (getD y (regionAt n counts + v) 0)) (alone : OnlyIn (regionAt n counts) n y z) where
     joined : (a : ℕ) → List·Memᴰ a (membersIn n transit z) ↔ (List·Memᴰ a (accessOf b e c grid u) ⊎ List·Memᴰ a (membersIn n transit w))
     joined a =
         let i = flagged-member n transit z a in
         let j = rw mine at (flagged-member n own x a) in
         let l = flagged-member n transit w a in
-        let f : regionFlags n transit z ≡ either (regionFlags n own x) (regionFlags n transit x) = flags-kept n transit counts y z (λ q. omega arith) alone ∙ united in
+        let f : regionFlags n transit z ≡ either (regionFlags n own x) (regionFlags n transit x) = flags-before _ _ y z alone n transit (omega arith) ∙ united in
         let t : regionFlags n transit x ≡ regionFlags n transit w = ap (flags n) rest in
-        let d = either-flagged n (drop (own * n) x) (drop (transit * n) x) a in (
+        let d = either-flagged n (drop (regionAt n own) x) (drop (regionAt n transit) x) a in (
           λ m. ⊎-elim (λ p. inl (j .0 p)) (λ p. inr (l .0 (rw t at p))) (d .0 (rw f at (i .1 m))),
           λ m. i .0 (rw f (d .1 (⊎-elim (λ p. inl (j .1 p)) (λ p. inr (rw t (l .1 p))) m))),
         )
 
     -- The words of the others stay.
-    stayed : (v : ℕ) → getD y (7 * n + v) 0 ≡ getD w (7 * n + v) 0
+    stayed : (v : ℕ) → getD y (regionAt n counts + v) 0 ≡ getD w (regionAt n counts + v) 0
     stayed v =
-        let r = drop-more (6 * n) (7 * n) w x (omega arith) rest in
-        let s = drop-more (6 * n + n) (7 * n) x y (omega arith) (apart .back) in
-        sym (getD-drop (7 * n) y v 0) ∙ (ap (λ (l : List ℕ). getD l v 0) (s ∙ r) ∙ getD-drop (7 * n) w v 0)
+        let r = drop-more (regionAt n transit) (regionAt n counts) w x (omega arith) rest in
+        let s = after-kept _ _ x y apart (regionAt n counts) (omega arith) in
+        sym (getD-drop (regionAt n counts) y v 0) ∙ (ap (λ (l : List ℕ). getD l v 0) (s ∙ r) ∙ getD-drop (regionAt n counts) w v 0)
 
     -- A node of the cell of u, and one of another.
     told-same : (v : ℕ) → v < n → sameCell cs u v ≡ true → Told b e c grid n z v
@@ -86,19 +87,19 @@ module _ (b e c : Bytes) (grid : Grid) (n : ℕ) where
         pick false s (inl d) = told-other v l s (g .seen v l d)
         pick false s (inr d) = absurd (false≢true (sym s ∙ same-cell cs u v .1 (d .1)))
 
-    pub passed-next : Passed b e c grid n (u + 1) z × (drop (8 * n) z ≡ drop (8 * n) w)
+    pub passed-next : Passed b e c grid n (u + 1) z × (drop (indexAt n) z ≡ drop (indexAt n) w)
     passed-next = (
       record {
         sound = λ a m. ⊎-elim (λ i. record { by = u; below = h; listed = i }) (g .sound a) (joined a .0 m);
         seen = to-all cs (Told b e c grid n z) n u n (omega arith) told;
       },
-      drop-more (7 * n + n) (8 * n) y z (omega arith) (alone .back)
-          ∙ (drop-more (6 * n + n) (8 * n) x y (omega arith) (apart .back) ∙ drop-more (6 * n) (8 * n) w x (omega arith) rest),
+      after-kept _ _ y z alone (indexAt n) (omega arith)
+          ∙ (after-kept _ _ x y apart (indexAt n) (omega arith) ∙ drop-more (regionAt n transit) (indexAt n) w x (omega arith) rest),
     )
 
   -- All nodes are passed.
   pub passed-all : Ground b e c grid → n ≡ nodeCount b → (u : ℕ) (w : List ℕ) → n ≤ u → Passed b e c grid n u w
-      → (membersIn n transit w ≡ transitIn b e c grid) × ((v : ℕ) → v < n → getD w (7 * n + v) 0 ≡ length (accessOf b e c grid v))
+      → (membersIn n transit w ≡ transitIn b e c grid) × ((v : ℕ) → v < n → getD w (regionAt n counts + v) 0 ≡ length (accessOf b e c grid v))
   passed-all ground size u w l g =
       let t = seen-all cs (Told b e c grid n w) n u l (g .seen) in (
         members-transit b e c grid n size transit w (λ a m. let d = g .sound a m in in-transit b e c grid n size (d .by) (d .below) a (d .listed))

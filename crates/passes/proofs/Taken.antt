@@ -21,7 +21,7 @@ use Rattle.crossing.specs.FirstNodes.{firsts, transit-firsts}
 use Rattle.emit.specs.Members.{membersOf}
 use Rattle.emit.specs.MemberLaws.{members-passing}
 use Rattle.access.specs.Networks.{networkIn}
-use Rattle.access.specs.Regions.{region}
+use Rattle.layout.specs.Regions.{region}
 use Rattle.passes.specs.Building.{accessOf, transitIn, membersIn}
 use Rattle.passes.specs.BuildingLaws.{count-cells}
 use Rattle.passes.specs.Passed.{Needed}

@@ -10,7 +10,7 @@ use Rattle.grid.specs.Stored.{gridOf}
 use Rattle.grid.specs.declared.Grid.{Grid}
 use Rattle.crossing.specs.Ground.{cellsIn, openIn}
 use Rattle.access.specs.Networks.{networkIn}
-use Rattle.access.specs.Regions.{region}
+use Rattle.layout.specs.Regions.{region}
 use Rattle.emit.specs.Members.{membersOf}
 
 -- The access nodes of the cell of u, rising.
@@ -28,10 +28,3 @@ listIn nodes edges closed grid u = listBytes (distance (networkIn nodes edges cl
 -- The members of region k of the working words, rising.
 abbrev pub membersIn : ℕ → ℕ → List ℕ → List ℕ
 membersIn n k work = membersOf n (region n k work)
-
--- The regions' numbers, as in the code.
-abbrev pub transit : ℕ
-transit = 6
-
-abbrev pub counts : ℕ
-counts = 7

@@ -4,7 +4,7 @@ use native.Mathlib.Nat.{zero-add}
 use native.Mathlib.Omega.{arith}
 use mathlib.Core.Path.{_≡_, refl, sym, _∙_, ap, subst}
 use mathlib.Core.List.{List, [], _++_, map, List·Memᴰ}
-use lib.ListN.{length, getD, take, length-map}
+use lib.ListN.{length, getD, length-map}
 use Rattle.model.specs.Lists.{any, concat, concatMap, member, range, upTo}
 use Rattle.model.specs.Bytes.{Bytes}
 use Rattle.model.specs.Network.{Network, node, nodes, nodeCount, order, arcs, distance}
@@ -21,11 +21,11 @@ use Rattle.grid.specs.Stored.{gridOf}
 use Rattle.grid.specs.declared.Grid.{Grid}
 use Rattle.crossing.specs.Ground.{cellsIn}
 use Rattle.access.specs.Networks.{networkIn}
-use Rattle.access.specs.Regions.{region, own}
+use Rattle.layout.specs.Regions.{region, own, transit}
 use Rattle.emit.specs.Members.{membersOf, Among}
 use Rattle.emit.specs.Parts.{listBytesOf, rowBytes}
 use Rattle.emit.specs.PartLaws.{list-values, row-values}
-use Rattle.passes.specs.Building.{accessOf, transitIn, listIn, membersIn, transit}
+use Rattle.passes.specs.Building.{accessOf, transitIn, listIn, membersIn}
 use Rattle.passes.specs.Placed.{whole}
 
 -- Lists made node by node.
@@ -100,20 +100,17 @@ module _ (b e c : Bytes) (grid : Grid) (n : ℕ) (size : n ≡ nodeCount b) wher
       →filter (λ a. any (member a) ls) (upTo (nodeCount b)) (→upTo (nodeCount b) v (omega (arith, size, access-below u v m)))
       (→any (member v) ls (getD-mem ls u [] (rw count-lists h)) (rw (list-of u h) (→member v (accessOf b e c grid u) m)))
 
-  -- ---- the words of a search from u, with the sets in the regions
+  -- ---- the distances from u as words, with the sets in the regions
 
   pub distance-words : (u : ℕ) → distanceWords (arcsIn e c) n u ≡ map (λ v. coded (distance net u v)) (upTo n)
   unfolding distanceWords distance arcs arcsIn
   distance-words u = rw count-order
 
-  module _ (w : List ℕ) (u : ℕ) (times : take n w ≡ distanceWords (arcsIn e c) n u) (ts : membersIn n transit w ≡ transitIn b e c grid) where
-    same-times : take n w ≡ map (λ v. coded (distance net u v)) (upTo n)
-    same-times = times ∙ distance-words u
-
-    module _ (x : ℕ) (same : accessOf b e c grid x ≡ accessOf b e c grid u) (os : membersIn n own w ≡ accessOf b e c grid x) where
-      pub list-words : listBytesOf (take n w) (membersIn n transit w) (membersIn n own w) ≡ listIn b e c grid u
-      unfolding listIn
-      list-words = rw (ts, os, same) (list-values (distance net) u n (take n w) (transitIn b e c grid) (accessOf b e c grid u) same-times (access-below u))
+  -- u has the access nodes of the cell of x.
+  pub list-words : (w : List ℕ) (u x : ℕ) → membersIn n transit w ≡ transitIn b e c grid → accessOf b e c grid x ≡ accessOf b e c grid u → membersIn n own w ≡ accessOf b e c grid x
+      → listBytesOf (distanceWords (arcsIn e c) n u) (membersIn n transit w) (membersIn n own w) ≡ listIn b e c grid u
+  unfolding listIn
+  list-words w u x ts same os = rw (ts, os, same) (list-values (distance net) u n (distanceWords (arcsIn e c) n u) (transitIn b e c grid) (accessOf b e c grid u) (distance-words u) (access-below u))
 
   -- ---- the sets in the regions
 

@@ -3,3 +3,4 @@ pub mod Covered
 pub mod Placed
 pub mod BuildingLaws
 pub mod Passed
+pub mod Sought

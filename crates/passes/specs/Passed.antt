@@ -1,12 +1,13 @@
 -- The first pass over the cells: what region TRANSIT and region COUNTS hold when the nodes below u are passed. Assumes nothing.
-use Prim.Native.Nat.{ℕ, _+_, _*_, _<_}
+use Prim.Native.Nat.{ℕ, _+_, _<_}
 use mathlib.Core.Path.{_≡_}
 use mathlib.Core.List.{List, List·Memᴰ}
 use lib.ListN.{length, getD}
 use Rattle.model.specs.Bytes.{Bytes}
 use Rattle.grid.specs.declared.Grid.{Grid}
 use Rattle.crossing.specs.Ground.{cellsIn}
-use Rattle.passes.specs.Building.{accessOf, membersIn, transit}
+use Rattle.layout.specs.Regions.{regionAt, transit, counts}
+use Rattle.passes.specs.Building.{accessOf, membersIn}
 use Rattle.passes.specs.Covered.{Seen}
 
 module _ (b e c : Bytes) (grid : Grid) (n : ℕ) where
@@ -18,7 +19,7 @@ module _ (b e c : Bytes) (grid : Grid) (n : ℕ) where
 
   -- v is seen to: its word is the number of its access nodes, and these are in region TRANSIT.
   pub record Told (w : List ℕ) (v : ℕ) : Type 0 where
-    pub counted : getD w (7 * n + v) 0 ≡ length (accessOf b e c grid v)
+    pub counted : getD w (regionAt n counts + v) 0 ≡ length (accessOf b e c grid v)
     pub members : (a : ℕ) → List·Memᴰ a (accessOf b e c grid v) → List·Memᴰ a (membersIn n transit w)
 
   pub record Passed (u : ℕ) (w : List ℕ) : Type 0 where

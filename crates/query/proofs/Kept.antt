@@ -5,18 +5,22 @@ use native.Mathlib.Omega.{arith}
 use mathlib.Core.Path.{_≡_, sym, _∙_}
 use mathlib.Core.Bool.{Bool, true, false, _||_, or-true}
 use mathlib.Core.List.{List, [], _∷_, _++_}
-use borrow.Author.Tests.{eq-eqb, le-leb, lt-leb, leb-false, ltb-false}
+use lib.Dec.{ltb}
+use borrow.Author.Tests.{eq-eqb, le-leb, lt-leb, le-ltb, leb-false, ltb-false}
 use Rattle.model.specs.Bytes.{Bytes}
 use Rattle.model.specs.Contents.{nodeBody}
 use Rattle.model.specs.Network.{nodeCount}
 use Rattle.model.specs.Rules.{Rule, rule, firstBroken, shapeRules, pairRules, timeRules, farRules, listRules, wellShaped, noSuchNode, workTooSmall, wordsNeeded, localPair}
 use Rattle.theory.specs.BuiltCalls.{pair-counted}
-use Rattle.theory.specs.Firsts.{counted, passed, first-append, first-stays}
-use Rattle.theory.specs.Passed.{shape-counted, or-false}
+use Rattle.theory.specs.Firsts.{counted, passed, first-append, first-stays, one-kept}
+use Rattle.theory.specs.Passed.{shape-counted, or-false, all-shaped, shaped-all}
 
 pub shaped : (o : Bytes) → firstBroken (shapeRules o) ≡ 0 → wellShaped o ≡ true
 unfolding wellShaped
 shaped o e = eq-eqb (firstBroken (shapeRules o)) 0 e
+
+pub no-rule : (o : Bytes) → wellShaped o ≡ true → firstBroken (shapeRules o) ≡ 0
+no-rule o h = shaped-all o (all-shaped o h)
 
 -- ---- rule 12
 module _ (o : Bytes) (u n : ℕ) (e : n ≡ nodeCount (nodeBody o)) where
@@ -81,3 +85,15 @@ time-kept o s t words h =
 pub far-kept : (o : Bytes) (s t : ℕ) → firstBroken (farRules o s t) ≡ 0 → PairKept o s t
 unfolding farRules
 far-kept o s t h = pair-kept o s t (split (pairRules o s t) 13 (localPair o s t) (pair-counted o s t) (omega arith) h .0)
+
+-- With words enough the rules of a time are those of the pair.
+pub time-roomy : (o : Bytes) (s t words : ℕ) → wordsNeeded o ≤ words → firstBroken (timeRules o s t words) ≡ firstBroken (pairRules o s t)
+unfolding timeRules workTooSmall
+time-roomy o s t words h = pick (ℕ-discrete (firstBroken (pairRules o s t)) 0)
+  where
+    kept : ltb words (wordsNeeded o) ≡ false
+    kept = le-ltb words (wordsNeeded o) h
+
+    pick : Dec (firstBroken (pairRules o s t) ≡ 0) → firstBroken (pairRules o s t ++ (rule 14 (ltb words (wordsNeeded o)) ∷ [])) ≡ firstBroken (pairRules o s t)
+    pick (yes e) = sym (one-kept (pairRules o s t) 14 (pair-counted o s t) e kept) ∙ sym e
+    pick (no n) = first-stays (pairRules o s t) _ n

@@ -3,5 +3,10 @@ pub mod Kept
 pub mod Cells
 pub mod Words
 pub mod Answers
+pub mod GridWords
+pub mod OpenLaws
+mod EarlyWays
+mod StoppedWays
 mod WayLaws
 pub mod Routes
+pub mod Asking

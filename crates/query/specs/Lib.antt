@@ -1,3 +1,4 @@
 pub mod Toward
 pub mod Room
 pub mod Grids
+pub mod Opened

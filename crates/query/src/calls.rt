@@ -1,23 +1,25 @@
 // The calls over an oracle: time, far, list, way. None asks anything of its arguments.
 ghost use mathlib.Core.Path.{_≡_};
 ghost use mathlib.Core.Bool.{true};
-ghost use Prim.Native.Nat.{_<_, _≤_};
+ghost use Prim.Native.Nat.{_<_};
 ghost use lib.ListN.{length, drop};
 ghost use Rattle.model.specs.Contents.{nodeBody};
 ghost use Rattle.model.specs.Network.{network, nodeCount};
 ghost use Rattle.model.specs.Query.{farAnswer, localAnswer, timeAnswer};
-ghost use Rattle.model.specs.Rules.{wellShaped, wordsNeeded};
+ghost use Rattle.model.specs.Rules.{wellShaped};
 ghost use Rattle.model.specs.Calls.{farResult, listResult, listRefusal, TimeCall, WayCall};
 ghost use Rattle.query.specs.Room.{WayGiven};
-use crate::kinds::kind_between;
+ghost use Rattle.query.specs.Opened.{gridAt, Opened};
 use crate::local::local_seconds;
 use crate::local::zero_front;
+use crate::opened::open_words;
+use crate::opened::opened_kind;
 use crate::refusals::WORDS;
 use crate::refusals::far_refusal;
 use crate::refusals::list_refusal;
 use crate::refusals::time_refusal;
 use crate::ways::put_way;
-use crate::ways::times_to;
+use crate::ways::times_toward;
 use crate::ways::way_nodes;
 use codec::records::NUMBER_SIZE;
 use model::Answer;
@@ -59,20 +61,20 @@ pub fn far(o: &[u8], s: u32, t: u32) -> Answer
 
 // The local answer, from a search over the open edges.
 fn local_of(o: &[u8], s: usize, t: usize, work: &mut [u32]) -> Answer
-    requires { ⌜ (wellShaped (now o) ≡ true) × (s < nodeCount (nodeBody (now o))) × (t < nodeCount (nodeBody (now o))) × (wordsNeeded (now o) ≤ length (now work)) ⌝ }
+    requires { ⌜ Opened (now o) (now work) × (s < nodeCount (nodeBody (now o))) × (t < nodeCount (nodeBody (now o))) ⌝ }
     ensures answer { λ r. ⌜ r ≡ localAnswer (network (now (o .entry))) s t ⌝ }
-    ensures rest { λ _. ⌜ drop (wordsNeeded (now (o .entry))) (now (work .exit)) ≡ drop (wordsNeeded (now (o .entry))) (now (work .entry)) ⌝ }
+    ensures others { λ _. ⌜ drop (gridAt (nodeCount (nodeBody (now (o .entry))))) (now (work .exit)) ≡ drop (gridAt (nodeCount (nodeBody (now (o .entry))))) (now (work .entry)) ⌝ }
 {
     answer_of(Kind::Local, 0, local_seconds(o, s, t, work))
 }
 
 // The answer by the kind of the pair.
-fn time_of(o: &[u8], s: usize, t: usize, work: &mut [u32]) -> Answer
-    requires { ⌜ (wellShaped (now o) ≡ true) × (s < nodeCount (nodeBody (now o))) × (t < nodeCount (nodeBody (now o))) × (wordsNeeded (now o) ≤ length (now work)) ⌝ }
+pub fn time_of(o: &[u8], s: usize, t: usize, work: &mut [u32]) -> Answer
+    requires { ⌜ Opened (now o) (now work) × (s < nodeCount (nodeBody (now o))) × (t < nodeCount (nodeBody (now o))) ⌝ }
     ensures answer { λ r. ⌜ r ≡ timeAnswer (now (o .entry)) s t ⌝ }
-    ensures rest { λ _. ⌜ drop (wordsNeeded (now (o .entry))) (now (work .exit)) ≡ drop (wordsNeeded (now (o .entry))) (now (work .entry)) ⌝ }
+    ensures others { λ _. ⌜ drop (gridAt (nodeCount (nodeBody (now (o .entry))))) (now (work .exit)) ≡ drop (gridAt (nodeCount (nodeBody (now (o .entry))))) (now (work .entry)) ⌝ }
 {
-    let kind = kind_between(o, s, t);
+    let kind = opened_kind(o, s, t, work);
     match kind {
         Kind::Far => far_of(o, s, t),
         Kind::Local => local_of(o, s, t, work),
@@ -87,6 +89,7 @@ pub fn time(o: &[u8], s: u32, t: u32, work: &mut [u32]) -> Answer
     if rule != 0 {
         return Answer::Refused { rule };
     }
+    open_words(o, work);
     let answer = time_of(o, s as usize, t as usize, work);
     zero_front(work, WORDS * node_count(o));
     answer
@@ -110,12 +113,12 @@ pub fn list_rule(o: &[u8], u: u32) -> u32
 }
 
 // The way where no rule before 15 is broken: its length is known before any output is written.
-fn way_of(o: &[u8], s: usize, t: usize, work: &mut [u32], out: &mut [u8]) -> Route
-    requires { ⌜ (wellShaped (now o) ≡ true) × (s < nodeCount (nodeBody (now o))) × (t < nodeCount (nodeBody (now o))) × (wordsNeeded (now o) ≤ length (now work)) ⌝ }
+pub fn way_of(o: &[u8], s: usize, t: usize, work: &mut [u32], out: &mut [u8]) -> Route
+    requires { ⌜ Opened (now o) (now work) × (s < nodeCount (nodeBody (now o))) × (t < nodeCount (nodeBody (now o))) ⌝ }
     ensures given { λ r. ⌜ WayGiven (now (o .entry)) s t (now (out .entry)) r (now (out .exit)) ⌝ }
-    ensures rest { λ _. ⌜ drop (wordsNeeded (now (o .entry))) (now (work .exit)) ≡ drop (wordsNeeded (now (o .entry))) (now (work .entry)) ⌝ }
+    ensures others { λ _. ⌜ drop (gridAt (nodeCount (nodeBody (now (o .entry))))) (now (work .exit)) ≡ drop (gridAt (nodeCount (nodeBody (now (o .entry))))) (now (work .entry)) ⌝ }
 {
-    times_to(o, t, work);
+    times_toward(o, s, t, work);
     let nodes = way_nodes(o, s, t, work);
     if out.len() < NUMBER_SIZE * nodes as usize {
         return Route { rule: 15, nodes: 0 };
@@ -132,6 +135,7 @@ pub fn way(o: &[u8], s: u32, t: u32, work: &mut [u32], out: &mut [u8]) -> Route
     if rule != 0 {
         return Route { rule, nodes: 0 };
     }
+    open_words(o, work);
     let route = way_of(o, s as usize, t as usize, work, out);
     zero_front(work, WORDS * node_count(o));
     route

@@ -2,5 +2,7 @@
 pub mod calls;
 pub mod kinds;
 pub mod local;
+pub mod opened;
+pub mod questions;
 pub mod refusals;
 pub mod ways;

@@ -1,23 +1,55 @@
 // Local answers, by a search in the working words.
 ghost use mathlib.Core.Path.{_≡_};
-ghost use mathlib.Core.Bool.{false, true};
 ghost use Prim.Native.Nat.{_*_, _<_, _≤_};
-ghost use lib.ListN.{length, drop};
+ghost use lib.ListN.{length, set, drop, replicate};
 ghost use Rattle.model.specs.Contents.{nodeBody};
 ghost use Rattle.model.specs.Distance.{dist};
-ghost use Rattle.model.specs.Network.{network, distance, maxNodes, nodeCount, edgeCount, someEdgeBroken, numbersBroken};
+ghost use Rattle.model.specs.Network.{network, distance, maxNodes, nodeCount};
 ghost use Rattle.model.specs.Oracle.{coded};
-ghost use Rattle.model.specs.Rules.{wellShaped, wordsNeeded};
 ghost use Rattle.model.specs.Calls.{cleared};
+ghost use Rattle.algorithms.specs.Stops.{Stopped};
 ghost use Rattle.arcs.specs.Arcs.{arcsIn};
+ghost use Rattle.index.specs.Index.{Roads};
+ghost use Rattle.search.specs.Regions.{timesIn, orderIn, wantIn};
+ghost use Rattle.query.specs.Opened.{gridAt, Opened};
 use bitset::words::fill;
+use layout::regions::WANT;
+use layout::regions::clear;
+use layout::regions::put;
 use reader::oracle::CLOSED;
 use reader::oracle::EDGES;
 use reader::oracle::node_count;
 use reader::oracle::oracle_body;
-use search::front::search_front;
+use search::wanted::search_wanted;
 
-// The distance from s to t over the bodies of edges and closed edges. The search leaves what it likes in the first 3 n words.
+// The wanted set of a search has t alone.
+fn want_only(work: &mut [u32], n: usize, t: usize)
+    requires { ⌜ (n ≤ maxNodes) × (t < n) × (8 * n ≤ length (now work)) ⌝ }
+    ensures members { λ _. ⌜ wantIn n (now (work .exit)) ≡ set (replicate n 0) t 1 ⌝ }
+    ensures others { λ _. ⌜ drop (gridAt n) (now (work .exit)) ≡ drop (gridAt n) (now (work .entry)) ⌝ }
+{
+    clear(work, n, WANT);
+    put(work, n, WANT, t);
+}
+
+// Searches from s until t is settled. The search leaves what it likes before the grid.
+pub fn search_to(
+    edges: &[u8],
+    closed: &[u8],
+    n: usize,
+    s: usize,
+    t: usize,
+    work: &mut [u32],
+) -> usize
+    requires { ⌜ (n ≤ maxNodes) × (s < n) × (t < n) × (8 * n ≤ length (now work)) × Roads (now edges) (now closed) n (now work) ⌝ }
+    ensures found { λ e. ⌜ Stopped (arcsIn (now (edges .entry)) (now (closed .entry))) n s (set (replicate n 0) t 1) (timesIn n (now (work .exit))) (orderIn n e (now (work .exit))) ⌝ }
+    ensures others { λ _. ⌜ drop (gridAt n) (now (work .exit)) ≡ drop (gridAt n) (now (work .entry)) ⌝ }
+{
+    want_only(work, n, t);
+    search_wanted(edges, closed, n, s, 1, work)
+}
+
+// The distance from s to t over the bodies of edges and closed edges.
 fn search_seconds(
     edges: &[u8],
     closed: &[u8],
@@ -26,20 +58,19 @@ fn search_seconds(
     t: usize,
     work: &mut [u32],
 ) -> u32
-    requires { ⌜ (n ≤ maxNodes) × (s < n) × (t < n) × (3 * n ≤ length (now work)) ⌝ }
-    requires { ⌜ (someEdgeBroken n (now edges) ≡ false) × (numbersBroken (edgeCount (now edges)) (now closed) ≡ false) ⌝ }
+    requires { ⌜ (n ≤ maxNodes) × (s < n) × (t < n) × (8 * n ≤ length (now work)) × Roads (now edges) (now closed) n (now work) ⌝ }
     ensures seconds { λ r. ⌜ r ≡ coded (dist (arcsIn (now (edges .entry)) (now (closed .entry))) n s t) ⌝ }
-    ensures rest { λ _. ⌜ drop (3 * n) (now (work .exit)) ≡ drop (3 * n) (now (work .entry)) ⌝ }
+    ensures others { λ _. ⌜ drop (gridAt n) (now (work .exit)) ≡ drop (gridAt n) (now (work .entry)) ⌝ }
 {
-    search_front(edges, closed, n, s, work);
+    search_to(edges, closed, n, s, t, work);
     work[t]
 }
 
 // The distance from s to t in the oracle's network.
 pub fn local_seconds(o: &[u8], s: usize, t: usize, work: &mut [u32]) -> u32
-    requires { ⌜ (wellShaped (now o) ≡ true) × (s < nodeCount (nodeBody (now o))) × (t < nodeCount (nodeBody (now o))) × (wordsNeeded (now o) ≤ length (now work)) ⌝ }
+    requires { ⌜ Opened (now o) (now work) × (s < nodeCount (nodeBody (now o))) × (t < nodeCount (nodeBody (now o))) ⌝ }
     ensures seconds { λ r. ⌜ r ≡ coded (distance (network (now (o .entry))) s t) ⌝ }
-    ensures rest { λ _. ⌜ drop (wordsNeeded (now (o .entry))) (now (work .exit)) ≡ drop (wordsNeeded (now (o .entry))) (now (work .entry)) ⌝ }
+    ensures others { λ _. ⌜ drop (gridAt (nodeCount (nodeBody (now (o .entry))))) (now (work .exit)) ≡ drop (gridAt (nodeCount (nodeBody (now (o .entry))))) (now (work .entry)) ⌝ }
 {
     search_seconds(
         oracle_body(o, EDGES),

@@ -2,6 +2,7 @@
 ghost use mathlib.Core.Path.{_≡_};
 ghost use mathlib.Core.Bool.{true};
 ghost use Rattle.model.specs.Rules.{firstBroken, pairRules, timeRules, farRules, listRules, wellShaped, workTooSmall};
+ghost use Rattle.query.specs.Opened.{roomRules};
 use crate::kinds::is_local;
 use crate::kinds::kind_between;
 use reader::files::shape_refusal;
@@ -24,14 +25,11 @@ pub fn list_refusal(o: &[u8], u: u32) -> u32
     0
 }
 
-// Rules 1 to 12, for two nodes.
-pub fn pair_refusal(o: &[u8], s: u32, t: u32) -> u32
+// Rule 12 for two nodes, of an oracle that keeps 1 to 11.
+pub fn named_refusal(o: &[u8], s: u32, t: u32) -> u32
+    requires { ⌜ wellShaped (now o) ≡ true ⌝ }
     ensures { λ r. ⌜ r ≡ firstBroken (pairRules (now (o .entry)) s t) ⌝ }
 {
-    let r = shape_refusal(o);
-    if r != 0 {
-        return r;
-    }
     let n = node_count(o);
     if n <= s as usize {
         return 12;
@@ -42,12 +40,37 @@ pub fn pair_refusal(o: &[u8], s: u32, t: u32) -> u32
     0
 }
 
+// Rules 1 to 12, for two nodes.
+pub fn pair_refusal(o: &[u8], s: u32, t: u32) -> u32
+    ensures { λ r. ⌜ r ≡ firstBroken (pairRules (now (o .entry)) s t) ⌝ }
+{
+    let r = shape_refusal(o);
+    if r != 0 {
+        return r;
+    }
+    named_refusal(o, s, t)
+}
+
 // Rule 14, of an oracle that keeps 1 to 11.
 pub fn work_too_small(o: &[u8], words: usize) -> bool
     requires { ⌜ wellShaped (now o) ≡ true ⌝ }
     ensures { λ r. ⌜ r ≡ workTooSmall (now (o .entry)) words ⌝ }
 {
     words < WORDS * node_count(o)
+}
+
+// Rules 1 to 11, and 14.
+pub fn room_refusal(o: &[u8], words: usize) -> u32
+    ensures { λ r. ⌜ r ≡ firstBroken (roomRules (now (o .entry)) words) ⌝ }
+{
+    let r = shape_refusal(o);
+    if r != 0 {
+        return r;
+    }
+    if work_too_small(o, words) {
+        return 14;
+    }
+    0
 }
 
 // Rules 1 to 12, and 14.

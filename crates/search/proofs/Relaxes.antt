@@ -1,109 +1,128 @@
--- Relaxing one open edge after another: what the lent words hold on the way. Assumes nothing.
-use Prim.Native.Nat.{ℕ, zero, suc, _+_, _-_, _≤_, _<_}
-use native.Mathlib.Decide.{decLt}
+-- Relaxing one open edge after another, by the index: what the lent words hold on the way. Assumes nothing.
+use Prim.Native.Nat.{ℕ, _+_, _*_, _≤_, _<_}
+use native.Mathlib.Decide.{ℕ-discrete}
 use native.Mathlib.Omega.{arith}
-use mathlib.Core.Path.{_≡_, refl, sym, ap, subst, _∙_}
-use mathlib.Core.Bool.{true, false}
-use mathlib.Core.List.{List}
-use Rattle.model.specs.Bytes.{Bytes, words16}
-use Rattle.model.specs.Network.{Edge, edge, edgeCount, openEdges, arcsOf}
-use Rattle.algorithms.specs.Dijkstra.{at, relax-all, relax-all-le}
-use Rattle.arcs.specs.Arcs.{arcsIn, leaving, closedAt, NextClosed, Apart}
-use Rattle.arcs.proofs.Ahead.{Ahead, Partway, closed-ahead, partway-first, partway-closed, partway-open, partway-last}
-use Rattle.arcs.proofs.Leaving.{there, back, arc-yes, arc-no, edge-done, relaxing, relax-over}
+use mathlib.Core.Path.{_≡_, refl, sym, ap, _∙_}
+use mathlib.Core.Logic.{_⊎_, inl, inr}
+use mathlib.Core.List.{List, [], _∷_, _++_, append-nil, append-assoc}
+use lib.ListN.{length, getD, take, drop}
+use lib.Seq.{getD-take}
+use Rattle.model.specs.Lists.{concatMap}
+use Rattle.model.specs.Bytes.{Bytes}
+use Rattle.model.specs.Network.{Edge, edge, edgeCount, arcsOf}
+use Rattle.model.specs.Walk.{Arc}
+use Rattle.algorithms.specs.Dijkstra.{at, relax-all, relax-all-le, relax-all-same, relax-append}
+use Rattle.arcs.specs.Arcs.{arcsIn, leaving}
+use Rattle.arcs.proofs.Leaving.{there, back, arc-yes, arc-no, edge-done, relaxing}
 use Rattle.heap.specs.Queue.{lowered}
-use Rattle.search.specs.Regions.{timesIn}
+use Rattle.index.specs.declared.cursor.Cursor.{Cursor}
+use Rattle.index.specs.Index.{Roads}
+use Rattle.index.specs.Cursor.{Valid, Passing, Stepped}
+use Rattle.index.proofs.Same.{arcsOver, passing-all, arcs-same→, →arcs-same}
+use Rattle.search.specs.Regions.{frontIn, timesIn}
 use Rattle.search.specs.Holds.{Holds, Relaxed, SettledWithin}
+use Rattle.search.proofs.Parts.{front-is, front-others}
+use Rattle.search.proofs.Cursors.{valid-kept, passing-kept, roads-kept}
 
 -- ---- one edge: v and x are its other end and the time by it, as the code has read them
 module _ (u d : ℕ) (e : Edge) (t : List ℕ) (apart : e .first ≡ e .second → ⊥) where
-  pub by-first : (v x : ℕ) → e .first ≡ u → v ≡ e .second → x ≡ d + e .seconds → lowered t v x ≡ relaxing u d e t
+  by-first : (v x : ℕ) → e .first ≡ u → v ≡ e .second → x ≡ d + e .seconds → lowered t v x ≡ relaxing u d e t
   by-first v x p q r =
       edge-done u d e t (lowered t v x) (lowered t v x) (arc-yes u d (there e) t v x p q r) (arc-no u d (back e) (lowered t v x) (λ z. apart (p ∙ sym z)))
 
-  pub by-second : (v x : ℕ) → e .second ≡ u → v ≡ e .first → x ≡ d + e .seconds → lowered t v x ≡ relaxing u d e t
+  by-second : (v x : ℕ) → e .second ≡ u → v ≡ e .first → x ≡ d + e .seconds → lowered t v x ≡ relaxing u d e t
   by-second v x p q r = edge-done u d e t t (lowered t v x) (arc-no u d (there e) t (λ z. apart (z ∙ sym p))) (arc-yes u d (back e) t v x p q r)
 
-pub by-neither : (u d : ℕ) (e : Edge) (t : List ℕ) → (e .first ≡ u → ⊥) → (e .second ≡ u → ⊥) → t ≡ relaxing u d e t
-by-neither u d e t p q = edge-done u d e t t t (arc-no u d (there e) t p) (arc-no u d (back e) t q)
+-- The end that is not u, as the code has chosen it.
+pub by-other : (u d : ℕ) (e : Edge) (t : List ℕ) → (e .first ≡ e .second → ⊥) → (e .first ≡ u) ⊎ (e .second ≡ u) → (first second v x : ℕ) → first ≡ e .first → second ≡ e .second
+    → (first ≡ u → v ≡ second) × ((first ≡ u → ⊥) → v ≡ first) → x ≡ d + e .seconds → lowered t v x ≡ relaxing u d e t
+by-other u d e t apart end first second v x p q o r = pick (ℕ-discrete first u) end
+  where
+    pick : Dec (first ≡ u) → (e .first ≡ u) ⊎ (e .second ≡ u) → lowered t v x ≡ relaxing u d e t
+    pick (yes f) _ = by-first u d e t apart v x (sym p ∙ f) (o .0 f ∙ q) r
+    pick (no f) (inl g) = absurd (f (p ∙ g))
+    pick (no f) (inr g) = by-second u d e t apart v x g (o .1 f ∙ p) r
+
+pub other-in : (n u first second v : ℕ) → first < n → second < n → (first ≡ u → v ≡ second) × ((first ≡ u → ⊥) → v ≡ first) → v < n
+other-in n u first second v h l o = pick (ℕ-discrete first u)
+  where
+    pick : Dec (first ≡ u) → v < n
+    pick (yes f) = omega (arith, o .0 f)
+    pick (no f) = omega (arith, o .1 f)
 
 pub relaxed-as : (n e : ℕ) (d d′ w w′ : List ℕ) (r : ℕ) → Relaxed n e d w w′ r → d ≡ d′ → Relaxed n e d′ w w′ r
 relaxed-as n e d d′ w w′ r t p = rw p at t
 
-pub relaxed-none : (n k e : ℕ) (d w : List ℕ) → Holds n k e w → timesIn n w ≡ d → Relaxed n e d w w k
-relaxed-none n k e d w h p = record { holds = h; times = p; order = refl; settled = refl }
+-- The time of a node, as it stands in the words.
+pub time-read : (n u : ℕ) (w : List ℕ) → u < n → at (timesIn n (frontIn n w)) u ≡ getD w u 0
+time-read n u w i = getD-take n (frontIn n w) u 0 i ∙ getD-take (3 * n) w u 0 (omega arith)
 
--- ---- all open edges: from w₀, with the edges below i and the closed edges below position j passed, to w with k nodes held
-pub record Along (b closed : Bytes) (n e u d : ℕ) (w₀ : List ℕ) (i j : ℕ) (w : List ℕ) (k : ℕ) : Type 0 where
-  pub relaxed : Relaxed n e (timesIn n w) w₀ w k
-  pub within : SettledWithin n d w
-  pub partway : Partway (relaxing u d) b closed (timesIn n w₀) i j (timesIn n w)
+-- ---- all open edges at u
+over-more : (b : Bytes) (u : ℕ) (done : List ℕ) (j : ℕ) → arcsOver b u (done ++ j ∷ []) ≡ arcsOver b u done ++ leaving u (arcsOf (edge b j))
+unfolding arcsOver concatMap
+over-more b u [] j = append-nil (leaving u (arcsOf (edge b j)))
+over-more b u (x ∷ done) j =
+    ap (λ (l : List Arc). leaving u (arcsOf (edge b x)) ++ l) (over-more b u done j)
+    ∙ sym (append-assoc (leaving u (arcsOf (edge b x))) (arcsOver b u done) (leaving u (arcsOf (edge b j))))
 
-module _ (b closed : Bytes) (n e u d : ℕ) (w₀ : List ℕ) where
-  pub along-first : (k : ℕ) → Holds n k e w₀ → SettledWithin n d w₀ → Ahead 0 (words16 closed) → Along b closed n e u d w₀ 0 0 w₀ k
-  along-first k h s a = record { relaxed = relaxed-none n k e (timesIn n w₀) w₀ h refl; within = s; partway = partway-first (relaxing u d) b closed (timesIn n w₀) a }
-
-  module _ (i j k : ℕ) (w : List ℕ) (g : Along b closed n e u d w₀ i j w k) where
-    pub along-closed : i < edgeCount b → closedAt closed j i ≡ true → Along b closed n e u d w₀ (i + 1) (j + 1) w k
-    along-closed h c = record { relaxed = g .relaxed; within = g .within; partway = partway-closed (relaxing u d) b closed (timesIn n w₀) i j (timesIn n w) (g .partway) h c }
-
-    pub along-open : i < edgeCount b → closedAt closed j i ≡ false → (w′ : List ℕ) (r : ℕ) → Relaxed n e (relaxing u d (edge b i) (timesIn n w)) w w′ r
-        → Along b closed n e u d w₀ (i + 1) j w′ r
-    along-open h c w′ r t = record {
-      relaxed = record { holds = t .holds; times = refl; order = t .order ∙ g .relaxed .order; settled = t .settled ∙ g .relaxed .settled };
-      within = λ v l s. omega (arith, ap (λ (l : List ℕ). at l v) (t .times), relax-all-le d (leaving u (arcsOf (edge b i))) (timesIn n w) v, g .within v l (rw (t .settled) at s));
-      partway = rw (t .times) (partway-open (relaxing u d) b closed (timesIn n w₀) i j (timesIn n w) (g .partway) h c);
-    }
-
-    pub along-last : edgeCount b ≤ i → Relaxed n e (relax-all d (leaving u (arcsIn b closed)) (timesIn n w₀)) w₀ w k
-    unfolding arcsIn
-    along-last h = relaxed-as n e (timesIn n w) _ w₀ w k (g .relaxed)
-        (partway-last (relaxing u d) b closed (timesIn n w₀) i j (timesIn n w) (g .partway) h ∙ relax-over u d (openEdges b (words16 closed)) (timesIn n w₀))
-
-  -- So many edges from i on are open and apart from u.
-  along-apart : (j k : ℕ) (w : List ℕ) (count i : ℕ) → Along b closed n e u d w₀ i j w k → i + count ≤ edgeCount b → ((x : ℕ) → x < i + count → closedAt closed j x ≡ false)
-      → ((x : ℕ) → i ≤ x → x < i + count → Apart u (edge b x)) → Along b closed n e u d w₀ (i + count) j w k
-  along-apart j k w zero i g l c a = let q : i + 0 ≡ i = omega arith in rw q g
-  along-apart j k w (suc count) i g l c a =
-      let q : i + suc count ≡ i + 1 + count = omega arith in
-      let o = a i (omega arith) (omega arith) in
-      let t = relaxed-none n k e (relaxing u d (edge b i) (timesIn n w)) w (g .relaxed .holds) (by-neither u d (edge b i) (timesIn n w) (o .0) (o .1)) in
-      rw q (along-apart j k w count (i + 1) (along-open i j k w g (omega arith) (c i (omega arith)) w k t) (omega arith) (λ x y. c x (omega arith)) (λ x y z. a x (omega arith) (omega arith)))
-
--- ---- the loop: the edges below i are passed, or all are
-pub record Scan (b closed : Bytes) (n e u d : ℕ) (w₀ : List ℕ) (i j : ℕ) (w : List ℕ) (k : ℕ) : Type 0 where
-  pub along : i ≤ edgeCount b → Along b closed n e u d w₀ i j w k
-  pub whole : edgeCount b ≤ i → Relaxed n e (relax-all d (leaving u (arcsIn b closed)) (timesIn n w₀)) w₀ w k
+-- From w₀ to w, with k nodes held: the edges that the cursor c has passed are relaxed.
+pub record Passed (b closed : Bytes) (n e u d : ℕ) (w₀ : List ℕ) (c : Cursor) (w : List ℕ) (k : ℕ) : Type 0 where
+  pub done : List ℕ
+  pub passing : Passing b closed n w u done c
+  pub relaxed : Relaxed n e (relax-all d (arcsOver b u done) (timesIn n (frontIn n w₀))) (frontIn n w₀) (frontIn n w) k
+  pub within : SettledWithin n d (frontIn n w)
+  pub roads : Roads b closed n w
+  pub others : drop (3 * n) w ≡ drop (3 * n) w₀
 
 module _ (b closed : Bytes) (n e u d : ℕ) (w₀ : List ℕ) where
-  pub scan-of : (i j k : ℕ) (w : List ℕ) → Along b closed n e u d w₀ i j w k → Scan b closed n e u d w₀ i j w k
-  scan-of i j k w g = record { along = λ _. g; whole = along-last b closed n e u d w₀ i j k w g }
+  pub passed-first : (k : ℕ) (c : Cursor) → Holds n k e (frontIn n w₀) → SettledWithin n d (frontIn n w₀) → Roads b closed n w₀ → Passing b closed n w₀ u [] c
+      → Passed b closed n e u d w₀ c w₀ k
+  unfolding relax-all arcsOver concatMap
+  passed-first k c h s r p = record {
+    done = [];
+    passing = p;
+    relaxed = record { holds = h; times = refl; order = refl; settled = refl };
+    within = s;
+    roads = r;
+    others = refl;
+  }
 
-  -- From i, where the next closed edge is `stop`, and the edges from i up to r are apart from u.
-  module _ (i j k : ℕ) (w : List ℕ) (g : Along b closed n e u d w₀ i j w k) (stop : ℕ) (next : NextClosed closed j (edgeCount b) stop) where
-    pub scan-from : i ≤ edgeCount b → i ≤ stop
-    scan-from h = pick (decLt stop (edgeCount b))
-      where
-        pick : Dec (stop < edgeCount b) → i ≤ stop
-        pick (yes l) = closed-ahead closed i j stop (g .partway .ahead) (next .here l)
-        pick (no l) = omega (arith, next .inside)
+  -- An edge is relaxed: ys come back for the first 3 n words of w.
+  module _ (c : Cursor) (k : ℕ) (w ys : List ℕ) (g : Passed b closed n e u d w₀ c w k) (long : 3 * n ≤ length w) (same : length ys ≡ length (take (3 * n) w)) where
+    abbrev whole : List ℕ
+    whole = ys ++ drop (3 * n) w
 
-    module _ (r : ℕ) (from : i ≤ r) (to : r ≤ stop) (passed : (x : ℕ) → i ≤ x → x < r → Apart u (edge b x)) where
-      to-r : Along b closed n e u d w₀ r j w k
-      to-r =
-          let q : i + (r - i) ≡ r = omega arith in
-          subst (λ (x : ℕ). Along b closed n e u d w₀ x j w k) q
-          (along-apart b closed n e u d w₀ j k w (r - i) i g (omega (arith, next .inside)) (λ x l. next .before x (omega arith)) (λ x h l. passed x h (omega arith)))
+    kept : drop (3 * n) whole ≡ drop (3 * n) w
+    kept = front-others w ys (3 * n) long same
 
-      pub scan-open : r < stop → (w′ : List ℕ) (k′ : ℕ) → Relaxed n e (relaxing u d (edge b r) (timesIn n w)) w w′ k′ → Scan b closed n e u d w₀ (r + 1) j w′ k′
-      scan-open l w′ k′ t = scan-of (r + 1) j k′ w′ (along-open b closed n e u d w₀ r j k w to-r (omega (arith, next .inside)) (next .before r l) w′ k′ t)
+    pub turn-valid : Valid b closed n whole u c
+    turn-valid = valid-kept b closed n w whole kept u c (g .passing .valid)
 
-      pub scan-closed : stop ≤ r → Scan b closed n e u d w₀ (r + 1) (j + 1) w k
-      scan-closed l = pick (decLt stop (edgeCount b))
-        where
-          s : r ≡ stop
-          s = omega arith
+    pub turn-roads : Roads b closed n whole
+    turn-roads = roads-kept b closed n w whole kept (g .roads)
 
-          pick : Dec (stop < edgeCount b) → Scan b closed n e u d w₀ (r + 1) (j + 1) w k
-          pick (yes h) = scan-of (r + 1) (j + 1) k w (along-closed b closed n e u d w₀ r j k w to-r (omega arith) (rw s (next .here h)))
-          pick (no h) = record { along = λ f. absurd (omega arith); whole = λ f. along-last b closed n e u d w₀ r j k w to-r (omega (arith, next .inside)) }
+    module _ (r : ℕ) (t : Relaxed n e (relaxing u d (edge b (c .edge)) (timesIn n (frontIn n w))) (frontIn n w) ys r) where
+      more : relaxing u d (edge b (c .edge)) (timesIn n (frontIn n w)) ≡ relax-all d (arcsOver b u (g .done ++ c .edge ∷ [])) (timesIn n (frontIn n w₀))
+      more =
+          ap (relax-all d (leaving u (arcsOf (edge b (c .edge))))) (g .relaxed .times)
+          ∙ sym (ap (λ (l : List Arc). relax-all d l (timesIn n (frontIn n w₀))) (over-more b u (g .done) (c .edge))
+          ∙ relax-append d (arcsOver b u (g .done)) (leaving u (arcsOf (edge b (c .edge)))) (timesIn n (frontIn n w₀)))
+
+      pub passed-next : (c′ : Cursor) → Stepped b closed n whole u c c′ → Passed b closed n e u d w₀ c′ whole r
+      passed-next c′ s = record {
+        done = g .done ++ c .edge ∷ [];
+        passing = s .passing (g .done) (passing-kept b closed n w whole kept u (g .done) c (g .passing));
+        relaxed = rw (front-is w ys (3 * n) long same) (record { holds = t .holds; times = t .times ∙ more; order = t .order ∙ g .relaxed .order; settled = t .settled ∙ g .relaxed .settled });
+        within = rw (front-is w ys (3 * n) long same)
+            (λ v l z. omega (arith, ap (λ (x : List ℕ). at x v) (t .times), relax-all-le d (leaving u (arcsOf (edge b (c .edge)))) (timesIn n (frontIn n w)) v, g .within v l (rw (t .settled) at z)));
+        roads = turn-roads;
+        others = kept ∙ g .others;
+      }
+
+  -- All are passed.
+  pub passed-last : (k : ℕ) (w : List ℕ) (c : Cursor) → edgeCount b ≤ c .edge → Passed b closed n e u d w₀ c w k
+      → Relaxed n e (relax-all d (leaving u (arcsIn b closed)) (timesIn n (frontIn n w₀))) (frontIn n w₀) (frontIn n w) k
+  passed-last k w c h g =
+      let all = passing-all b closed u (g .done) n w c h (g .passing) in
+      relaxed-as n e _ _ (frontIn n w₀) (frontIn n w) k (g .relaxed)
+      (relax-all-same d (arcsOver b u (g .done)) (leaving u (arcsIn b closed)) (timesIn n (frontIn n w₀)) (λ a. (arcs-same→ b closed u (g .done) all a, →arcs-same b closed u (g .done) all a)))

@@ -1,24 +1,30 @@
-// A search in the first of more words than it needs.
+// Dijkstra's method (document 002, 2.1) from one node, in the first of the lent words: to every node.
 ghost use mathlib.Core.Path.{_≡_};
-ghost use mathlib.Core.Bool.{false};
 ghost use Prim.Native.Nat.{_*_, _<_, _≤_};
 ghost use lib.ListN.{length, drop};
-ghost use Rattle.model.specs.Network.{maxNodes, edgeCount, someEdgeBroken, numbersBroken};
+ghost use Rattle.model.specs.Network.{maxNodes};
 ghost use Rattle.algorithms.specs.Rounds.{Found};
 ghost use Rattle.arcs.specs.Arcs.{arcsIn};
-ghost use Rattle.search.specs.Regions.{timesIn, orderIn};
-use crate::search::search;
+ghost use Rattle.index.specs.Index.{Roads};
+ghost use Rattle.search.specs.Regions.{timesIn, orderIn, Distinct};
+use crate::rounds::begin;
+use crate::rounds::finish;
+use crate::rounds::round;
 
-// The words that a search takes for each node.
-const REGIONS: usize = 3;
-
-// Searches from s in the first 3 n words. The others stay.
+// Searches from s. In the first 3 n words then stand the times of all n nodes, and from position e of the order on the nodes that are reached, each once and
+// the farthest first. The others stay. Left open: which of equally far nodes stands first, and what the other words of the 3 n are.
 pub fn search_front(edges: &[u8], closed: &[u8], n: usize, s: usize, work: &mut [u32]) -> usize
-    requires { ⌜ (n ≤ maxNodes) × (s < n) × (3 * n ≤ length (now work)) ⌝ }
-    requires { ⌜ (someEdgeBroken n (now edges) ≡ false) × (numbersBroken (edgeCount (now edges)) (now closed) ≡ false) ⌝ }
-    ensures found { λ e. ⌜ Found (arcsIn (now (edges .entry)) (now (closed .entry))) n s (timesIn n (now (work .exit))) (orderIn n e (now (work .exit))) × (e ≤ n) ⌝ }
+    requires { ⌜ (n ≤ maxNodes) × (s < n) × (8 * n ≤ length (now work)) ⌝ }
+    requires { ⌜ Roads (now edges) (now closed) n (now work) ⌝ }
+    ensures found { λ e. ⌜ Found (arcsIn (now (edges .entry)) (now (closed .entry))) n s (timesIn n (now (work .exit))) (orderIn n e (now (work .exit))) × (e ≤ n) × Distinct (orderIn n e (now (work .exit))) ⌝ }
     ensures others { λ _. ⌜ drop (3 * n) (now (work .exit)) ≡ drop (3 * n) (now (work .entry)) ⌝ }
 {
-    let m = REGIONS * n;
-    search(edges, closed, n, s, &mut work[..m])
+    let mut k = begin(work, n, s);
+    let mut e = n;
+    while 0 < k {
+        k = round(edges, closed, n, k, e, work);
+        e -= 1;
+    }
+    finish(work, n, e);
+    e
 }

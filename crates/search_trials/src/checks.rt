@@ -1,5 +1,7 @@
-// One search: its times, its order, and the words past those that it is lent.
+// One search: its times, its order, and the words that it leaves alone.
+use bitset::bits::set_words;
 use bitset::words::fill;
+use index::chains::build_index;
 use reference::distances::NO_WALK;
 use reference::memory::at;
 use reference::memory::both;
@@ -27,6 +29,9 @@ const EDGE: usize = 8;
 
 const REGIONS: usize = 3;
 
+// The words lent for each node, the index among them.
+const LENT: usize = 8;
+
 // More than any position: what was made is no network.
 const REFUSED: usize = 5000;
 
@@ -38,7 +43,7 @@ fn search_from(edges: &[u8], closed: &[u8], n: usize, s: usize, work: &mut [u32]
     if n <= s {
         return REFUSED;
     }
-    if work.len() < REGIONS * n {
+    if work.len() < LENT * n {
         return REFUSED;
     }
     if some_edge_broken(n, edges) {
@@ -47,6 +52,7 @@ fn search_from(edges: &[u8], closed: &[u8], n: usize, s: usize, work: &mut [u32]
     if numbers_broken(edges.len() / EDGE, closed) {
         return REFUSED;
     }
+    build_index(edges, closed, n, work);
     search_front(edges, closed, n, s, work)
 }
 
@@ -130,13 +136,22 @@ fn still_word(work: &[u32], i: usize, x: u32, so_far: bool) -> bool {
     false
 }
 
-fn rest_is(work: &[u32], start: usize, x: u32) -> bool {
-    let end = work.len();
+fn rest_is(work: &[u32], start: usize, stop: usize, x: u32) -> bool {
+    let end = stop;
     let mut ok = true;
     for i in start..end {
         ok = still_word(work, i, x, ok);
     }
     ok
+}
+
+// The words between those of the search and the index, and those behind the index.
+fn others_are(work: &[u32], n: usize, x: u32) -> bool {
+    let index = at(at(0, 4, n), 4, set_words(n));
+    both(
+        rest_is(work, at(0, REGIONS, n), index, x),
+        rest_is(work, at(0, LENT, n), work.len(), x),
+    )
 }
 
 // ---- all of it
@@ -162,5 +177,5 @@ pub fn check_search(
     fill(work, 7);
     let e = search_from(edges, closed, n, s, work);
     check_found(tally, work, least, n, e);
-    note(tally, WORDS, rest_is(work, at(0, REGIONS, n), 7));
+    note(tally, WORDS, others_are(work, n, 7));
 }

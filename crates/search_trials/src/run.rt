@@ -17,7 +17,7 @@ const EDGES: usize = 131072;
 
 const CLOSED: usize = 32768;
 
-const WORDS: usize = 12291;
+const WORDS: usize = 32771;
 
 // Beyond this a network has one search, since a search takes long.
 const TWICE: usize = 1025;

@@ -1,19 +1,38 @@
 -- The lowest of the next nodes, one arc at a time. Assumes nothing.
-use Prim.Native.Nat.{ℕ, min}
-use mathlib.Core.Path.{_≡_, refl, sym, ap, _∙_}
+use Prim.Native.Nat.{ℕ, _≤_, min}
+use native.Mathlib.Omega.{arith}
+use mathlib.Core.Path.{_≡_, refl, sym, ap, _∙_, subst}
+use mathlib.Core.Logic.{⊎-elim}
 use mathlib.Core.Bool.{Bool, true, false, cond, _&&_}
-use mathlib.Core.List.{List, [], _∷_, _++_, map, List·Memᴰ}
+use mathlib.Core.List.{List, [], _∷_, _++_, map, append-nil, append-assoc, List·Memᴰ, List·Memᴰ·head, List·Memᴰ·tail, List·Memᴰ·cases-cons}
 use borrow.Author.Tests.{eq-eqb, ne-eqb}
 use lib.Dec.{eqb}
 use Rattle.model.specs.Lists.{filter, concatMap, leastOf}
+use Rattle.model.specs.Bytes.{Bytes}
 use Rattle.model.specs.Walk.{Arc}
 use Rattle.model.specs.Distance.{Distance, finite, plus, agree}
-use Rattle.model.specs.Network.{Edge, arcsOf}
+use Rattle.model.specs.Network.{Edge, edge, edgeCount, arcsOf}
 use Rattle.model.specs.Query.{nexts}
 use Rattle.theory.specs.Tests.{both}
-use Rattle.theory.specs.Members.{map→, filter→}
-use Rattle.arcs.specs.Arcs.{overEdges}
+use Rattle.theory.specs.Members.{map→, →map, filter→, →filter, concatMap→, →concatMap}
+use Rattle.theory.specs.Extremes.{leastOf-mem, leastOf-le}
+use Rattle.arcs.specs.Arcs.{arcsIn, leaves, leaving}
 use Rattle.arcs.proofs.Leaving.{there, back}
+use Rattle.index.specs.declared.cursor.Cursor.{Cursor}
+use Rattle.index.specs.Cursor.{Passing, Stepped}
+use Rattle.index.proofs.Same.{arcsOver, AllOf, passing-all, open-arc, →arcs-same}
+
+concatMap-last : {A B : Type 0} (f : A → List B) (xs : List A) (x : A) → concatMap f (xs ++ x ∷ []) ≡ concatMap f xs ++ f x
+unfolding concatMap
+concatMap-last f [] x = append-nil (f x)
+concatMap-last f (y ∷ xs) x = rw (concatMap-last f xs x) (sym (append-assoc (f y) (concatMap f xs) (f x)))
+
+-- The least over two lists with the same members.
+least-same : (s : ℕ) (xs ys : List ℕ) → ((x : ℕ) → List·Memᴰ x xs → List·Memᴰ x ys) → ((x : ℕ) → List·Memᴰ x ys → List·Memᴰ x xs) → leastOf s xs ≡ leastOf s ys
+least-same s xs ys f g = let p = below xs ys f in let q = below ys xs g in omega arith
+  where
+    below : (xs ys : List ℕ) → ((x : ℕ) → List·Memᴰ x xs → List·Memᴰ x ys) → leastOf s ys ≤ leastOf s xs
+    below xs ys f = leastOf-le s ys (⊎-elim (λ e. List·Memᴰ·head e) (λ m. List·Memᴰ·tail (f (leastOf s xs) m)) (List·Memᴰ·cases-cons (leastOf-mem s xs)))
 
 module _ (d : ℕ → Distance) (u : ℕ) where
   abbrev test : Arc → Bool
@@ -59,12 +78,47 @@ module _ (d : ℕ → Distance) (u : ℕ) where
   unfolding arcsOf
   edge-done e s r₁ r₂ p q = q ∙ ap (λ (r : ℕ). leastOf r (nexts d (back e ∷ []) u)) p ∙ sym (lowest-append (there e ∷ []) (back e ∷ []) s)
 
-  -- ---- all open edges
-  -- What edge e makes of the lowest so far.
-  abbrev pub lowering : Edge → ℕ → ℕ
-  lowering e s = leastOf s (nexts d (arcsOf e) u)
+  -- ---- the open edges at u, as a cursor passes them: r is the lowest over those passed
+  pub record Lowered (edges closed : Bytes) (n : ℕ) (w : List ℕ) (best : ℕ) (c : Cursor) (r : ℕ) : Type 0 where
+    pub done : List ℕ
+    pub passing : Passing edges closed n w u done c
+    pub low : r ≡ leastOf best (nexts d (concatMap (λ j. arcsOf (edge edges j)) done) u)
 
-  pub lowest-over : (es : List Edge) (s : ℕ) → overEdges lowering es s ≡ leastOf s (nexts d (concatMap arcsOf es) u)
-  unfolding overEdges concatMap
-  lowest-over [] s = unfold nexts filter leastOf in refl
-  lowest-over (e ∷ es) s = lowest-over es (lowering e s) ∙ sym (lowest-append (arcsOf e) (concatMap arcsOf es) s)
+  module _ (edges closed : Bytes) (n : ℕ) (w : List ℕ) (best : ℕ) (c : Cursor) where
+    pub lowered-first : Passing edges closed n w u [] c → Lowered edges closed n w best c best
+    lowered-first p = record { done = []; passing = p; low = unfold concatMap nexts filter leastOf in refl }
+
+    module _ (r : ℕ) (l : Lowered edges closed n w best c r) where
+      pub lowered-next : (r′ : ℕ) (c′ : Cursor) → r′ ≡ leastOf r (nexts d (arcsOf (edge edges (c .edge))) u) → Stepped edges closed n w u c c′ → Lowered edges closed n w best c′ r′
+      lowered-next r′ c′ e s = record {
+        done = l .done ++ c .edge ∷ [];
+        passing = s .passing (l .done) (l .passing);
+        low =
+            e ∙ ap (λ (z : ℕ). leastOf z (nexts d (arcsOf (edge edges (c .edge))) u)) (l .low)
+            ∙ sym (lowest-append (concatMap (λ j. arcsOf (edge edges j)) (l .done)) (arcsOf (edge edges (c .edge))) best)
+            ∙ ap (λ (z : List Arc). leastOf best (nexts d z u)) (sym (concatMap-last (λ j. arcsOf (edge edges j)) (l .done) (c .edge)));
+      }
+
+      pub lowered-last : edgeCount edges ≤ c .edge → r ≡ leastOf best (nexts d (arcsIn edges closed) u)
+      unfolding nexts leaving leaves arcsOver
+      lowered-last h = l .low ∙ least-same best (nexts d (concatMap (λ j. arcsOf (edge edges j)) (l .done)) u) (nexts d (arcsIn edges closed) u) forth back′
+        where
+          all : AllOf edges closed u (l .done)
+          all = passing-all edges closed u (l .done) n w c h (l .passing)
+
+          forth : (x : ℕ) → List·Memᴰ x (nexts d (concatMap (λ j. arcsOf (edge edges j)) (l .done)) u) → List·Memᴰ x (nexts d (arcsIn edges closed) u)
+          forth x m =
+              let (a, k, e) = map→ (λ z. z .to) (filter test (concatMap (λ j. arcsOf (edge edges j)) (l .done))) m in
+              let f = filter→ test (concatMap (λ j. arcsOf (edge edges j)) (l .done)) k in
+              let (j, i, b) = concatMap→ (λ z. arcsOf (edge edges z)) (l .done) (f .0) in
+              let q = →filter test (arcsIn edges closed) (open-arc edges closed u (l .done) j a (all .real j i) b) (f .1) in
+              subst (λ (z : ℕ). List·Memᴰ z (nexts d (arcsIn edges closed) u)) (sym e) (→map (λ z. z .to) (filter test (arcsIn edges closed)) q)
+
+          back′ : (x : ℕ) → List·Memᴰ x (nexts d (arcsIn edges closed) u) → List·Memᴰ x (nexts d (concatMap (λ j. arcsOf (edge edges j)) (l .done)) u)
+          back′ x m =
+              let (a, k, e) = map→ (λ z. z .to) (filter test (arcsIn edges closed)) m in
+              let f = filter→ test (arcsIn edges closed) k in
+              let o = →arcs-same edges closed u (l .done) all a (→filter (leaves u) (arcsIn edges closed) (f .0) (both {b = eqb (a .from) u} (f .1) .0)) in
+              let (j, i, b) = concatMap→ (λ z. leaving u (arcsOf (edge edges z))) (l .done) o in
+              let q = →filter test (concatMap (λ z. arcsOf (edge edges z)) (l .done)) (→concatMap (λ z. arcsOf (edge edges z)) (l .done) i (filter→ (leaves u) (arcsOf (edge edges j)) b .0)) (f .1) in
+              subst (λ (z : ℕ). List·Memᴰ z (nexts d (concatMap (λ j. arcsOf (edge edges j)) (l .done)) u)) (sym e) (→map (λ z. z .to) (filter test (concatMap (λ z. arcsOf (edge edges z)) (l .done))) q)

@@ -6,16 +6,18 @@ ghost use Prim.Native.Nat.{_+_, _*_, _<_, _≤_, min};
 ghost use lib.ListN.{length};
 ghost use Rattle.model.specs.Lists.{leastOf};
 ghost use Rattle.model.specs.Distance.{finite, plus, agree};
-ghost use Rattle.model.specs.Network.{edge, edgeSize, edgeCount, arcsOf, someEdgeBroken, numbersBroken};
+ghost use Rattle.model.specs.Network.{maxNodes, edge, edgeSize, edgeCount, arcsOf, someEdgeBroken};
 ghost use Rattle.model.specs.Query.{nexts};
 ghost use Rattle.arcs.specs.Arcs.{arcsIn};
-ghost use Rattle.way.specs.Distances.{distanceIn};
-use arcs::closed::closed_at;
+ghost use Rattle.index.specs.Index.{Roads};
+ghost use Rattle.way.specs.Distances.{timesIn, distanceIn};
 use codec::records::EDGE_SIZE;
 use codec::records::NO_WALK;
 use codec::records::edge_first;
 use codec::records::edge_second;
 use codec::records::edge_seconds;
+use index::cursor::first_edge;
+use index::cursor::next_edge;
 
 // The lower of `best` and v where v is next by an arc of `cost` seconds, and else `best`. 'No walk' is no time to add, and the sum is wide, so that it
 // need not be kept small.
@@ -54,24 +56,34 @@ fn lower_by_edge(edges: &[u8], i: usize, times: &[u32], u: usize, left: u32, bes
     r
 }
 
-// The lowest of the next nodes of u, or the number of nodes where there is none. The closed edges rise, so they are passed beside the edges: j is the
-// position of the first not below i.
-pub fn next_node(edges: &[u8], closed: &[u8], times: &[u32], u: usize, left: u32) -> usize
-    requires { ⌜ distanceIn (now times) u ≡ finite left ⌝ }
-    requires { ⌜ (someEdgeBroken (length (now times)) (now edges) ≡ false) × (numbersBroken (edgeCount (now edges)) (now closed) ≡ false) ⌝ }
-    ensures { λ r. ⌜ r ≡ leastOf (length (now (times .entry))) (nexts (distanceIn (now (times .entry))) (arcsIn (now (edges .entry)) (now (closed .entry))) u) ⌝ }
+// The same by the working words, which hold the times first.
+fn lower_by(
+    edges: &[u8],
+    i: usize,
+    n: usize,
+    work: &[u32],
+    u: usize,
+    left: u32,
+    best: usize,
+) -> usize
+    requires { ⌜ (n ≤ length (now work)) × (someEdgeBroken n (now edges) ≡ false) × (i < edgeCount (now edges)) × (distanceIn (timesIn n (now work)) u ≡ finite left) ⌝ }
+    ensures { λ r. ⌜ r ≡ leastOf best (nexts (distanceIn (timesIn n (now (work .entry)))) (arcsOf (edge (now (edges .entry)) i)) u) ⌝ }
+{
+    lower_by_edge(edges, i, &work[..n], u, left, best)
+}
+
+// The lowest of the next nodes of u, or the number of nodes where there is none.
+pub fn next_node(edges: &[u8], closed: &[u8], n: usize, work: &[u32], u: usize, left: u32) -> usize
+    requires { ⌜ (distanceIn (timesIn n (now work)) u ≡ finite left) × (n ≤ maxNodes) × (8 * n ≤ length (now work)) ⌝ }
+    requires { ⌜ Roads (now edges) (now closed) n (now work) ⌝ }
+    ensures { λ r. ⌜ r ≡ leastOf n (nexts (distanceIn (timesIn n (now (work .entry)))) (arcsIn (now (edges .entry)) (now (closed .entry))) u) ⌝ }
 {
     let m = edges.len() / EDGE_SIZE;
-    let mut r = times.len();
-    let mut i = 0;
-    let mut j = 0;
-    while i < m {
-        if closed_at(closed, j, i) {
-            j += 1;
-        } else {
-            r = lower_by_edge(edges, i, times, u, left, r);
-        }
-        i += 1;
+    let mut r = n;
+    let mut c = first_edge(edges, closed, n, work, u);
+    while c.edge < m {
+        r = lower_by(edges, c.edge, n, work, u, left, r);
+        c = next_edge(edges, closed, n, work, u, c);
     }
     r
 }

@@ -2,25 +2,34 @@
 use Prim.Native.Nat.{_-_}
 use native.Mathlib.Omega.{arith}
 use borrow.Author.Needs.{needs}
-use Rattle.access.proofs.Gathers.{Gathering, first, next, last}
+use Rattle.layout.proofs.Indexed.{roads-only}
+use Rattle.access.proofs.Gathers.{Gathering, first, next, last, roads-gathering, wanted-left}
 use Rattle.arcs.specs.Arcs.{arcsIn}
 use Rattle.access.proofs.gather.gather.Statement.{statement}
 use Rattle.access.proofs.gather.gather.Tie as tie
 
 abbrev Inv-loop : tie.InvT-loop
-Inv-loop edges closed n work₀ p₀ work p = Gathering (arcsIn edges closed) n work₀ p work
+Inv-loop edges closed n work₀ left p₀ work p = Gathering (arcsIn edges closed) n work₀ p work
 
 abbrev μ-loop : tie.MeasureT-loop
-μ-loop edges closed n work₀ p₀ work p = n - p
+μ-loop edges closed n work₀ left p₀ work p = n - p
 
 clear-requires : tie.Need-clear-requires Inv-loop μ-loop
 clear-requires c κs = search needs
 
+count-requires : tie.Need-count-requires Inv-loop μ-loop
+count-requires c κs = search needs
+
 loop-holds : tie.Need-loop-holds Inv-loop μ-loop
-loop-holds c = first _ _ _ (c .before .before .clear .ensures .0)
+loop-holds c = first _ _ _ (c .before .before .before .before .clear .ensures .0)
 
 gather-from-requires : tie.Need-gather-from-requires Inv-loop μ-loop
-gather-from-requires c κs = ((search needs, search needs, omega (arith, c .before .before .loop .inv .size, c .before .before .before .before .before .clear .kept .0)), search needs)
+gather-from-requires c κs =
+    let a = c .before .before .before .before .before .before .before .before .before .before .before .before .args in
+    let l = c .before .before .loop in (
+      (search needs, search needs, omega (arith, l .inv .size, c .before .before .before .before .before .before .before .clear .kept .0), wanted-left _ _ _ (l .p) (l .work) (l .inv) _ (c .before .before .before .count .ensures)),
+      roads-gathering _ _ _ (l .p) (l .work) (l .inv) (a .edges .now) (a .closed .now) (roads-only (a .edges .now) (a .closed .now) (a .n) (a .work .now) _ _ _ (omega arith) (c .before .before .before .before .before .before .before .clear .ensures .1) (c .before .before .before .before .before .before .before .before .before .before .before .before .pre .1)),
+    )
 
 add-p : tie.Need-add-p Inv-loop μ-loop
 add-p c = search needs
@@ -38,9 +47,9 @@ same-length c = search needs
 
 returns : tie.Need-returns Inv-loop μ-loop
 returns c =
-    let a = c .before .before .before .before .before .before .before .before .before .args in
+    let a = c .before .before .before .before .before .before .before .before .before .before .before .args in
     let l = c .before .loop in
-    last _ _ _ (l .p) (l .work) (l .inv) (search needs) (a .work .now) (c .before .before .before .before .clear .ensures .1)
+    last _ _ _ (l .p) (l .work) (l .inv) (search needs) (a .work .now) (c .before .before .before .before .before .before .clear .ensures .1)
 
 pub gather-spec : {M : Type 1} → statement M
 gather-spec =
@@ -49,6 +58,7 @@ gather-spec =
     Inv-loop
     μ-loop
     clear-requires
+    count-requires
     loop-holds
     gather-from-requires
     add-p

@@ -1,13 +1,16 @@
 -- `sets::count` meets its contract.
-use mathlib.Core.Path.{_∙_, ap}
 use borrow.Author.Needs.{needs}
-use Rattle.access.proofs.Windows.{flags-part}
+use mathlib.Core.Path.{_∙_, ap}
+use Rattle.layout.proofs.Windows.{flags-part}
 use Rattle.crossing.specs.Sets.{ones}
 use Rattle.access.proofs.sets.count.Statement.{statement}
 use Rattle.access.proofs.sets.count.Tie as tie
 
-mul-a : tie.Need-mul-a
-mul-a c = search needs
+region-at-requires : tie.Need-region-at-requires
+region-at-requires c κs = search needs
+
+set-words-requires : tie.Need-set-words-requires
+set-words-requires c κs = search needs
 
 add-e : tie.Need-add-e
 add-e c = search needs
@@ -29,14 +32,15 @@ count-requires c κs = search needs
 
 returns : tie.Need-returns
 returns c =
-    let a = c .before .before .before .args in
-    c .count .ensures ∙ ap ones (flags-part (a .n) (a .k) (a .work .now))
+    let a = c .before .before .before .before .before .args in
+    c .count .ensures ∙ ap ones (flags-part (a .n) (a .k) _ _ (a .work .now) (c .before .before .before .region-at .ensures) (c .before .before .set-words .ensures))
 
 pub count-spec : {M : Type 1} → statement M
 count-spec =
     tie.close
     (tie.spec
-    mul-a
+    region-at-requires
+    set-words-requires
     add-e
     mul-count
     sub-count

@@ -1,46 +1,55 @@
--- `sets::meet` meets its contract: of the members of both those below v are in, and the regions a and b stay.
-use Prim.Native.Nat.{_-_, _*_}
+-- `sets::meet` meets its contract: the first i words of `into` are made, and the regions a and b stay.
+use Prim.Native.Nat.{_-_}
 use native.Mathlib.Omega.{arith}
-use mathlib.Core.Path.{_∙_}
-use mathlib.Core.Bool.{_&&_}
+use Rattle.access.proofs.Filled.{Filling, first, met, meet-next, meet-last}
 use borrow.Author.Needs.{needs}
-use lib.ListN.{drop}
-use Rattle.access.proofs.Filled.{Filling, first, next, met, in-both-kept}
-use Rattle.access.proofs.Windows.{only-then}
-use Rattle.bitset.specs.Bits.{isIn}
 use Rattle.access.proofs.sets.meet.Statement.{statement}
 use Rattle.access.proofs.sets.meet.Tie as tie
 
 abbrev Inv-loop : tie.InvT-loop
-Inv-loop work₀ n a b into v₀ work v = Filling (λ u. isIn (drop (a * n) work₀) u && isIn (drop (b * n) work₀) u) n into work₀ v work
+Inv-loop work₀ n a b into x y z m i₀ work i = Filling (met n a b into work₀) n into work₀ i work
 
 abbrev μ-loop : tie.MeasureT-loop
-μ-loop work₀ n a b into v₀ work v = n - v
+μ-loop work₀ n a b into x y z m i₀ work i = m - i
 
-clear-requires : tie.Need-clear-requires Inv-loop μ-loop
-clear-requires c κs = search needs
+region-at-requires : tie.Need-region-at-requires Inv-loop μ-loop
+region-at-requires c κs = search needs
+
+region-at-requires-2 : tie.Need-region-at-requires-2 Inv-loop μ-loop
+region-at-requires-2 c κs = search needs
+
+region-at-requires-3 : tie.Need-region-at-requires-3 Inv-loop μ-loop
+region-at-requires-3 c κs = search needs
+
+set-words-requires : tie.Need-set-words-requires Inv-loop μ-loop
+set-words-requires c κs = search needs
 
 loop-holds : tie.Need-loop-holds Inv-loop μ-loop
 loop-holds c = first _ _ _ _
 
-in-both-requires : tie.Need-in-both-requires Inv-loop μ-loop
-in-both-requires c κs = omega (arith, c .before .before .loop .inv .size, c .before .before .before .before .before .clear .kept .0)
+add-meet-word : tie.Need-add-meet-word Inv-loop μ-loop
+add-meet-word c = omega (arith, c .before .before .before .before .before .before .region-at .ensures, c .before .before .before .set-words .ensures)
 
-put-if-requires : tie.Need-put-if-requires Inv-loop μ-loop
-put-if-requires c κs = omega (arith, c .before .before .before .before .loop .inv .size, c .before .before .before .before .before .before .before .clear .kept .0)
+add-meet-word-2 : tie.Need-add-meet-word-2 Inv-loop μ-loop
+add-meet-word-2 c = omega (arith, c .before .before .before .before .before .region-at2 .ensures, c .before .before .before .set-words .ensures)
 
-add-v : tie.Need-add-v Inv-loop μ-loop
-add-v c = search needs
+add-meet-word-3 : tie.Need-add-meet-word-3 Inv-loop μ-loop
+add-meet-word-3 c = omega (arith, c .before .before .before .before .region-at3 .ensures, c .before .before .before .set-words .ensures)
+
+meet-word-requires : tie.Need-meet-word-requires Inv-loop μ-loop
+meet-word-requires c κs = omega (arith, c .before .before .before .before .before .before .region-at .ensures, c .before .before .before .before .before .region-at2 .ensures, c .before .before .before .before .region-at3 .ensures, c .before .before .before .set-words .ensures, c .before .before .loop .inv .size)
+
+add-i : tie.Need-add-i Inv-loop μ-loop
+add-i c = omega (arith, c .before .before .before .before .before .before .set-words .ensures)
 
 loop-less : tie.Need-loop-less Inv-loop μ-loop
 loop-less c = search needs
 
 loop-again : tie.Need-loop-again Inv-loop μ-loop
 loop-again c =
-    let a = c .before .before .before .before .before .before .before .before .before .before .before .before .before .args in
-    let l = c .before .before .before .before .before .before .before .loop in
-    let same = in-both-kept (a .n) (a .a) (a .b) (a .into) (c .before .before .before .before .before .before .before .before .before .before .clear .last .0) (l .work) (c .before .before .before .before .before .before .before .before .before .before .before .before .before .pre .1 .0) (c .before .before .before .before .before .before .before .before .before .before .before .before .before .pre .1 .1) (l .inv .others) (l .v) (c .before .before .before .before .before .before .loop-test .taken) in
-    next _ _ _ _ (l .v) (l .work) (l .inv) (c .before .before .before .before .before .before .loop-test .taken) _ (search needs) (c .before .before .put-if .ensures .1) (rw (c .before .before .before .before .in-both .ensures ∙ same) at (c .before .before .put-if .ensures .0))
+    let a = c .before .before .before .before .before .before .before .before .before .before .before .args in
+    let l = c .before .before .before .before .before .loop in
+    rw (c .before .before .meet-word .ensures) (meet-next (a .n) (a .a) (a .b) (a .into) (a .work .now) (l .i) (l .work) (l .inv) (c .before .before .before .before .before .before .before .before .before .before .before .pre .1 .0) (c .before .before .before .before .before .before .before .before .before .before .before .pre .1 .1) _ _ _ (c .before .before .before .before .before .before .before .before .before .region-at .ensures) (c .before .before .before .before .before .before .before .before .region-at2 .ensures) (c .before .before .before .before .before .before .before .region-at3 .ensures) (omega (arith, c .before .before .before .before .before .before .set-words .ensures, c .before .before .before .before .loop-test .taken)) (c .before .before .before .before .before .before .before .before .before .before .before .pre .0 .2))
 
 same-length : tie.Need-same-length Inv-loop μ-loop
 same-length c = search needs
@@ -49,7 +58,7 @@ returns : tie.Need-returns Inv-loop μ-loop
 returns c =
     let a = c .before .before .before .before .before .before .before .args in
     let l = c .before .loop in
-    (met (a .n) (a .a) (a .b) (a .into) (a .work .now) (c .before .before .before .before .clear .last .0) (c .before .before .before .before .before .before .before .pre .1 .0) (c .before .before .before .before .before .before .before .pre .1 .1) (c .before .before .before .before .clear .ensures .0) (c .before .before .before .before .clear .ensures .1) (l .v) (l .work) (l .inv) (c .loop-test .left), only-then (a .n) (a .into) (a .work .now) (c .before .before .before .before .clear .last .0) (l .work) (c .before .before .before .before .clear .ensures .1) (l .inv .others))
+    (meet-last (a .n) (a .a) (a .b) (a .into) (a .work .now) (l .i) (l .work) (l .inv) (omega (arith, c .before .before .set-words .ensures, c .loop-test .left)), l .inv .others)
 
 pub meet-spec : {M : Type 1} → statement M
 meet-spec =
@@ -57,11 +66,16 @@ meet-spec =
     (tie.spec
     Inv-loop
     μ-loop
-    clear-requires
+    region-at-requires
+    region-at-requires-2
+    region-at-requires-3
+    set-words-requires
     loop-holds
-    in-both-requires
-    put-if-requires
-    add-v
+    add-meet-word
+    add-meet-word-2
+    add-meet-word-3
+    meet-word-requires
+    add-i
     loop-less
     loop-again
     same-length

@@ -1,52 +1,58 @@
--- `sets::unite` meets its contract: the members below v are in, and the region `from` stays.
-use Prim.Native.Nat.{_-_, _*_}
+-- `sets::unite` meets its contract: the first i words of `into` are united, and the region `from` stays.
+use Prim.Native.Nat.{_-_}
 use native.Mathlib.Omega.{arith}
-use mathlib.Core.Path.{_∙_}
+use Rattle.access.proofs.Filled.{Filling, first, united, unite-next, unite-last}
 use borrow.Author.Needs.{needs}
-use lib.ListN.{drop}
-use Rattle.access.proofs.Filled.{Filling, first, next, last}
-use Rattle.access.proofs.Windows.{in-kept}
-use Rattle.crossing.specs.SetLaws.{flags-test}
-use Rattle.bitset.specs.Bits.{isIn}
 use Rattle.access.proofs.sets.unite.Statement.{statement}
 use Rattle.access.proofs.sets.unite.Tie as tie
 
 abbrev Inv-loop : tie.InvT-loop
-Inv-loop work₀ n from into v₀ work v = Filling (isIn (drop (from * n) work₀)) n into work₀ v work
+Inv-loop work₀ n from into x y m i₀ work i = Filling (united n from into work₀) n into work₀ i work
 
 abbrev μ-loop : tie.MeasureT-loop
-μ-loop work₀ n from into v₀ work v = n - v
+μ-loop work₀ n from into x y m i₀ work i = m - i
+
+region-at-requires : tie.Need-region-at-requires Inv-loop μ-loop
+region-at-requires c κs = search needs
+
+region-at-requires-2 : tie.Need-region-at-requires-2 Inv-loop μ-loop
+region-at-requires-2 c κs = search needs
+
+set-words-requires : tie.Need-set-words-requires Inv-loop μ-loop
+set-words-requires c κs = search needs
 
 loop-holds : tie.Need-loop-holds Inv-loop μ-loop
 loop-holds c = first _ _ _ _
 
-has-requires : tie.Need-has-requires Inv-loop μ-loop
-has-requires c κs = omega (arith, c .before .before .loop .inv .size)
+add-unite-word : tie.Need-add-unite-word Inv-loop μ-loop
+add-unite-word c = omega (arith, c .before .before .before .before .before .region-at .ensures, c .before .before .before .set-words .ensures)
 
-put-if-requires : tie.Need-put-if-requires Inv-loop μ-loop
-put-if-requires c κs = omega (arith, c .before .before .before .before .loop .inv .size)
+add-unite-word-2 : tie.Need-add-unite-word-2 Inv-loop μ-loop
+add-unite-word-2 c = omega (arith, c .before .before .before .before .region-at2 .ensures, c .before .before .before .set-words .ensures)
 
-add-v : tie.Need-add-v Inv-loop μ-loop
-add-v c = search needs
+unite-word-requires : tie.Need-unite-word-requires Inv-loop μ-loop
+unite-word-requires c κs = omega (arith, c .before .before .before .before .before .region-at .ensures, c .before .before .before .before .region-at2 .ensures, c .before .before .before .set-words .ensures, c .before .before .loop .inv .size)
+
+add-i : tie.Need-add-i Inv-loop μ-loop
+add-i c = omega (arith, c .before .before .before .before .before .before .set-words .ensures)
 
 loop-less : tie.Need-loop-less Inv-loop μ-loop
 loop-less c = search needs
 
 loop-again : tie.Need-loop-again Inv-loop μ-loop
 loop-again c =
-    let a = c .before .before .before .before .before .before .before .before .before .args in
-    let l = c .before .before .before .before .before .before .before .loop in
-    let same = in-kept (a .n) (a .from) (a .into) (a .work .now) (l .work) (c .before .before .before .before .before .before .before .before .before .pre .2) (l .inv .others) (l .v) (c .before .before .before .before .before .before .loop-test .taken) in
-    next _ _ _ _ (l .v) (l .work) (l .inv) (c .before .before .before .before .before .before .loop-test .taken) _ (search needs) (c .before .before .put-if .ensures .1) (rw (c .before .before .before .before .has .ensures ∙ same) at (c .before .before .put-if .ensures .0))
+    let a = c .before .before .before .before .before .before .before .before .before .before .args in
+    let l = c .before .before .before .before .before .loop in
+    rw (c .before .before .unite-word .ensures) (unite-next (a .n) (a .from) (a .into) (a .work .now) (c .before .before .before .before .before .before .before .before .before .before .pre .2) (l .i) (l .work) (l .inv) _ _ (c .before .before .before .before .before .before .before .before .region-at .ensures) (c .before .before .before .before .before .before .before .region-at2 .ensures) (omega (arith, c .before .before .before .before .before .before .set-words .ensures, c .before .before .before .before .loop-test .taken)) (c .before .before .before .before .before .before .before .before .before .before .pre .1))
 
 same-length : tie.Need-same-length Inv-loop μ-loop
 same-length c = search needs
 
 returns : tie.Need-returns Inv-loop μ-loop
 returns c =
-    let a = c .before .before .before .args in
+    let a = c .before .before .before .before .before .before .args in
     let l = c .before .loop in
-    (last _ _ _ _ (l .v) (l .work) (l .inv) (c .loop-test .left) ∙ rw (flags-test (a .n) (drop (a .from * a .n) (a .work .now))), l .inv .others)
+    (unite-last (a .n) (a .from) (a .into) (a .work .now) (c .before .before .before .before .before .before .pre .2) (l .i) (l .work) (l .inv) (omega (arith, c .before .before .set-words .ensures, c .loop-test .left)), l .inv .others)
 
 pub unite-spec : {M : Type 1} → statement M
 unite-spec =
@@ -54,10 +60,14 @@ unite-spec =
     (tie.spec
     Inv-loop
     μ-loop
+    region-at-requires
+    region-at-requires-2
+    set-words-requires
     loop-holds
-    has-requires
-    put-if-requires
-    add-v
+    add-unite-word
+    add-unite-word-2
+    unite-word-requires
+    add-i
     loop-less
     loop-again
     same-length

@@ -2,7 +2,7 @@
 use mathlib.Core.Path.{sym, _∙_}
 use borrow.Author.Needs.{needs}
 use Rattle.access.proofs.Fronts.{turn-due}
-use Rattle.access.proofs.Windows.{only-same}
+use Rattle.layout.proofs.Windows.{only-same}
 use Rattle.marks.proofs.Views.{turn-not}
 use Rattle.access.proofs.toward.mark.Statement.{statement}
 use Rattle.access.proofs.toward.mark.Tie as tie

@@ -3,6 +3,8 @@ use Prim.Native.Nat.{_-_}
 use native.Mathlib.Omega.{arith}
 use borrow.Author.Needs.{needs}
 use Rattle.access.proofs.Fronts.{Marking, first, node-in, next, last}
+use Rattle.layout.proofs.Windows.{only-then}
+use Rattle.layout.proofs.Indexed.{roads-only}
 use Rattle.arcs.proofs.Bodies.{arcs-positive}
 use Rattle.arcs.specs.Arcs.{arcsIn}
 use Rattle.access.proofs.toward.mark_back.Statement.{statement}
@@ -20,12 +22,16 @@ clear-requires c κs = search needs
 loop-holds : tie.Need-loop-holds Inv-loop μ-loop
 loop-holds c =
     let a = c .before .before .before .before .before .before .before .args in
-    first _ (a .n) (a .e) _ (search needs) (a .work .now) (search needs) (c .before .before .clear .ensures .1) (c .before .before .clear .ensures .0) (c .before .before .before .before .before .before .before .pre .0 .2)
+    first _ (a .n) (a .e) _ (search needs) (a .work .now) (search needs) (c .before .before .clear .ensures .1) (c .before .before .clear .ensures .0) (c .before .before .before .before .before .before .before .pre .0 .3)
 
 mark-at-requires : tie.Need-mark-at-requires Inv-loop μ-loop
 mark-at-requires c κs =
     let l = c .before .before .loop in
-    ((search needs, omega (arith, l .inv .size, c .before .before .before .before .before .clear .kept .0), node-in _ _ _ _ (omega (arith, c .before .before .before .before .before .clear .kept .0)) (l .i) (l .work) (l .inv) (search needs)), search needs)
+    let a = c .before .before .before .before .before .before .before .before .before .before .args in
+    let k = c .before .before .before .before .before .clear .kept .0 in (
+      (search needs, search needs, omega (arith, l .inv .size, k), node-in _ _ _ _ (omega (arith, k)) (l .i) (l .work) (l .inv) (search needs)),
+      roads-only (a .edges .now) (a .closed .now) (a .n) (a .work .now) (l .work) _ _ (omega arith) (only-then _ _ (a .work .now) _ (l .work) (c .before .before .before .before .before .clear .ensures .1) (l .inv .others)) (c .before .before .before .before .before .before .before .before .before .before .pre .1),
+    )
 
 add-i : tie.Need-add-i Inv-loop μ-loop
 add-i c = search needs
@@ -37,7 +43,7 @@ loop-again : tie.Need-loop-again Inv-loop μ-loop
 loop-again c =
     let a = c .before .before .before .before .before .before .before .before .before .before .before .before .before .args in
     let l = c .before .before .before .before .before .loop in
-    next _ _ _ _ (omega (arith, c .before .before .before .before .before .before .before .before .clear .kept .0)) (l .i) (l .work) (l .inv) (search needs) (arcs-positive (a .n) (a .edges .now) (c .before .before .before .before .before .before .before .before .before .before .before .before .before .pre .1 .0) (a .closed .now)) _ (search needs) (c .before .before .mark-at .ensures .1) (c .before .before .mark-at .ensures .0)
+    next _ _ _ _ (omega (arith, c .before .before .before .before .before .before .before .before .clear .kept .0)) (l .i) (l .work) (l .inv) (search needs) (arcs-positive (a .n) (a .edges .now) (c .before .before .before .before .before .before .before .before .before .before .before .before .before .pre .1 .ends) (a .closed .now)) _ (search needs) (c .before .before .mark-at .ensures .1) (c .before .before .mark-at .ensures .0)
 
 same-length : tie.Need-same-length Inv-loop μ-loop
 same-length c = search needs

@@ -1,15 +1,26 @@
 -- `toward::toward` meets its contract: what the search has found, and the marks made after it.
+use Prim.Native.Nat.{_*_}
+use native.Mathlib.Omega.{arith}
 use borrow.Author.Needs.{needs}
-use Rattle.access.proofs.Fronts.{rest-kept}
-use Rattle.marks.proofs.Walks.{found-ordered, marked-walk}
+use Rattle.arcs.specs.Arcs.{arcsIn}
+use Rattle.layout.proofs.Indexed.{roads-from}
+use Rattle.access.proofs.Fronts.{rest-kept, toward-found}
+use Rattle.access.proofs.Wanted.{lacking-want}
+use Rattle.marks.proofs.Walks.{stopped-ordered}
 use Rattle.access.proofs.toward.toward.Statement.{statement}
 use Rattle.access.proofs.toward.toward.Tie as tie
 
-search-front-requires : tie.Need-search-front-requires
-search-front-requires c κs = search needs
+search-wanted-requires : tie.Need-search-wanted-requires
+search-wanted-requires c κs =
+    let a = c .before .before .before .before .args in
+    let p = c .before .before .before .before .pre in
+    ((search needs, search needs, search needs, omega (arith, lacking-want (a .n) (a .work .now), p .0 .3)), search needs)
 
 mark-back-requires : tie.Need-mark-back-requires
-mark-back-requires c κs = ((c .before .before .before .search-front .ensures .0 .1, search needs, found-ordered (c .before .before .before .search-front .ensures .0 .0)), search needs)
+mark-back-requires c κs =
+    let a = c .before .before .before .before .before .before .before .before .args in
+    let s = c .before .before .before .search-wanted .ensures in
+    ((search needs, s .0 .1, search needs, stopped-ordered _ _ _ _ _ _ (s .0 .0), search needs), roads-from (a .edges .now) (a .closed .now) (a .n) (a .work .now) _ (3 * a .n) (omega arith) (s .1) (c .before .before .before .before .before .before .before .before .pre .1))
 
 same-length : tie.Need-same-length
 same-length c = search needs
@@ -17,10 +28,9 @@ same-length c = search needs
 returns : tie.Need-returns
 returns c =
     let a = c .before .before .before .before .before .before .before .before .before .before .before .args in
-    let p = c .before .before .before .before .before .before .before .before .before .before .before .pre in (
-      λ v. rw (c .before .before .before .before .before .before .search-front .ensures .1) at (marked-walk (a .n) (a .p) (a .edges .now) (a .closed .now) (p .0 .0) (p .0 .1) (p .1 .0) _ _ (c .before .before .before .before .before .before .search-front .ensures .0 .0) _ _ v (c .before .before .mark-back .ensures .0 v)),
-      rest-kept (a .n) (a .work .now) _ _ (c .before .before .before .before .before .before .search-front .ensures .1) (c .before .before .mark-back .ensures .1),
-    )
+    let s = c .before .before .before .before .before .before .search-wanted .ensures in
+    let m = c .before .before .mark-back .ensures in
+    (toward-found (arcsIn (a .edges .now) (a .closed .now)) (a .n) (a .p) (c .before .before .before .before .before .before .search-wanted .result) (a .work .now) _ _ (s .0 .0) (s .1) (m .0), rest-kept (a .n) (a .work .now) _ _ (omega (arith, c .before .before .before .before .before .before .before .before .before .before .before .pre .0 .1)) (s .1) (m .1))
 
 pub toward-spec : {M : Type 1} → statement M
-toward-spec = tie.close (tie.spec search-front-requires mark-back-requires same-length returns)
+toward-spec = tie.close (tie.spec search-wanted-requires mark-back-requires same-length returns)

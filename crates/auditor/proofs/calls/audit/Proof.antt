@@ -6,7 +6,8 @@ use Rattle.model.specs.Rules.{wordsNeeded}
 use Rattle.theory.specs.Passed.{all-shaped}
 use Rattle.theory.specs.Sound.{node-bytes}
 use Rattle.query.proofs.Answers.{needed}
-use Rattle.auditor.proofs.Outcomes.{room-kept, audit-refused, audit-same, audit-differs, behind-needed}
+use Rattle.query.proofs.Asking.{room-kept}
+use Rattle.auditor.proofs.Outcomes.{audit-refused, audit-same, audit-differs, behind-needed}
 use Rattle.auditor.proofs.calls.audit.Statement.{statement}
 use Rattle.auditor.proofs.calls.audit.Tie as tie
 
@@ -17,18 +18,18 @@ returns : tie.Need-returns
 returns c = let a = c .before .before .before .before .args in audit-refused (a .o .now) (a .work .now) _ (c .before .room-refusal .ensures) (c .if1 .taken)
 
 node-count-requires : tie.Need-node-count-requires
-node-count-requires c κs = room-kept _ _ (sym (c .before .room-refusal .ensures) ∙ c .if1 .left) .shape
+node-count-requires c κs = room-kept _ _ (sym (c .before .room-refusal .ensures) ∙ c .if1 .left) .0
 
 is-built-requires : tie.Need-is-built-requires
 unfolding wordsNeeded
-is-built-requires c κs = let k = room-kept _ _ (sym (c .before .before .before .room-refusal .ensures) ∙ c .before .before .if1 .left) in (k .shape, c .before .node-count .ensures, omega (arith, c .before .node-count .ensures, k .enough))
+is-built-requires c κs = let k = room-kept _ _ (sym (c .before .before .before .room-refusal .ensures) ∙ c .before .before .if1 .left) in (k .0, c .before .node-count .ensures, omega (arith, c .before .node-count .ensures, k .1))
 
 mul-zero-front : tie.Need-mul-zero-front
-mul-zero-front c = let k = room-kept _ _ (sym (c .before .before .before .before .before .before .before .room-refusal .ensures) ∙ c .before .before .before .before .before .before .if1 .left) in omega (arith, c .before .before .before .before .before .node-count .ensures, node-bytes _ (all-shaped _ (k .shape) .sound) .0)
+mul-zero-front c = let k = room-kept _ _ (sym (c .before .before .before .before .before .before .before .room-refusal .ensures) ∙ c .before .before .before .before .before .before .if1 .left) in omega (arith, c .before .before .before .before .before .node-count .ensures, node-bytes _ (all-shaped _ (k .0) .sound) .0)
 
 zero-front-requires : tie.Need-zero-front-requires
 unfolding wordsNeeded
-zero-front-requires c κs = let k = room-kept _ _ (sym (c .before .before .before .before .before .before .before .room-refusal .ensures) ∙ c .before .before .before .before .before .before .if1 .left) in omega (arith, c .before .before .before .before .before .node-count .ensures, k .enough)
+zero-front-requires c κs = let k = room-kept _ _ (sym (c .before .before .before .before .before .before .before .room-refusal .ensures) ∙ c .before .before .before .before .before .before .if1 .left) in omega (arith, c .before .before .before .before .before .node-count .ensures, k .1)
 
 same-length : tie.Need-same-length
 same-length c = search needs

@@ -1,19 +1,27 @@
 -- `lists::is_list` meets its contract: the parts are the regions.
-use mathlib.Core.Path.{sym, _∙_}
 use borrow.Author.Needs.{needs}
+use mathlib.Core.Path.{sym, _∙_}
 use lib.Seq.{length-take-le}
+use Rattle.layout.specs.Regions.{own, transit}
+use Rattle.layout.proofs.Windows.{set-is}
 use Rattle.auditor.proofs.Shown.{list-asked, list-shown}
 use Rattle.auditor.proofs.lists.is_list.Statement.{statement}
 use Rattle.auditor.proofs.lists.is_list.Tie as tie
 
-mul-a : tie.Need-mul-a
-mul-a c = search needs
+set-words-requires : tie.Need-set-words-requires
+set-words-requires c κs = search needs
 
-mul-t : tie.Need-mul-t
-mul-t c = search needs
+region-at-requires : tie.Need-region-at-requires
+region-at-requires c κs = search needs
 
-add-same-list : tie.Need-add-same-list
-add-same-list c = search needs
+add-e : tie.Need-add-e
+add-e c = search needs
+
+region-at-requires-2 : tie.Need-region-at-requires-2
+region-at-requires-2 c κs = search needs
+
+add-f : tie.Need-add-f
+add-f c = search needs
 
 mul-same-list : tie.Need-mul-same-list
 mul-same-list c = search needs
@@ -26,9 +34,6 @@ part-same-list-start c = search needs
 
 part-same-list-end : tie.Need-part-same-list-end
 part-same-list-end c = search needs
-
-add-same-list-2 : tie.Need-add-same-list-2
-add-same-list-2 c = search needs
 
 mul-same-list-2 : tie.Need-mul-same-list-2
 mul-same-list-2 c = search needs
@@ -43,26 +48,31 @@ part-same-list-end-2 : tie.Need-part-same-list-end-2
 part-same-list-end-2 c = search needs
 
 slice-aggregate-same-list : tie.Need-slice-aggregate-same-list
-slice-aggregate-same-list c = let a = c .before .before .before .before .before .args in sym (length-take-le (a .n) (a .work .now) (search needs))
+slice-aggregate-same-list c = let a = c .before .before .before .before .before .before .before .before .args in sym (length-take-le (a .n) (a .work .now) (search needs))
 
 same-list-requires : tie.Need-same-list-requires
-same-list-requires c κs = let a = c .before .before .before .before .before .args in list-asked (a .n) (a .work .now) (search needs) (search needs) (c .before .before .before .before .before .pre .2)
+same-list-requires c κs =
+    let a = c .before .before .before .before .before .before .before .before .args in
+    list-asked (a .n) (a .work .now) (search needs) (search needs) _ (set-is (a .n) transit _ _ (a .work .now) (c .before .before .before .region-at2 .ensures) (c .before .before .before .before .before .set-words .ensures)) _ (set-is (a .n) own _ _ (a .work .now) (c .before .before .before .before .region-at .ensures) (c .before .before .before .before .before .set-words .ensures)) (search needs) (c .before .before .before .before .before .before .before .before .pre .2)
 
 returns : tie.Need-returns
-returns c = let a = c .before .before .before .before .before .before .args in c .same-list .ensures ∙ list-shown (a .n) (a .work .now) (search needs) (a .b .now)
+returns c =
+    let a = c .before .before .before .before .before .before .before .before .before .args in
+    c .same-list .ensures ∙ list-shown (a .n) (a .work .now) (search needs) (search needs) _ (set-is (a .n) transit _ _ (a .work .now) (c .before .before .before .before .region-at2 .ensures) (c .before .before .before .before .before .before .set-words .ensures)) _ (set-is (a .n) own _ _ (a .work .now) (c .before .before .before .before .before .region-at .ensures) (c .before .before .before .before .before .before .set-words .ensures)) (a .b .now)
 
 pub is-list-spec : {M : Type 1} → statement M
 is-list-spec =
     tie.close
     (tie.spec
-    mul-a
-    mul-t
-    add-same-list
+    set-words-requires
+    region-at-requires
+    add-e
+    region-at-requires-2
+    add-f
     mul-same-list
     sub-same-list
     part-same-list-start
     part-same-list-end
-    add-same-list-2
     mul-same-list-2
     sub-same-list-2
     part-same-list-start-2

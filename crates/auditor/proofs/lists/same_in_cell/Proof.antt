@@ -6,27 +6,31 @@ use borrow.Author.Tests.{not-true, not-false}
 use borrow.Author.Needs.{needs}
 use Rattle.model.specs.Lists.{all, upTo}
 use Rattle.theory.specs.RangeLaws.{rest}
+use Rattle.passes.proofs.Seeking.{sought-later}
 use Rattle.auditor.specs.Same.{sameBeside}
 use Rattle.auditor.proofs.Tested.{left-all, left-fails, left-goes, left-none}
-use Rattle.auditor.proofs.Behind.{Kept, kept-same, kept-then, own-behind, transit-behind}
+use Rattle.auditor.proofs.Behind.{Kept, kept-same, kept-then, own-behind, transit-behind, roads-behind}
 use Rattle.auditor.proofs.lists.same_in_cell.Statement.{statement}
 use Rattle.auditor.proofs.lists.same_in_cell.Tie as tie
 
 abbrev Inv-loop : tie.InvT-loop
-Inv-loop nodes edges closed grid access n u work₀ v₀ work v = Kept n work₀ work × (all (sameBeside nodes edges closed grid access u) (upTo n) ≡ all (sameBeside nodes edges closed grid access u) (rest v n))
+Inv-loop nodes edges closed grid access n u left work₀ square v₀ work v = Kept n work₀ work × (all (sameBeside nodes edges closed grid access u) (upTo n) ≡ all (sameBeside nodes edges closed grid access u) (rest v n))
 
 abbrev μ-loop : tie.MeasureT-loop
-μ-loop nodes edges closed grid access n u work₀ v₀ work v = n - v
+μ-loop nodes edges closed grid access n u left work₀ square v₀ work v = n - v
+
+cell-square-requires : tie.Need-cell-square-requires Inv-loop μ-loop
+cell-square-requires c κs = let p = c .before .before .before .before .before .pre .0 in (p .0 .over, rw (← p .1) (p .3))
 
 loop-holds : tie.Need-loop-holds Inv-loop μ-loop
 loop-holds c = (kept-same _ _, left-all _ _)
 
 same-beside-requires : tie.Need-same-beside-requires Inv-loop μ-loop
 same-beside-requires c κs =
-    let a = c .before .before .before .before .before .before .before .before .args in
-    let p = c .before .before .before .before .before .before .before .before .pre in
+    let a = c .before .before .before .before .before .before .before .before .before .args in
+    let p = c .before .before .before .before .before .before .before .before .before .pre in
     let l = c .before .before .loop in
-    ((p .0 .0, p .0 .1, p .0 .2, p .0 .3, c .before .loop-test .taken, omega (arith, l .inv .0 .size), p .0 .5), (rw (transit-behind (a .n) (a .work .now) (l .work) (l .inv .0 .behind)) (p .1 .0), rw (own-behind (a .n) (a .work .now) (l .work) (l .inv .0 .behind)) (p .1 .1)))
+    ((p .0 .0, p .0 .1, p .0 .2, p .0 .3, c .before .loop-test .taken, omega (arith, l .inv .0 .size), p .0 .5, c .before .before .before .cell-square .ensures), ((rw (transit-behind (a .n) (a .work .now) (l .work) (l .inv .0 .behind)) (p .1 .0 .0), rw (own-behind (a .n) (a .work .now) (l .work) (l .inv .0 .behind)) (p .1 .0 .1)), (sought-later (a .n) (a .left) (a .work .now) (p .1 .1 .0) (l .work) (l .inv .0 .behind), roads-behind (a .n) (a .work .now) (l .work) (l .inv .0 .behind) (a .edges .now) (a .closed .now) (p .1 .1 .1))))
 
 same-length : tie.Need-same-length Inv-loop μ-loop
 same-length c = omega (arith, c .before .before .before .before .before .before .loop .inv .0 .size)
@@ -55,6 +59,7 @@ same-in-cell-spec =
     (tie.spec
     Inv-loop
     μ-loop
+    cell-square-requires
     loop-holds
     same-beside-requires
     same-length

@@ -1,5 +1,5 @@
 -- `lists::same_lists` meets its contract: the nodes from u on are left, and testing cell by cell tests all lists.
-use Prim.Native.Nat.{_-_, _*_}
+use Prim.Native.Nat.{_-_}
 use native.Mathlib.Omega.{arith}
 use mathlib.Core.Path.{_≡_, refl, sym, _∙_}
 use borrow.Author.Tests.{not-true, not-false}
@@ -7,6 +7,8 @@ use borrow.Author.Needs.{needs}
 use lib.ListN.{length, drop}
 use Rattle.model.specs.Lists.{all, upTo}
 use Rattle.theory.specs.RangeLaws.{rest}
+use Rattle.layout.specs.Regions.{regionAt, transit}
+use Rattle.layout.proofs.Indexed.{roads-from}
 use Rattle.auditor.specs.Same.{sameOfCell}
 use Rattle.auditor.proofs.Tested.{left-all, left-fails, left-goes, left-none, by-cells-to}
 use Rattle.auditor.proofs.CellLists.{transit-kept}
@@ -14,7 +16,7 @@ use Rattle.auditor.proofs.lists.same_lists.Statement.{statement}
 use Rattle.auditor.proofs.lists.same_lists.Tie as tie
 
 abbrev Inv-loop : tie.InvT-loop
-Inv-loop nodes edges closed grid access n work₀ u₀ work u = (length work ≡ length work₀) × (drop (6 * n) work ≡ drop (6 * n) work₀) × (all (sameOfCell nodes edges closed grid access) (upTo n) ≡ all (sameOfCell nodes edges closed grid access) (rest u n))
+Inv-loop nodes edges closed grid access n work₀ u₀ work u = (length work ≡ length work₀) × (drop (regionAt n transit) work ≡ drop (regionAt n transit) work₀) × (all (sameOfCell nodes edges closed grid access) (upTo n) ≡ all (sameOfCell nodes edges closed grid access) (rest u n))
 
 abbrev μ-loop : tie.MeasureT-loop
 μ-loop nodes edges closed grid access n work₀ u₀ work u = n - u
@@ -27,7 +29,7 @@ same-of-cell-requires c κs =
     let a = c .before .before .before .before .before .before .before .before .args in
     let p = c .before .before .before .before .before .before .before .before .pre in
     let l = c .before .before .loop in
-    ((p .0 .0, p .0 .1, p .0 .2, c .before .loop-test .taken, omega (arith, l .inv .0), p .0 .4), transit-kept (a .n) (a .work .now) (l .work) (l .inv .1) ∙ p .1)
+    ((p .0 .0, p .0 .1, p .0 .2, c .before .loop-test .taken, omega (arith, l .inv .0), p .0 .4), (transit-kept (a .n) (a .work .now) (l .work) (l .inv .1) ∙ p .1 .0, roads-from (a .edges .now) (a .closed .now) (a .n) (a .work .now) (l .work) (regionAt (a .n) transit) (omega arith) (l .inv .1) (p .1 .1)))
 
 same-length : tie.Need-same-length Inv-loop μ-loop
 same-length c = omega (arith, c .before .before .before .before .before .before .loop .inv .0)

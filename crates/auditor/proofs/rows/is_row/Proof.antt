@@ -1,13 +1,18 @@
 -- `rows::is_row` meets its contract: the parts are the regions.
-use mathlib.Core.Path.{sym, _∙_}
 use borrow.Author.Needs.{needs}
+use mathlib.Core.Path.{sym, _∙_}
 use lib.Seq.{length-take-le}
+use Rattle.layout.specs.Regions.{transit}
+use Rattle.layout.proofs.Windows.{set-is}
 use Rattle.auditor.proofs.Shown.{has-transit, has-times, row-shown}
 use Rattle.auditor.proofs.rows.is_row.Statement.{statement}
 use Rattle.auditor.proofs.rows.is_row.Tie as tie
 
-mul-a : tie.Need-mul-a
-mul-a c = search needs
+region-at-requires : tie.Need-region-at-requires
+region-at-requires c κs = search needs
+
+set-words-requires : tie.Need-set-words-requires
+set-words-requires c κs = search needs
 
 add-e : tie.Need-add-e
 add-e c = search needs
@@ -25,19 +30,20 @@ part-same-row-end : tie.Need-part-same-row-end
 part-same-row-end c = search needs
 
 slice-aggregate-same-row : tie.Need-slice-aggregate-same-row
-slice-aggregate-same-row c = let a = c .before .before .before .before .args in sym (length-take-le (a .n) (a .work .now) (search needs))
+slice-aggregate-same-row c = let a = c .before .before .before .before .before .before .args in sym (length-take-le (a .n) (a .work .now) (search needs))
 
 same-row-requires : tie.Need-same-row-requires
-same-row-requires c κs = let a = c .before .before .before .before .args in (has-transit (a .n) (a .work .now) (search needs), has-times (a .n) (a .work .now) (search needs))
+same-row-requires c κs = let a = c .before .before .before .before .before .before .args in (has-transit (a .n) (a .work .now) (search needs) (search needs) _ (set-is (a .n) transit _ _ (a .work .now) (c .before .before .before .region-at .ensures) (c .before .before .set-words .ensures)), has-times (a .n) (a .work .now) (search needs))
 
 returns : tie.Need-returns
-returns c = let a = c .before .before .before .before .before .args in c .same-row .ensures ∙ row-shown (a .n) (a .work .now) (search needs) (a .b .now)
+returns c = let a = c .before .before .before .before .before .before .before .args in c .same-row .ensures ∙ row-shown (a .n) (a .work .now) (search needs) (search needs) _ (set-is (a .n) transit _ _ (a .work .now) (c .before .before .before .before .region-at .ensures) (c .before .before .before .set-words .ensures)) (a .b .now)
 
 pub is-row-spec : {M : Type 1} → statement M
 is-row-spec =
     tie.close
     (tie.spec
-    mul-a
+    region-at-requires
+    set-words-requires
     add-e
     mul-same-row
     sub-same-row

@@ -22,7 +22,7 @@ search-front-requires : tie.Need-search-front-requires
 search-front-requires c κs = search needs
 
 row-at-requires : tie.Need-row-at-requires
-row-at-requires c κs = let a = c .before .before .before .before .before .before .before .before .before .before .before .before .args in (search needs, size-behind (a .n) (a .work .now) _ (c .before .before .before .search-front .ensures .1) (a .size) (c .before .before .before .before .before .before .before .before .before .before .before .before .pre .0 .3), search needs)
+row-at-requires c κs = let a = c .before .before .before .before .before .before .before .before .before .before .before .before .args in (search needs, size-behind (a .n) (a .work .now) _ (c .before .before .before .search-front .ensures .1) (a .size) (c .before .before .before .before .before .before .before .before .before .before .before .before .pre .0 .3), search needs, search needs)
 
 same-length-2 : tie.Need-same-length-2
 same-length-2 c = search needs

@@ -4,7 +4,7 @@ use native.Mathlib.Omega.{arith}
 use mathlib.Core.Path.{sym, _∙_}
 use borrow.Author.Needs.{needs}
 use Rattle.arcs.specs.Arcs.{arcsIn}
-use Rattle.auditor.proofs.Behind.{size-behind}
+use Rattle.auditor.proofs.Behind.{size-behind, roads-behind}
 use Rattle.auditor.proofs.TableRows.{RowsLeft, rows-first, rows-differ, rows-next, rows-end}
 use Rattle.auditor.proofs.rows.same_table.Statement.{statement}
 use Rattle.auditor.proofs.rows.same_table.Tie as tie
@@ -19,7 +19,7 @@ loop-holds : tie.Need-loop-holds Inv-loop μ-loop
 loop-holds c = rows-first _ _ _ _
 
 same-from-requires : tie.Need-same-from-requires Inv-loop μ-loop
-same-from-requires c κs = let a = c .before .before .before .before .before .before .before .args in let l = c .before .before .loop in ((search needs, search needs, omega (arith, l .inv .kept .size), size-behind (a .n) (a .work .now) (l .work) (l .inv .kept .behind) (a .size) (c .before .before .before .before .before .before .before .pre .0 .2), l .inv .left .within), search needs)
+same-from-requires c κs = let a = c .before .before .before .before .before .before .before .args in let l = c .before .before .loop in ((search needs, search needs, omega (arith, l .inv .kept .size), size-behind (a .n) (a .work .now) (l .work) (l .inv .kept .behind) (a .size) (c .before .before .before .before .before .before .before .pre .0 .2), l .inv .left .within), roads-behind (a .n) (a .work .now) (l .work) (l .inv .kept .behind) (a .edges .now) (a .closed .now) (c .before .before .before .before .before .before .before .pre .1))
 
 enum-known-next : tie.Need-enum-known-next Inv-loop μ-loop
 enum-known-next c = search needs

@@ -1,12 +1,17 @@
 -- `transit::same_transit` meets its contract: the part is the region.
-use mathlib.Core.Path.{_∙_}
 use borrow.Author.Needs.{needs}
+use mathlib.Core.Path.{_∙_}
+use Rattle.layout.specs.Regions.{transit}
+use Rattle.layout.proofs.Windows.{set-is}
 use Rattle.auditor.proofs.Shown.{numbers-shown}
 use Rattle.auditor.proofs.transit.same_transit.Statement.{statement}
 use Rattle.auditor.proofs.transit.same_transit.Tie as tie
 
-mul-a : tie.Need-mul-a
-mul-a c = search needs
+region-at-requires : tie.Need-region-at-requires
+region-at-requires c κs = search needs
+
+set-words-requires : tie.Need-set-words-requires
+set-words-requires c κs = search needs
 
 add-e : tie.Need-add-e
 add-e c = search needs
@@ -27,13 +32,14 @@ same-numbers-requires : tie.Need-same-numbers-requires
 same-numbers-requires c κs = search needs
 
 returns : tie.Need-returns
-returns c = let a = c .before .before .before .before .args in c .same-numbers .ensures ∙ numbers-shown (a .n) (a .work .now) (search needs) (a .b .now)
+returns c = let a = c .before .before .before .before .before .before .args in c .same-numbers .ensures ∙ numbers-shown (a .n) (a .work .now) (search needs) (search needs) _ (set-is (a .n) transit _ _ (a .work .now) (c .before .before .before .region-at .ensures) (c .before .before .set-words .ensures)) (a .b .now)
 
 pub same-transit-spec : {M : Type 1} → statement M
 same-transit-spec =
     tie.close
     (tie.spec
-    mul-a
+    region-at-requires
+    set-words-requires
     add-e
     mul-same-numbers
     sub-same-numbers

@@ -1,59 +1,51 @@
+-- `names::named_refusal` meets its contract: no rule of the shape is broken, so that 12 alone is left.
 use Rattle.model.specs.Lists.{any}
 use Rattle.block.proofs.Named.{missing-is}
 use Rattle.block.specs.Kept.{any-append}
 use Rattle.block.specs.Block.{namedRules}
-use Rattle.query.proofs.Kept.{shaped, either-missing, other-missing, both-there}
+use Rattle.query.proofs.Kept.{no-rule, either-missing, other-missing, both-there}
 use Rattle.model.specs.Rules.{shapeRules, noSuchNode}
 use Rattle.theory.specs.Passed.{shape-counted}
-use Rattle.theory.specs.Firsts.{first-stays, one-broken, one-kept}
+use Rattle.theory.specs.Firsts.{one-broken, one-kept}
 use mathlib.Core.Path.{sym, _∙_}
 use borrow.Author.Needs.{needs}
 use Rattle.block.proofs.names.named_refusal.Statement.{statement}
 use Rattle.block.proofs.names.named_refusal.Tie as tie
 
-shape-refusal-requires : tie.Need-shape-refusal-requires
-shape-refusal-requires c κs = search needs
-
-returns : tie.Need-returns
-unfolding namedRules
-returns c = c .before .shape-refusal .ensures ∙ sym (first-stays _ _ (λ e. c .if1 .taken (c .before .shape-refusal .ensures ∙ e)))
-
 node-count-requires : tie.Need-node-count-requires
-node-count-requires c κs = shaped _ (sym (c .before .shape-refusal .ensures) ∙ c .if1 .left)
+node-count-requires c κs = search needs
 
 some-missing-requires : tie.Need-some-missing-requires
 some-missing-requires c κs = search needs
+
+returns : tie.Need-returns
+unfolding namedRules
+returns c =
+    let a = c .before .before .before .before .before .before .args in
+    one-broken (shapeRules (a .o .now)) 12 (shape-counted _) (no-rule _ (c .before .before .before .before .before .before .pre)) (any-append (noSuchNode (a .o .now)) _ _ ∙ either-missing _ (sym (missing-is _ _ (c .before .before .node-count .ensures) _) ∙ sym (c .before .some-missing .ensures) ∙ c .if1 .taken))
+
+some-missing-requires-2 : tie.Need-some-missing-requires-2
+some-missing-requires-2 c κs = search needs
 
 returns-2 : tie.Need-returns-2
 unfolding namedRules
 returns-2 c =
     let a = c .before .before .before .before .before .before .before .before .args in
-    one-broken (shapeRules (a .o .now)) 12 (shape-counted _) (sym (c .before .before .before .before .shape-refusal .ensures) ∙ c .before .before .before .if1 .left) (any-append (noSuchNode (a .o .now)) _ _ ∙ either-missing _ (sym (missing-is _ _ (c .before .before .node-count .ensures) _) ∙ sym (c .before .some-missing .ensures) ∙ c .if2 .taken))
-
-some-missing-requires-2 : tie.Need-some-missing-requires-2
-some-missing-requires-2 c κs = search needs
+    one-broken (shapeRules (a .o .now)) 12 (shape-counted _) (no-rule _ (c .before .before .before .before .before .before .before .before .pre)) (any-append (noSuchNode (a .o .now)) _ _ ∙ other-missing (any (noSuchNode (a .o .now)) (a .starts .now)) (sym (missing-is _ _ (c .before .before .before .before .node-count .ensures) _) ∙ sym (c .before .some-missing2 .ensures) ∙ c .if2 .taken))
 
 returns-3 : tie.Need-returns-3
 unfolding namedRules
 returns-3 c =
-    let a = c .before .before .before .before .before .before .before .before .before .before .args in
-    one-broken (shapeRules (a .o .now)) 12 (shape-counted _) (sym (c .before .before .before .before .before .before .shape-refusal .ensures) ∙ c .before .before .before .before .before .if1 .left) (any-append (noSuchNode (a .o .now)) _ _ ∙ other-missing (any (noSuchNode (a .o .now)) (a .starts .now)) (sym (missing-is _ _ (c .before .before .before .before .node-count .ensures) _) ∙ sym (c .before .some-missing2 .ensures) ∙ c .if3 .taken))
-
-returns-4 : tie.Need-returns-4
-unfolding namedRules
-returns-4 c =
-    let a = c .before .before .before .before .before .before .before .before .before .before .args in
-    one-kept (shapeRules (a .o .now)) 12 (shape-counted _) (sym (c .before .before .before .before .before .before .shape-refusal .ensures) ∙ c .before .before .before .before .before .if1 .left) (any-append (noSuchNode (a .o .now)) _ _ ∙ both-there (sym (missing-is _ _ (c .before .before .before .before .node-count .ensures) _) ∙ sym (c .before .before .before .some-missing .ensures) ∙ c .before .before .if2 .left) (sym (missing-is _ _ (c .before .before .before .before .node-count .ensures) _) ∙ sym (c .before .some-missing2 .ensures) ∙ c .if3 .left))
+    let a = c .before .before .before .before .before .before .before .before .args in
+    one-kept (shapeRules (a .o .now)) 12 (shape-counted _) (no-rule _ (c .before .before .before .before .before .before .before .before .pre)) (any-append (noSuchNode (a .o .now)) _ _ ∙ both-there (sym (missing-is _ _ (c .before .before .before .before .node-count .ensures) _) ∙ sym (c .before .before .before .some-missing .ensures) ∙ c .before .before .if1 .left) (sym (missing-is _ _ (c .before .before .before .before .node-count .ensures) _) ∙ sym (c .before .some-missing2 .ensures) ∙ c .if2 .left))
 
 pub named-refusal-spec : {M : Type 1} → statement M
 named-refusal-spec =
     tie.close
     (tie.spec
-    shape-refusal-requires
-    returns
     node-count-requires
     some-missing-requires
-    returns-2
+    returns
     some-missing-requires-2
-    returns-3
-    returns-4)
+    returns-2
+    returns-3)

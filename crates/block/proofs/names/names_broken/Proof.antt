@@ -1,3 +1,4 @@
+-- `names::names_broken` meets its contract.
 use borrow.Author.Tests.{eq-eqb}
 use mathlib.Core.Path.{sym, _∙_}
 use Rattle.block.proofs.Named.{no-names, many-names}

@@ -1,3 +1,4 @@
+-- `names::sides_refusal` meets its contract: 17 is looked at after 12.
 use Rattle.block.specs.Block.{namesBroken, namedRules, sidesRules}
 use Rattle.block.specs.Kept.{named-counted}
 use Rattle.query.proofs.Kept.{either-missing, other-missing, both-there}

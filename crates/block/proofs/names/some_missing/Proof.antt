@@ -1,3 +1,4 @@
+-- `names::some_missing` meets its contract.
 use native.Mathlib.Omega.{arith}
 use Rattle.block.proofs.Scan.{scan-found, scan-passed, scan-end}
 use Rattle.model.specs.Lists.{any}

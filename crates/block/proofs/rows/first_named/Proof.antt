@@ -1,3 +1,4 @@
+-- `rows::first_named` meets its contract.
 use Rattle.block.proofs.Scan.{stands-before}
 use native.Mathlib.Omega.{arith}
 use Prim.Native.Nat.{_-_, _≤_}

@@ -1,3 +1,4 @@
+-- `rows::search_near` meets its contract.
 use mathlib.Core.Bool.{true≢false}
 use mathlib.Core.Path.{refl, sym, _∙_}
 use borrow.Author.Needs.{needs}
@@ -5,10 +6,10 @@ use Rattle.block.proofs.rows.search_near.Statement.{statement}
 use Rattle.block.proofs.rows.search_near.Tie as tie
 
 some-local-requires : tie.Need-some-local-requires
-some-local-requires c κs = search needs
+some-local-requires c κs = let p = c .before .before .before .pre in (p .0 .shape, p .1, p .2, p .3)
 
 times-to-requires : tie.Need-times-to-requires
-times-to-requires c κs = let p = c .before .before .before .before .before .before .pre in (p .0, p .2, p .4)
+times-to-requires c κs = let p = c .before .before .before .before .before .before .pre in (p .0, p .2)
 
 same-length : tie.Need-same-length
 same-length c = search needs

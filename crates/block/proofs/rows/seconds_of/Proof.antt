@@ -1,3 +1,4 @@
+-- `rows::seconds_of` meets its contract.
 use Rattle.model.specs.Query.{distanceOf}
 use Rattle.model.specs.Oracle.{coded}
 use borrow.Author.Needs.{needs}

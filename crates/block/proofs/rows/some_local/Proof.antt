@@ -1,3 +1,4 @@
+-- `rows::some_local` meets its contract.
 use native.Mathlib.Omega.{arith}
 use Rattle.block.specs.Kept.{named-there}
 use Rattle.block.proofs.Scan.{scan-found, scan-passed, scan-end}

@@ -1,3 +1,4 @@
+-- `rows::square` meets its contract.
 use mathlib.Core.Path.{sym, _∙_}
 use native.Mathlib.Omega.{arith}
 use Rattle.block.proofs.Squares.{square-far, square-local, is-local}

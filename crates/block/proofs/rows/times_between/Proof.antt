@@ -1,6 +1,10 @@
+-- `rows::times_between` meets its contract: start by start, and the oracle stays opened.
 use Rattle.block.proofs.Fill.{no-rows}
 use Rattle.block.specs.Block.{blockOf}
-use Rattle.model.specs.Rules.{wordsNeeded}
+use Rattle.model.specs.Contents.{nodeBody}
+use Rattle.model.specs.Network.{nodeCount}
+use Rattle.query.specs.Opened.{gridAt}
+use Rattle.query.proofs.OpenLaws.{opened-kept}
 use native.Mathlib.Omega.{arith}
 use lib.Seq.{take-all}
 use lib.ListN.{length, drop, take}
@@ -12,22 +16,22 @@ use Rattle.block.proofs.rows.times_between.Statement.{statement}
 use Rattle.block.proofs.rows.times_between.Tie as tie
 
 abbrev Inv-loop : tie.InvT-loop
-Inv-loop o starts ends work₀ grid times₀ i₀ work times i = (i ≤ length starts) × (times ≡ blockOf o (take i starts) ends) × (length work ≡ length work₀) × (drop (wordsNeeded o) work ≡ drop (wordsNeeded o) work₀)
+Inv-loop o starts ends work₀ grid times₀ i₀ work times i = (i ≤ length starts) × (times ≡ blockOf o (take i starts) ends) × (length work ≡ length work₀) × (drop (gridAt (nodeCount (nodeBody o))) work ≡ drop (gridAt (nodeCount (nodeBody o))) work₀)
 
 abbrev μ-loop : tie.MeasureT-loop
 μ-loop o starts ends work₀ grid times₀ i₀ work times i = length starts - i
 
-grid-of-requires : tie.Need-grid-of-requires Inv-loop μ-loop
-grid-of-requires c κs = search needs
+opened-grid-requires : tie.Need-opened-grid-requires Inv-loop μ-loop
+opened-grid-requires c κs = search needs
 
 loop-holds : tie.Need-loop-holds Inv-loop μ-loop
-loop-holds c = let a = c .before .before .before .before .before .args in (omega arith, no-rows (a .o .now) (a .starts .now) (a .ends .now), refl, refl)
+loop-holds c = let a = c .before .before .before .before .before .before .args in (omega arith, no-rows (a .o .now) (a .starts .now) (a .ends .now), refl, refl)
 
 with-start-requires : tie.Need-with-start-requires Inv-loop μ-loop
 with-start-requires c κs =
-    let p = c .before .before .before .before .before .before .before .before .pre in
+    let p = c .before .before .before .before .before .before .before .before .before .pre in
     let l = c .before .before .loop in
-    ((p .0 .0, c .before .before .before .grid-of .ensures, p .0 .1, p .0 .2), (p .1 .0, p .1 .1, omega (arith, p .1 .2, l .inv .2), c .before .loop-test .taken, l .inv .1))
+    ((opened-kept _ _ _ (p .0 .0) (l .inv .2) (l .inv .3), c .before .before .before .opened-grid .ensures, p .0 .1, p .0 .2), (p .1 .0, p .1 .1, c .before .loop-test .taken, l .inv .1))
 
 add-i : tie.Need-add-i Inv-loop μ-loop
 add-i c = search needs
@@ -43,7 +47,7 @@ same-length c = search needs
 
 returns : tie.Need-returns Inv-loop μ-loop
 returns c =
-    let a = c .before .before .before .before .before .before .before .args in
+    let a = c .before .before .before .before .before .before .before .before .args in
     let l = c .before .loop in
     (l .inv .1 ∙ ap (λ (l : List ℕ). blockOf (a .o .now) l (a .ends .now)) (take-all (l .i) (a .starts .now) (omega arith)), l .inv .3)
 
@@ -53,7 +57,7 @@ times-between-spec =
     (tie.spec
     Inv-loop
     μ-loop
-    grid-of-requires
+    opened-grid-requires
     loop-holds
     with-start-requires
     add-i

@@ -1,3 +1,4 @@
+-- `rows::with_squares` meets its contract.
 use Rattle.block.specs.Kept.{named-there}
 use Rattle.block.proofs.Squares.{some-local}
 use Rattle.block.proofs.Fill.{row-store, row-is, row-more, no-squares}

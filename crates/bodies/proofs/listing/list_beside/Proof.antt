@@ -1,15 +1,16 @@
 -- `bodies::listing::list_beside` meets its contract. Assumes nothing.
+use native.Mathlib.Omega.{arith}
 use mathlib.Core.Path.{refl, sym, _∙_}
 use borrow.Author.Needs.{needs}
 use Rattle.bodies.proofs.CellLists.{list-other, list-room, list-done}
 use Rattle.bodies.proofs.listing.list_beside.Statement.{statement}
 use Rattle.bodies.proofs.listing.list_beside.Tie as tie
 
-same-cell-requires : tie.Need-same-cell-requires
-same-cell-requires c κs = search needs
+beside-requires : tie.Need-beside-requires
+beside-requires c κs = omega (arith, c .before .before .before .before .before .pre .0 .0 .count)
 
 put-list-requires : tie.Need-put-list-requires
-put-list-requires c κs = let a = c .before .before .before .before .before .before .before .before .before .args in list-room (a .nodes .now) (a .edges .now) (a .closed .now) (a .grid) (a .n) (a .work .now) (c .before .before .before .before .before .before .before .before .before .pre .0 .0) (a .u) (a .v) (c .before .before .before .before .before .before .before .before .before .pre .0 .1) (c .before .before .before .before .before .before .before .before .before .pre .0 .2) (c .before .before .before .before .before .before .before .before .before .pre .1 .0 .0) (a .body .now) (c .before .before .before .before .before .before .before .before .before .pre .1 .1) (sym (c .before .before .before .same-cell .ensures) ∙ c .before .before .if1 .taken) (a .size) (c .before .before .before .before .before .before .before .before .before .pre .1 .0 .1)
+put-list-requires c κs = let a = c .before .before .before .before .before .before .before .before .before .args in list-room (a .nodes .now) (a .edges .now) (a .closed .now) (a .grid) (a .n) (a .work .now) (c .before .before .before .before .before .before .before .before .before .pre .0 .0) (a .u) (a .v) (c .before .before .before .before .before .before .before .before .before .pre .0 .1) (c .before .before .before .before .before .before .before .before .before .pre .0 .2) (c .before .before .before .before .before .before .before .before .before .pre .1 .0 .0) (a .body .now) (c .before .before .before .before .before .before .before .before .before .pre .1 .1) (sym (c .before .before .before .beside .ensures _ _ (c .before .before .before .before .before .before .before .before .before .pre .0 .3)) ∙ c .before .before .if1 .taken) (a .left) (c .before .before .before .before .before .before .before .before .before .pre .1 .0 .1)
 
 same-length : tie.Need-same-length
 same-length c = search needs
@@ -18,12 +19,12 @@ same-length-2 : tie.Need-same-length-2
 same-length-2 c = search needs
 
 returns : tie.Need-returns
-returns c = let a = c .before .before .before .before .before .before .before .before .before .before .before .before .before .before .args in (list-done (a .nodes .now) (a .edges .now) (a .closed .now) (a .grid) (a .n) (a .work .now) (c .before .before .before .before .before .before .before .before .before .before .before .before .before .before .pre .0 .0) (a .u) (a .v) (c .before .before .before .before .before .before .before .before .before .before .before .before .before .before .pre .0 .1) (c .before .before .before .before .before .before .before .before .before .before .before .before .before .before .pre .0 .2) (c .before .before .before .before .before .before .before .before .before .before .before .before .before .before .pre .1 .0 .0) (a .body .now) (c .before .before .before .before .before .before .before .before .before .before .before .before .before .before .pre .1 .1) (sym (c .before .before .before .before .before .before .before .before .same-cell .ensures) ∙ c .before .before .before .before .before .before .before .if1 .taken) _ _ (search needs) (c .before .before .before .before .put-list .ensures .0) (c .before .before .before .before .put-list .ensures .1 .1) (c .before .before .before .before .put-list .ensures .1 .0), c .before .before .before .before .put-list .ensures .1 .1)
+returns c = let a = c .before .before .before .before .before .before .before .before .before .before .before .before .before .before .args in (list-done (a .nodes .now) (a .edges .now) (a .closed .now) (a .grid) (a .n) (a .work .now) (c .before .before .before .before .before .before .before .before .before .before .before .before .before .before .pre .0 .0) (a .u) (a .v) (c .before .before .before .before .before .before .before .before .before .before .before .before .before .before .pre .0 .1) (c .before .before .before .before .before .before .before .before .before .before .before .before .before .before .pre .0 .2) (c .before .before .before .before .before .before .before .before .before .before .before .before .before .before .pre .1 .0 .0) (a .body .now) (c .before .before .before .before .before .before .before .before .before .before .before .before .before .before .pre .1 .1) (sym (c .before .before .before .before .before .before .before .before .beside .ensures _ _ (c .before .before .before .before .before .before .before .before .before .before .before .before .before .before .pre .0 .3)) ∙ c .before .before .before .before .before .before .before .if1 .taken) _ (c .before .before .before .before .put-list .ensures .0), c .before .before .before .before .put-list .ensures .1)
 
 returns-2 : tie.Need-returns-2
-returns-2 c = let a = c .before .before .before .before .before .before .before .args in (list-other (a .nodes .now) (a .edges .now) (a .closed .now) (a .grid) (a .n) (a .work .now) (c .before .before .before .before .before .before .before .pre .0 .0) (a .u) (a .v) (c .before .before .before .before .before .before .before .pre .0 .1) (c .before .before .before .before .before .before .before .pre .0 .2) (c .before .before .before .before .before .before .before .pre .1 .0 .0) (a .body .now) (c .before .before .before .before .before .before .before .pre .1 .1) (sym (c .before .same-cell .ensures) ∙ c .if1 .left), refl)
+returns-2 c = let a = c .before .before .before .before .before .before .before .args in (list-other (a .nodes .now) (a .edges .now) (a .closed .now) (a .grid) (a .n) (a .work .now) (c .before .before .before .before .before .before .before .pre .0 .0) (a .u) (a .v) (c .before .before .before .before .before .before .before .pre .0 .1) (c .before .before .before .before .before .before .before .pre .0 .2) (c .before .before .before .before .before .before .before .pre .1 .0 .0) (a .body .now) (c .before .before .before .before .before .before .before .pre .1 .1) (sym (c .before .beside .ensures _ _ (c .before .before .before .before .before .before .before .pre .0 .3)) ∙ c .if1 .left), refl)
 
 pub list-beside-spec : {M : Type 1} → statement M
 list-beside-spec =
     tie.close
-    (tie.spec same-cell-requires put-list-requires same-length same-length-2 returns returns-2)
+    (tie.spec beside-requires put-list-requires same-length same-length-2 returns returns-2)

@@ -1,15 +1,16 @@
 -- `bodies::listing::put_lists` meets its contract. Assumes nothing.
-use Prim.Native.Nat.{_-_, _*_}
+use Prim.Native.Nat.{_-_}
 use mathlib.Core.Path.{_≡_, refl, _∙_}
 use lib.ListN.{length, drop}
 use borrow.Author.Needs.{needs}
+use Rattle.layout.specs.Regions.{regionAt, transit}
 use Rattle.bodies.proofs.CellLists.{based-still, listed-all}
 use Rattle.bodies.specs.Listed.{Based, Listed}
 use Rattle.bodies.proofs.listing.put_lists.Statement.{statement}
 use Rattle.bodies.proofs.listing.put_lists.Tie as tie
 
 abbrev Inv-loop : tie.InvT-loop
-Inv-loop nodes edges closed grid n work₀ body₀ u₀ work body u = (length work ≡ length work₀) × (length body ≡ length body₀) × Based nodes edges closed grid n work × (drop (6 * n) work ≡ drop (6 * n) work₀) × Listed nodes edges closed grid n u body
+Inv-loop nodes edges closed grid n work₀ body₀ u₀ work body u = (length work ≡ length work₀) × (length body ≡ length body₀) × Based nodes edges closed grid n work × (drop (regionAt n transit) work ≡ drop (regionAt n transit) work₀) × Listed nodes edges closed grid n u body
 
 abbrev μ-loop : tie.MeasureT-loop
 μ-loop nodes edges closed grid n work₀ body₀ u₀ work body u = n - u

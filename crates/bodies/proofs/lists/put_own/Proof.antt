@@ -27,7 +27,7 @@ part-write-own-end : tie.Need-part-write-own-end
 part-write-own-end c = search needs
 
 write-own-requires : tie.Need-write-own-requires
-write-own-requires c κs = let a = c .before .before .before .before .before .args in (search needs, search needs, c .before .before .before .before .before .pre .0 .2, part-size (c .before .read32 .result) (a .size) (a .body .now) (search needs) ∙ c .before .before .before .before .before .pre .0 .3)
+write-own-requires c κs = let a = c .before .before .before .before .before .args in (search needs, search needs, c .before .before .before .before .before .pre .0 .2, part-size (c .before .read32 .result) (a .size) (a .body .now) (search needs) ∙ c .before .before .before .before .before .pre .0 .3, search needs)
 
 same-length : tie.Need-same-length
 same-length c = search needs

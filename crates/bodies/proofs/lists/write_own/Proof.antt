@@ -1,19 +1,24 @@
 -- `bodies::lists::write_own` meets its contract. Assumes nothing.
+use borrow.Author.Needs.{needs}
 use mathlib.Core.Path.{sym}
 use lib.Seq.{length-take-le}
-use borrow.Author.Needs.{needs}
+use Rattle.layout.specs.Regions.{own, transit}
+use Rattle.layout.proofs.Windows.{set-is}
 use Rattle.bodies.proofs.OwnLists.{own-parts, own-written}
 use Rattle.bodies.proofs.lists.write_own.Statement.{statement}
 use Rattle.bodies.proofs.lists.write_own.Tie as tie
 
-mul-a : tie.Need-mul-a
-mul-a c = search needs
+set-words-requires : tie.Need-set-words-requires
+set-words-requires c κs = search needs
+
+region-at-requires : tie.Need-region-at-requires
+region-at-requires c κs = search needs
 
 add-e : tie.Need-add-e
 add-e c = search needs
 
-mul-b : tie.Need-mul-b
-mul-b c = search needs
+region-at-requires-2 : tie.Need-region-at-requires-2
+region-at-requires-2 c κs = search needs
 
 add-f : tie.Need-add-f
 add-f c = search needs
@@ -43,24 +48,31 @@ part-write-list-end-2 : tie.Need-part-write-list-end-2
 part-write-list-end-2 c = search needs
 
 slice-aggregate-write-list : tie.Need-slice-aggregate-write-list
-slice-aggregate-write-list c = let a = c .before .before .before .before .before .args in sym (length-take-le (a .n) (a .work .now) (search needs))
+slice-aggregate-write-list c = let a = c .before .before .before .before .before .before .before .before .args in sym (length-take-le (a .n) (a .work .now) (search needs))
 
 write-list-requires : tie.Need-write-list-requires
-write-list-requires c κs = let a = c .before .before .before .before .before .before .args in own-parts (a .n) (a .work .now) (c .before .before .before .before .before .before .pre .1) (a .out .now) (c .before .before .before .before .before .before .pre .0) (c .before .before .before .before .before .before .pre .2) (c .before .before .before .before .before .before .pre .3)
+write-list-requires c κs =
+    let a = c .before .before .before .before .before .before .before .before .before .args in
+    let p = c .before .before .before .before .before .before .before .before .before .pre in
+    own-parts (a .n) (a .work .now) (p .4) (p .1) _ (set-is (a .n) own _ _ (a .work .now) (c .before .before .before .before .before .region-at .ensures) (c .before .before .before .before .before .before .set-words .ensures)) _ (set-is (a .n) transit _ _ (a .work .now) (c .before .before .before .before .region-at2 .ensures) (c .before .before .before .before .before .before .set-words .ensures)) (a .out .now) (p .0) (p .2) (p .3)
 
 same-length : tie.Need-same-length
 same-length c = search needs
 
 returns : tie.Need-returns
-returns c = let a = c .before .before .before .before .before .before .before .before .before .args in own-written (a .n) (a .work .now) (c .before .before .before .before .before .before .before .before .before .pre .1) _ (c .before .before .write-list .ensures)
+returns c =
+    let a = c .before .before .before .before .before .before .before .before .before .before .before .before .args in
+    let p = c .before .before .before .before .before .before .before .before .before .before .before .before .pre in
+    own-written (a .n) (a .work .now) (p .4) (p .1) _ (set-is (a .n) own _ _ (a .work .now) (c .before .before .before .before .before .before .before .before .region-at .ensures) (c .before .before .before .before .before .before .before .before .before .set-words .ensures)) _ (set-is (a .n) transit _ _ (a .work .now) (c .before .before .before .before .before .before .before .region-at2 .ensures) (c .before .before .before .before .before .before .before .before .before .set-words .ensures)) _ (c .before .before .write-list .ensures)
 
 pub write-own-spec : {M : Type 1} → statement M
 write-own-spec =
     tie.close
     (tie.spec
-    mul-a
+    set-words-requires
+    region-at-requires
     add-e
-    mul-b
+    region-at-requires-2
     add-f
     mul-write-list
     sub-write-list

@@ -21,7 +21,7 @@ search-front-requires : tie.Need-search-front-requires
 search-front-requires c κs = search needs
 
 write-times-requires : tie.Need-write-times-requires
-write-times-requires c κs = let a = c .before .before .before .before .before .before .before .before .before .before .before .before .before .args in let s = region-later (a .n) 6 (a .work .now) _ (omega arith) (c .before .before .before .before .search-front .ensures .1) in (search needs, rw s (c .before .before .before .before .before .before .before .before .before .before .before .before .before .pre .1 .1 .0), row-fits (a .edges .now) (a .closed .now) (a .n) (a .v) (a .work .now) (search needs) (a .t) (a .at) (a .out .now) (c .before .before .before .before .before .before .before .before .before .before .before .before .before .pre .1 .1 .0) (sym (c .before .before .before .before .before .before .before .has .ensures) ∙ not-false _ (c .before .before .before .before .before .before .if1 .left)) (c .before .before .before .before .before .before .before .before .before .before .before .before .before .pre .1 .1 .1))
+write-times-requires c κs = let a = c .before .before .before .before .before .before .before .before .before .before .before .before .before .args in let s = region-later (a .n) 6 (a .work .now) _ (omega arith) (c .before .before .before .before .search-front .ensures .1) in (search needs, rw s (c .before .before .before .before .before .before .before .before .before .before .before .before .before .pre .1 .1 .0), row-fits (a .edges .now) (a .closed .now) (a .n) (a .v) (a .work .now) (search needs) (a .t) (a .at) (a .out .now) (c .before .before .before .before .before .before .before .before .before .before .before .before .before .pre .1 .1 .0) (sym (c .before .before .before .before .before .before .before .has .ensures) ∙ not-false _ (c .before .before .before .before .before .before .if1 .left)) (c .before .before .before .before .before .before .before .before .before .before .before .before .before .pre .1 .1 .1), search needs)
 
 mul-result : tie.Need-mul-result
 mul-result c = let a = c .before .before .before .before .before .before .before .before .before .before .before .before .before .before .before .before .args in omega (arith, row-fits (a .edges .now) (a .closed .now) (a .n) (a .v) (a .work .now) (search needs) (a .t) (a .at) (a .out .now) (c .before .before .before .before .before .before .before .before .before .before .before .before .before .before .before .before .pre .1 .1 .0) (sym (c .before .before .before .before .before .before .before .before .before .before .has .ensures) ∙ not-false _ (c .before .before .before .before .before .before .before .before .before .if1 .left)) (c .before .before .before .before .before .before .before .before .before .before .before .before .before .before .before .before .pre .1 .1 .1))

@@ -6,8 +6,9 @@ use lib.ListN.{length, drop}
 use borrow.Author.Needs.{needs}
 use Rattle.emit.proofs.Turns.{membersFrom, members-step, members-end}
 use Rattle.emit.proofs.Writing.{Written, written-fits, written-next, written-end}
-use Rattle.passes.specs.Building.{membersIn, transit}
-use Rattle.access.specs.Regions.{region}
+use Rattle.passes.specs.Building.{membersIn}
+use Rattle.layout.specs.Regions.{region, transit}
+use Rattle.layout.proofs.Indexed.{roads-from}
 use Rattle.model.specs.Lists.{concatMap}
 use Rattle.bodies.proofs.Lent.{region-later}
 use Rattle.bodies.proofs.Tables.{rows, rows-start}
@@ -24,7 +25,7 @@ loop-holds : tie.Need-loop-holds Inv-loop μ-loop
 loop-holds c = let a = c .before .before .before .before .args in (refl, refl, refl, rows-start (a .edges .now) (a .closed .now) (a .n) (a .work .now) (a .t) (a .out .now) (c .before .before .before .before .pre .1 .1 .0) (c .before .before .before .before .pre .1 .1 .1))
 
 put-row-requires : tie.Need-put-row-requires Inv-loop μ-loop
-put-row-requires c κs = let s = region-later (c .before .before .before .before .before .before .before .before .args .n) transit (c .before .before .before .before .before .before .before .before .args .work .now) (c .before .before .before .loop .work) (omega arith) (c .before .before .before .loop .inv .2) in (search needs, (search needs, (rw s (c .before .before .before .before .before .before .before .before .pre .1 .1 .0), rw s (written-fits (members-step _ _ _ _ (c .before .before .loop-test .taken)) (c .before .before .before .loop .inv .3)))))
+put-row-requires c κs = let s = region-later (c .before .before .before .before .before .before .before .before .args .n) transit (c .before .before .before .before .before .before .before .before .args .work .now) (c .before .before .before .loop .work) (omega arith) (c .before .before .before .loop .inv .2) in (search needs, (roads-from (c .before .before .before .before .before .before .before .before .args .edges .now) (c .before .before .before .before .before .before .before .before .args .closed .now) (c .before .before .before .before .before .before .before .before .args .n) (c .before .before .before .before .before .before .before .before .args .work .now) (c .before .before .before .loop .work) (3 * c .before .before .before .before .before .before .before .before .args .n) (omega arith) (c .before .before .before .loop .inv .2) (c .before .before .before .before .before .before .before .before .pre .1 .0), (rw s (c .before .before .before .before .before .before .before .before .pre .1 .1 .0), rw s (written-fits (members-step _ _ _ _ (c .before .before .loop-test .taken)) (c .before .before .before .loop .inv .3)))))
 
 add-v : tie.Need-add-v Inv-loop μ-loop
 add-v c = search needs

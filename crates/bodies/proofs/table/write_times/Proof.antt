@@ -1,13 +1,18 @@
 -- `bodies::table::write_times` meets its contract. Assumes nothing.
+use borrow.Author.Needs.{needs}
 use mathlib.Core.Path.{sym}
 use lib.Seq.{length-take-le}
-use borrow.Author.Needs.{needs}
+use Rattle.layout.specs.Regions.{transit}
+use Rattle.layout.proofs.Windows.{set-is}
 use Rattle.bodies.proofs.Tables.{row-room, row-written}
 use Rattle.bodies.proofs.table.write_times.Statement.{statement}
 use Rattle.bodies.proofs.table.write_times.Tie as tie
 
-mul-a : tie.Need-mul-a
-mul-a c = search needs
+region-at-requires : tie.Need-region-at-requires
+region-at-requires c κs = search needs
+
+set-words-requires : tie.Need-set-words-requires
+set-words-requires c κs = search needs
 
 add-e : tie.Need-add-e
 add-e c = search needs
@@ -31,7 +36,7 @@ part-write-row-end : tie.Need-part-write-row-end
 part-write-row-end c = search needs
 
 slice-aggregate-write-row : tie.Need-slice-aggregate-write-row
-slice-aggregate-write-row c = let a = c .before .before .before .before .args in sym (length-take-le (a .n) (a .work .now) (search needs))
+slice-aggregate-write-row c = let a = c .before .before .before .before .before .before .args in sym (length-take-le (a .n) (a .work .now) (search needs))
 
 sub-write-row-2 : tie.Need-sub-write-row-2
 sub-write-row-2 c = search needs
@@ -43,19 +48,26 @@ part-write-row-end-2 : tie.Need-part-write-row-end-2
 part-write-row-end-2 c = search needs
 
 write-row-requires : tie.Need-write-row-requires
-write-row-requires c κs = let a = c .before .before .before .before .before .args in row-room (a .n) (a .at) (a .t) (a .work .now) (a .out .now) (c .before .before .before .before .before .pre .0) (c .before .before .before .before .before .pre .1) (c .before .before .before .before .before .pre .2)
+write-row-requires c κs =
+    let a = c .before .before .before .before .before .before .before .args in
+    let p = c .before .before .before .before .before .before .before .pre in
+    row-room (a .n) (a .at) (a .t) (a .work .now) (a .out .now) (p .0) (p .1) (p .2) (p .3) _ (set-is (a .n) transit _ _ (a .work .now) (c .before .before .before .before .region-at .ensures) (c .before .before .before .set-words .ensures))
 
 same-length : tie.Need-same-length
 same-length c = search needs
 
 returns : tie.Need-returns
-returns c = let a = c .before .before .before .before .before .before .before .before .args in row-written (a .n) (a .at) (a .t) (a .work .now) (a .out .now) (c .before .before .before .before .before .before .before .before .pre .0) (c .before .before .before .before .before .before .before .before .pre .1) (c .before .before .before .before .before .before .before .before .pre .2) (c .before .before .write-row .last .1 .1 .1 .0) (c .before .before .write-row .kept .1 .1 .1 .0) (c .before .before .write-row .ensures)
+returns c =
+    let a = c .before .before .before .before .before .before .before .before .before .before .args in
+    let p = c .before .before .before .before .before .before .before .before .before .before .pre in
+    row-written (a .n) (a .at) (a .t) (a .work .now) (a .out .now) (p .0) (p .1) (p .2) (p .3) _ (set-is (a .n) transit _ _ (a .work .now) (c .before .before .before .before .before .before .before .region-at .ensures) (c .before .before .before .before .before .before .set-words .ensures)) (c .before .before .write-row .last .1 .1 .1 .0) (c .before .before .write-row .kept .1 .1 .1 .0) (c .before .before .write-row .ensures)
 
 pub write-times-spec : {M : Type 1} → statement M
 write-times-spec =
     tie.close
     (tie.spec
-    mul-a
+    region-at-requires
+    set-words-requires
     add-e
     mul-end
     add-end

@@ -1,11 +1,16 @@
 -- `builder::parts::put_transit` meets its contract. Assumes nothing.
 use borrow.Author.Needs.{needs}
+use Rattle.layout.specs.Regions.{transit}
+use Rattle.layout.proofs.Windows.{set-is}
 use Rattle.builder.proofs.Pieces.{numbers-room, numbers-written}
 use Rattle.builder.proofs.parts.put_transit.Statement.{statement}
 use Rattle.builder.proofs.parts.put_transit.Tie as tie
 
-mul-a : tie.Need-mul-a
-mul-a c = search needs
+region-at-requires : tie.Need-region-at-requires
+region-at-requires c κs = search needs
+
+set-words-requires : tie.Need-set-words-requires
+set-words-requires c κs = search needs
 
 add-e : tie.Need-add-e
 add-e c = search needs
@@ -38,19 +43,27 @@ part-write-numbers-end-2 : tie.Need-part-write-numbers-end-2
 part-write-numbers-end-2 c = search needs
 
 write-numbers-requires : tie.Need-write-numbers-requires
-write-numbers-requires c κs = let a = c .before .before .before .before .args in let r = numbers-room (a .n) (a .t) (a .at) (a .work .now) (a .out .now) (c .before .before .before .before .pre .1) (c .before .before .before .before .pre .2) (c .before .before .before .before .pre .3) in (c .before .before .before .before .pre .0, r .0, r .1)
+write-numbers-requires c κs =
+    let a = c .before .before .before .before .before .before .args in
+    let p = c .before .before .before .before .before .before .pre in
+    let r = numbers-room (a .n) (a .t) (a .at) (a .work .now) (a .out .now) (p .1) (p .2) (p .3) (p .4) _ (set-is (a .n) transit _ _ (a .work .now) (c .before .before .before .region-at .ensures) (c .before .before .set-words .ensures)) in
+    (p .0, r .0, r .1)
 
 same-length : tie.Need-same-length
 same-length c = search needs
 
 returns : tie.Need-returns
-returns c = let a = c .before .before .before .before .before .before .before .args in numbers-written (a .n) (a .t) (a .at) (a .work .now) (a .out .now) (c .before .before .before .before .before .before .before .pre .1) (c .before .before .before .before .before .before .before .pre .2) (c .before .before .before .before .before .before .before .pre .3) (c .before .before .write-numbers .last .1 .1 .0) (c .before .before .write-numbers .kept .1 .1 .0) (c .before .before .write-numbers .ensures)
+returns c =
+    let a = c .before .before .before .before .before .before .before .before .before .args in
+    let p = c .before .before .before .before .before .before .before .before .before .pre in
+    numbers-written (a .n) (a .t) (a .at) (a .work .now) (a .out .now) (p .1) (p .2) (p .3) (p .4) _ (set-is (a .n) transit _ _ (a .work .now) (c .before .before .before .before .before .before .region-at .ensures) (c .before .before .before .before .before .set-words .ensures)) (c .before .before .write-numbers .last .1 .1 .0) (c .before .before .write-numbers .kept .1 .1 .0) (c .before .before .write-numbers .ensures)
 
 pub put-transit-spec : {M : Type 1} → statement M
 put-transit-spec =
     tie.close
     (tie.spec
-    mul-a
+    region-at-requires
+    set-words-requires
     add-e
     mul-end
     add-end

@@ -3,7 +3,8 @@ use Prim.Native.Nat.{_*_}
 use native.Mathlib.Omega.{arith}
 use mathlib.Core.Path.{_∙_}
 use borrow.Author.Needs.{needs}
-use Rattle.access.proofs.Windows.{drop-more}
+use Rattle.layout.specs.Regions.{regionAt, transit}
+use Rattle.layout.proofs.Windows.{drop-more}
 use Rattle.builder.proofs.Joins.{transit-room, access-room, table-room, back-written}
 use Rattle.builder.proofs.whole.put_back.Statement.{statement}
 use Rattle.builder.proofs.whole.put_back.Tie as tie
@@ -24,7 +25,7 @@ same-length-2 : tie.Need-same-length-2
 same-length-2 c = search needs
 
 returns : tie.Need-returns
-returns c = let a = c .before .before .before .before .before .before .before .before .before .before .before .before .before .before .before .before .before .before .before .before .before .before .before .before .args in (back-written (a .nodes .now) (a .edges .now) (a .closed .now) (a .grid) (a .n) (a .t) (a .a) (a .work .now) (c .before .before .before .before .before .before .before .before .before .before .before .before .before .before .before .before .before .before .before .before .before .before .before .before .pre .0) (a .at) _ (a .out .now) _ (c .before .before .before .before .before .before .before .before .before .before .before .before .before .before .before .before .put-transit .ensures) (c .before .before .before .before .before .before .before .before .before .before .before .before .before .before .before .before .before .before .before .before .before .before .before .before .pre .1) _ (search needs) (c .before .before .before .before .before .before .before .before .before .before .before .access-part .ensures .1) _ _ (c .before .before .before .before .before .before .before .before .before .before .before .access-part .ensures .0) (search needs) (c .before .before .before .before .table-part .ensures .0), drop-more (3 * a .n) (6 * a .n) _ _ (omega arith) (c .before .before .before .before .table-part .ensures .1) ∙ c .before .before .before .before .before .before .before .before .before .before .before .access-part .ensures .1)
+returns c = let a = c .before .before .before .before .before .before .before .before .before .before .before .before .before .before .before .before .before .before .before .before .before .before .before .before .args in (back-written (a .nodes .now) (a .edges .now) (a .closed .now) (a .grid) (a .n) (a .t) (a .a) (a .work .now) (c .before .before .before .before .before .before .before .before .before .before .before .before .before .before .before .before .before .before .before .before .before .before .before .before .pre .0) (a .at) _ (a .out .now) _ (c .before .before .before .before .before .before .before .before .before .before .before .before .before .before .before .before .put-transit .ensures) (c .before .before .before .before .before .before .before .before .before .before .before .before .before .before .before .before .before .before .before .before .before .before .before .before .pre .1) _ (search needs) (c .before .before .before .before .before .before .before .before .before .before .before .access-part .ensures .1) _ _ (c .before .before .before .before .before .before .before .before .before .before .before .access-part .ensures .0) (search needs) (c .before .before .before .before .table-part .ensures .0), drop-more (3 * a .n) (regionAt (a .n) transit) _ _ (omega arith) (c .before .before .before .before .table-part .ensures .1) ∙ c .before .before .before .before .before .before .before .before .before .before .before .access-part .ensures .1)
 
 pub put-back-spec : {M : Type 1} → statement M
 put-back-spec =

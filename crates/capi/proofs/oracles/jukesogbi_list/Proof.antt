@@ -1,3 +1,4 @@
+-- `oracles::jukesogbi_list` meets its contract.
 use mathlib.Core.Path.{sym, _∙_}
 use Rattle.model.specs.Calls.{listRefusal}
 use Rattle.query.proofs.Kept.{list-kept}

@@ -1,3 +1,4 @@
+-- `oracles::jukesogbi_time` meets its contract.
 use mathlib.Core.Path.{_∙_, ap}
 use Rattle.capi.specs.Replies.{reply}
 use borrow.Author.Needs.{needs}

@@ -1,3 +1,4 @@
+-- `oracles::kind_number` meets its contract.
 use Rattle.capi.specs.Replies.{kindNumber}
 use borrow.Author.Needs.{needs}
 use Rattle.capi.proofs.oracles.kind_number.Statement.{statement}

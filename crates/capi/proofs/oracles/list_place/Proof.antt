@@ -1,3 +1,4 @@
+-- `oracles::list_place` meets its contract.
 use mathlib.Core.Path.{_∙_}
 use Rattle.model.specs.Contents.{entryAt}
 use Rattle.capi.proofs.Places.{long, start-within, place}

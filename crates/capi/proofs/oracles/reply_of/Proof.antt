@@ -1,3 +1,4 @@
+-- `oracles::reply_of` meets its contract.
 use Rattle.capi.specs.Replies.{reply}
 use borrow.Author.Needs.{needs}
 use Rattle.capi.proofs.oracles.reply_of.Statement.{statement}

@@ -1,5 +1,6 @@
 -- `program::print_listing` meets its contract. Assumes nothing.
 use Rattle.model.specs.Rules.{wellShaped}
+use Rattle.lines.proofs.Sizes.{words-enough}
 use borrow.Author.Tests.{eq-eqb}
 use mathlib.Core.Path.{sym, _∙_}
 use borrow.Author.Needs.{needs}
@@ -22,9 +23,12 @@ print-header-requires : tie.Need-print-header-requires
 unfolding wellShaped
 print-header-requires c κs = (eq-eqb _ _ (sym (c .before .before .shape-refusal .ensures) ∙ c .before .if1 .left), search needs)
 
-print-rows-requires : tie.Need-print-rows-requires
+open-words-requires : tie.Need-open-words-requires
 unfolding wellShaped
-print-rows-requires c κs = (eq-eqb _ _ (sym (c .before .before .before .before .before .before .before .shape-refusal .ensures) ∙ c .before .before .before .before .before .before .if1 .left), search needs, search needs)
+open-words-requires c κs = (eq-eqb _ _ (sym (c .before .before .before .before .before .before .shape-refusal .ensures) ∙ c .before .before .before .before .before .if1 .left), words-enough _ _ (c .before .before .before .before .before .before .before .before .before .before .pre .0))
+
+print-rows-requires : tie.Need-print-rows-requires
+print-rows-requires c κs = (c .before .before .before .before .open-words .ensures .0, search needs)
 
 same-length-2 : tie.Need-same-length-2
 same-length-2 c = search needs
@@ -44,6 +48,7 @@ print-listing-spec =
     same-length
     returns
     print-header-requires
+    open-words-requires
     print-rows-requires
     same-length-2
     same-length-3

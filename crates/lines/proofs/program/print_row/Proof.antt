@@ -1,5 +1,5 @@
 -- `program::print_row` meets its contract. Assumes nothing.
-use Rattle.lines.proofs.Sizes.{words-enough, room-row}
+use Rattle.lines.proofs.Sizes.{room-row}
 use lib.Seq.{length-take-le}
 use mathlib.Core.Path.{sym}
 use borrow.Author.Needs.{needs}
@@ -7,13 +7,13 @@ use Rattle.lines.proofs.program.print_row.Statement.{statement}
 use Rattle.lines.proofs.program.print_row.Tie as tie
 
 write-row-requires : tie.Need-write-row-requires
-write-row-requires c κs = (c .before .before .before .before .before .pre .0, c .before .before .before .before .before .pre .1, words-enough _ _ (c .before .before .before .before .before .pre .2), room-row _ _ _ (c .before .before .before .before .before .pre .3))
+write-row-requires c κs = (c .before .before .before .before .before .pre .0, c .before .before .before .before .before .pre .1, room-row _ _ _ (c .before .before .before .before .before .pre .2))
 
 slice-reshare-prefix-write-all : tie.Need-slice-reshare-prefix-write-all
 slice-reshare-prefix-write-all c = search needs
 
 slice-aggregate-write-all : tie.Need-slice-aggregate-write-all
-slice-aggregate-write-all c = sym (length-take-le _ _ (c .before .before .before .before .before .write-row .ensures .within))
+slice-aggregate-write-all c = sym (length-take-le _ _ (c .before .before .before .before .before .write-row .ensures .0 .within))
 
 write-all-requires : tie.Need-write-all-requires
 write-all-requires c κs = search needs
@@ -25,7 +25,7 @@ same-length-2 : tie.Need-same-length-2
 same-length-2 c = search needs
 
 returns : tie.Need-returns
-returns c = search needs
+returns c = c .before .before .before .before .before .before .write-row .ensures .1
 
 pub print-row-spec : {M : Type 1} → statement M
 print-row-spec =

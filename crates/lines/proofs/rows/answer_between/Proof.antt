@@ -8,14 +8,14 @@ use borrow.Author.Needs.{needs}
 use Rattle.lines.proofs.rows.answer_between.Statement.{statement}
 use Rattle.lines.proofs.rows.answer_between.Tie as tie
 
-kind-between-requires : tie.Need-kind-between-requires
-kind-between-requires c κs = search needs
+opened-kind-requires : tie.Need-opened-kind-requires
+opened-kind-requires c κs = search needs
 
 enum-told : tie.Need-enum-told
 enum-told c = search needs
 
 far-of-requires : tie.Need-far-of-requires
-far-of-requires c κs = search needs
+far-of-requires c κs = (c .before .before .before .before .before .pre .0 .shape, c .before .before .before .before .before .pre .1, c .before .before .before .before .before .pre .2)
 
 enum-told-2 : tie.Need-enum-told-2
 enum-told-2 c = search needs
@@ -31,17 +31,17 @@ answer-of-requires c κs = search needs
 
 returns : tie.Need-returns
 unfolding timeAnswer answerOf
-returns c = rw (sym (c .before .before .before .kind-between .ensures) ∙ c .before .enum-told .given .1) (c .far-of .ensures)
+returns c = rw (sym (c .before .before .before .opened-kind .ensures) ∙ c .before .enum-told .given .1) (c .far-of .ensures)
 
 returns-2 : tie.Need-returns-2
 unfolding timeAnswer answerOf
-returns-2 c = rw (sym (c .before .before .before .before .kind-between .ensures) ∙ c .before .before .enum-told2 .given .1) (c .answer-of .ensures ∙ local-is _ (all-shaped _ (c .before .before .before .before .before .before .before .pre .0)) _ _ _ (c .before .before .before .before .before .before .before .pre .1) (word-of _ _ _ _ (c .before .before .before .before .before .before .before .pre .3) (c .before .before .before .before .before .before .before .pre .2)))
+returns-2 c = rw (sym (c .before .before .before .before .opened-kind .ensures) ∙ c .before .before .enum-told2 .given .1) (c .answer-of .ensures ∙ local-is _ (all-shaped _ (c .before .before .before .before .before .before .before .pre .0 .shape)) _ _ _ (c .before .before .before .before .before .before .before .pre .1) (word-of _ _ _ _ (c .before .before .before .before .before .before .before .pre .3) (c .before .before .before .before .before .before .before .pre .2)))
 
 pub answer-between-spec : {M : Type 1} → statement M
 answer-between-spec =
     tie.close
     (tie.spec
-    kind-between-requires
+    opened-kind-requires
     enum-told
     far-of-requires
     enum-told-2

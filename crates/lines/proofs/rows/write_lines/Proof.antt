@@ -17,7 +17,7 @@ abbrev μ-loop : tie.MeasureT-loop
 μ-loop o s work out₀ n at₀ t₀ out at t = n - t
 
 node-count-requires : tie.Need-node-count-requires Inv-loop μ-loop
-node-count-requires c κs = search needs
+node-count-requires c κs = c .before .before .before .pre .0 .shape
 
 add-t : tie.Need-add-t Inv-loop μ-loop
 add-t c = omega (arith, c .node-count .ensures)

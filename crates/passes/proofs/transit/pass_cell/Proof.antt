@@ -1,11 +1,10 @@
 -- `transit::pass_cell` meets its contract: the first node of a cell sees to all its nodes, and another to none.
-use Prim.Native.Nat.{_*_}
 use native.Mathlib.Omega.{arith}
 use mathlib.Core.Path.{refl, sym, _∙_}
 use borrow.Author.Needs.{needs}
 use lib.ListN.{drop}
 use Rattle.crossing.specs.SetLaws.{ones-most}
-use Rattle.access.specs.Regions.{own}
+use Rattle.layout.specs.Regions.{regionAt, own}
 use Rattle.passes.proofs.Passing.{passed-next, passed-later}
 use Rattle.passes.proofs.transit.pass_cell.Statement.{statement}
 use Rattle.passes.proofs.transit.pass_cell.Tie as tie
@@ -27,7 +26,7 @@ put-counts-requires c κs =
     let a = c .before .before .before .before .before .before .before .before .before .before .before .before .before .before .before .before .before .args in
     let p = c .before .before .before .before .before .before .before .before .before .before .before .before .before .before .before .before .before .pre .0 in
     let x = c .before .before .before .before .before .before .before .before .before .own-access .last .1 .1 .1 .1 .1 .1 .0 in
-    (p .0 .over, p .1, p .2, p .3, omega (arith, c .before .before .before .before .before .count .ensures, ones-most (a .n) (drop (own * a .n) x)), omega (arith, p .4, c .before .before .before .before .before .before .before .before .before .own-access .kept .1 .1 .1 .1 .1 .1 .0, c .before .before .before .unite .kept .0))
+    (p .0 .over, p .1, p .2, p .3, omega (arith, c .before .before .before .before .before .count .ensures, ones-most (a .n) (drop (regionAt (a .n) own) x)), omega (arith, p .4, c .before .before .before .before .before .before .before .before .before .own-access .kept .1 .1 .1 .1 .1 .1 .0, c .before .before .before .unite .kept .0))
 
 same-length : tie.Need-same-length
 same-length c = search needs
@@ -36,12 +35,12 @@ returns : tie.Need-returns
 returns c =
     let a = c .before .before .before .before .before .before .before .before .before .before .before .before .before .before .before .before .before .before .before .before .args in
     let p = c .before .before .before .before .before .before .before .before .before .before .before .before .before .before .before .before .before .before .before .before .pre in
-    passed-next (a .nodes .now) (a .edges .now) (a .closed .now) (a .grid) (a .n) (a .u) (p .0 .3) (a .work .now) _ _ _ (p .1) (c .before .before .before .before .before .before .before .before .before .before .before .before .own-access .ensures .0) (c .before .before .before .before .before .before .before .before .before .before .before .before .own-access .ensures .1) (c .before .before .before .before .before .before .unite .ensures .0) (c .before .before .before .before .before .before .unite .ensures .1) _ (c .before .before .before .before .before .before .before .before .count .ensures) (c .before .before .put-counts .ensures .0) (c .before .before .put-counts .ensures .1)
+    passed-next (a .nodes .now) (a .edges .now) (a .closed .now) (a .grid) (a .n) (a .u) (p .0 .3) (a .work .now) _ _ _ (p .1 .0) (c .before .before .before .before .before .before .before .before .before .before .before .before .own-access .ensures .0) (c .before .before .before .before .before .before .before .before .before .before .before .before .own-access .ensures .1) (c .before .before .before .before .before .before .unite .ensures .0) (c .before .before .before .before .before .before .unite .ensures .1) _ (c .before .before .before .before .before .before .before .before .count .ensures) (c .before .before .put-counts .ensures .0) (c .before .before .put-counts .ensures .1)
 
 returns-2 : tie.Need-returns-2
 returns-2 c =
     let a = c .before .before .before .before .before .before .args in
-    (passed-later (a .nodes .now) (a .edges .now) (a .closed .now) (a .grid) (a .n) (a .u) (a .work .now) (c .before .before .before .before .before .before .pre .1) (sym (c .if1 .left) ∙ c .before .first-of-cell .ensures), refl)
+    (passed-later (a .nodes .now) (a .edges .now) (a .closed .now) (a .grid) (a .n) (a .u) (a .work .now) (c .before .before .before .before .before .before .pre .1 .0) (sym (c .if1 .left) ∙ c .before .first-of-cell .ensures), refl)
 
 pub pass-cell-spec : {M : Type 1} → statement M
 pass-cell-spec =

@@ -9,10 +9,13 @@ use Rattle.passes.proofs.transit.put_counts.Statement.{statement}
 use Rattle.passes.proofs.transit.put_counts.Tie as tie
 
 abbrev Inv-loop : tie.InvT-loop
-Inv-loop nodes grid n u k work₀ v₀ work v = Counting (sameCell (cellsIn grid nodes) u) n k work₀ v work
+Inv-loop nodes grid n u k work₀ square v₀ work v = Counting (sameCell (cellsIn grid nodes) u) n k work₀ v work
 
 abbrev μ-loop : tie.MeasureT-loop
-μ-loop nodes grid n u k work₀ v₀ work v = n - v
+μ-loop nodes grid n u k work₀ square v₀ work v = n - v
+
+cell-square-requires : tie.Need-cell-square-requires Inv-loop μ-loop
+cell-square-requires c κs = search needs
 
 loop-holds : tie.Need-loop-holds Inv-loop μ-loop
 loop-holds c = first _ _ _ _
@@ -43,6 +46,7 @@ put-counts-spec =
     (tie.spec
     Inv-loop
     μ-loop
+    cell-square-requires
     loop-holds
     put-count-requires
     add-v

@@ -1,3 +1,4 @@
+-- `calls::far` meets its contract.
 use Rattle.query.proofs.Answers.{answer-refused, answer-given}
 use Rattle.query.proofs.Kept.{far-kept}
 use Rattle.model.specs.Calls.{farResult}

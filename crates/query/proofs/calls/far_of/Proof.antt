@@ -1,6 +1,6 @@
+-- `calls::far_of` meets its contract.
 use Rattle.tables.specs.Oracles.{has-list, has-table, far-of}
 use Rattle.theory.specs.Passed.{all-shaped}
-use mathlib.Core.Path.{_∙_, sym}
 use borrow.Author.Needs.{needs}
 use Rattle.query.proofs.calls.far_of.Statement.{statement}
 use Rattle.query.proofs.calls.far_of.Tie as tie

@@ -1,9 +1,10 @@
+-- `calls::list` meets its contract.
 use Rattle.query.proofs.Answers.{part-refused, part-given}
 use Rattle.query.proofs.Kept.{list-kept}
 use Rattle.tables.specs.Oracles.{has-list, list-of}
 use Rattle.theory.specs.Passed.{all-shaped}
 use Rattle.model.specs.Calls.{listResult, listRefusal}
-use mathlib.Core.Path.{_∙_, sym, ap}
+use mathlib.Core.Path.{_∙_, sym}
 use native.Mathlib.Omega.{arith}
 use borrow.Author.Needs.{needs}
 use Rattle.query.proofs.calls.list.Statement.{statement}

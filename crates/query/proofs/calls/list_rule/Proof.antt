@@ -1,3 +1,4 @@
+-- `calls::list_rule` meets its contract.
 use Rattle.model.specs.Calls.{listRefusal}
 use borrow.Author.Needs.{needs}
 use Rattle.query.proofs.calls.list_rule.Statement.{statement}

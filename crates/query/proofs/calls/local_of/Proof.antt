@@ -1,6 +1,7 @@
-use Rattle.query.proofs.Answers.{local-is}
-use Rattle.theory.specs.Passed.{all-shaped}
+-- `calls::local_of` meets its contract.
 use mathlib.Core.Path.{_∙_}
+use Rattle.theory.specs.Passed.{all-shaped}
+use Rattle.query.proofs.Answers.{local-is}
 use borrow.Author.Needs.{needs}
 use Rattle.query.proofs.calls.local_of.Statement.{statement}
 use Rattle.query.proofs.calls.local_of.Tie as tie
@@ -15,7 +16,7 @@ same-length : tie.Need-same-length
 same-length c = search needs
 
 returns : tie.Need-returns
-returns c = (c .answer-of .ensures ∙ local-is _ (all-shaped _ (c .before .before .before .before .before .before .before .pre .0)) _ _ _ (c .before .before .before .before .before .before .before .pre .1) (c .before .before .before .local-seconds .ensures .0), c .before .before .before .local-seconds .ensures .1)
+returns c = (c .answer-of .ensures ∙ local-is _ (all-shaped _ (c .before .before .before .before .before .before .before .pre .0 .shape)) _ _ _ (c .before .before .before .before .before .before .before .pre .1) (c .before .before .before .local-seconds .ensures .0), c .before .before .before .local-seconds .ensures .1)
 
 pub local-of-spec : {M : Type 1} → statement M
 local-of-spec = tie.close (tie.spec local-seconds-requires answer-of-requires same-length returns)

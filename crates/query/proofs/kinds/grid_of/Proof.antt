@@ -1,3 +1,4 @@
+-- `kinds::grid_of` meets its contract.
 use native.Mathlib.Omega.{arith}
 use mathlib.Core.Path.{_∙_, ap}
 use lib.ListN.{length}

@@ -1,3 +1,4 @@
+-- `kinds::is_local` meets its contract.
 use Rattle.model.specs.Rules.{isLocal}
 use borrow.Author.Needs.{needs}
 use Rattle.query.proofs.kinds.is_local.Statement.{statement}

@@ -1,3 +1,4 @@
+-- `kinds::kind_in` meets its contract.
 use mathlib.Core.Path.{_∙_}
 use Rattle.theory.specs.Passed.{all-shaped}
 use Rattle.query.proofs.Cells.{over-oracle, kind-is}

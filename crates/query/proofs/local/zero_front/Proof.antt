@@ -1,3 +1,4 @@
+-- `local::zero_front` meets its contract.
 use Rattle.query.proofs.Words.{cleared-front}
 use lib.Seq.{length-take-le}
 use mathlib.Core.Path.{sym}

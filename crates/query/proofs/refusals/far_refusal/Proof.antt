@@ -1,3 +1,4 @@
+-- `refusals::far_refusal` meets its contract.
 use Rattle.query.proofs.Kept.{pair-kept}
 use Rattle.theory.specs.BuiltCalls.{pair-counted}
 use Rattle.theory.specs.Firsts.{first-stays, one-broken, one-kept}

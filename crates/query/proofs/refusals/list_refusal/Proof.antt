@@ -1,9 +1,9 @@
+-- `refusals::list_refusal` meets its contract.
 use Rattle.query.proofs.Kept.{shaped, node-missing, node-there}
 use Rattle.theory.specs.Passed.{shape-counted}
 use Rattle.theory.specs.Firsts.{first-stays, one-broken, one-kept}
 use Rattle.model.specs.Rules.{shapeRules, listRules}
 use mathlib.Core.Path.{sym, _∙_}
-use native.Mathlib.Omega.{arith}
 use borrow.Author.Needs.{needs}
 use Rattle.query.proofs.refusals.list_refusal.Statement.{statement}
 use Rattle.query.proofs.refusals.list_refusal.Tie as tie

@@ -1,7 +1,7 @@
+-- `refusals::work_too_small` meets its contract.
 use Rattle.theory.specs.Sound.{node-bytes}
 use Rattle.theory.specs.Passed.{all-shaped}
 use Rattle.model.specs.Rules.{workTooSmall, wordsNeeded}
-use mathlib.Core.Path.{_∙_}
 use native.Mathlib.Omega.{arith}
 use borrow.Author.Needs.{needs}
 use Rattle.query.proofs.refusals.work_too_small.Statement.{statement}

@@ -1,9 +1,7 @@
-use Rattle.query.proofs.WayLaws.{way-is}
-use Rattle.theory.specs.Sound.{node-bytes}
+-- `ways::put_way` meets its contract.
+use Rattle.model.specs.Rules.{wordsNeeded}
 use Rattle.theory.specs.Passed.{all-shaped}
-use lib.Seq.{length-take-le}
-use lib.ListN.{length}
-use mathlib.Core.Path.{sym, _∙_, ap}
+use Rattle.theory.specs.Sound.{node-bytes}
 use native.Mathlib.Omega.{arith}
 use borrow.Author.Needs.{needs}
 use Rattle.query.proofs.ways.put_way.Statement.{statement}
@@ -18,17 +16,15 @@ oracle-body-requires c κs = search needs
 oracle-body-requires-2 : tie.Need-oracle-body-requires-2
 oracle-body-requires-2 c κs = search needs
 
-slice-aggregate-write-whole : tie.Need-slice-aggregate-write-whole
-slice-aggregate-write-whole c = sym (length-take-le (c .before .before .before .node-count .result) (c .before .before .before .before .before .before .before .args .work .now) (omega (arith, c .before .before .before .node-count .ensures, c .before .before .before .before .before .before .before .pre .3 .room)))
-
 write-whole-requires : tie.Need-write-whole-requires
-write-whole-requires c κs = let a = c .before .before .before .before .before .before .before .before .args in let k = all-shaped _ (c .before .before .before .before .before .before .before .before .pre .0) .sound in let e = length-take-le (c .before .before .before .before .node-count .result) (a .work .now) (omega (arith, c .before .before .before .before .node-count .ensures, c .before .before .before .before .before .before .before .before .pre .3 .room)) in ((omega (arith, e, c .before .before .before .before .node-count .ensures), omega (arith, e, c .before .before .before .before .node-count .ensures, node-bytes _ k .0), rw (c .before .before .before .oracle-body .ensures, c .before .before .oracle-body2 .ensures, c .before .before .before .before .node-count .ensures, c .before .before .before .before .before .before .before .before .pre .3 .times, way-is (a .o .now) (all-shaped _ (c .before .before .before .before .before .before .before .before .pre .0)) (a .t) (c .before .before .before .before .before .before .before .before .pre .2) (a .s)) (c .before .before .before .before .before .before .before .before .pre .4)), (rw (e, c .before .before .before .before .node-count .ensures, c .before .before .before .oracle-body .ensures) (k .some-edge), rw (c .before .before .before .oracle-body .ensures, c .before .before .oracle-body2 .ensures) (k .closed)))
+unfolding wordsNeeded
+write-whole-requires c κs = let k = all-shaped _ (c .before .before .before .before .before .before .before .pre .0 .shape) .sound in ((omega (arith, c .before .before .before .node-count .ensures, c .before .before .before .before .before .before .before .pre .1), omega (arith, c .before .before .before .node-count .ensures, node-bytes _ k .0), omega (arith, c .before .before .before .node-count .ensures, c .before .before .before .before .before .before .before .pre .0 .room), rw (c .before .before .before .node-count .ensures, c .before .before .oracle-body .ensures, c .before .oracle-body2 .ensures, c .before .before .before .before .before .before .before .pre .2 .goes) (c .before .before .before .before .before .before .before .pre .3)), rw (c .before .before .before .node-count .ensures, c .before .before .oracle-body .ensures, c .before .oracle-body2 .ensures) (c .before .before .before .before .before .before .before .pre .0 .roads))
 
 same-length : tie.Need-same-length
 same-length c = search needs
 
 returns : tie.Need-returns
-returns c = let a = c .before .before .before .before .before .before .before .before .before .before .before .args in rw (← way-is (a .o .now) (all-shaped _ (c .before .before .before .before .before .before .before .before .before .before .before .pre .0)) (a .t) (c .before .before .before .before .before .before .before .before .before .before .before .pre .2) (a .s), ← c .before .before .before .before .before .before .before .before .before .before .before .pre .3 .times, ← c .before .before .before .before .before .before .before .node-count .ensures, ← c .before .before .before .before .before .before .oracle-body .ensures, ← c .before .before .before .before .before .oracle-body2 .ensures) (c .before .before .write-whole .ensures)
+returns c = rw (← c .before .before .before .before .before .before .before .before .before .before .pre .2 .goes, ← c .before .before .before .before .before .before .node-count .ensures, ← c .before .before .before .before .before .oracle-body .ensures, ← c .before .before .before .before .oracle-body2 .ensures) (c .before .before .write-whole .ensures)
 
 pub put-way-spec : {M : Type 1} → statement M
 put-way-spec =
@@ -37,7 +33,6 @@ put-way-spec =
     node-count-requires
     oracle-body-requires
     oracle-body-requires-2
-    slice-aggregate-write-whole
     write-whole-requires
     same-length
     returns)

@@ -1,41 +1,78 @@
--- `front::search_front` meets its contract: what the search leaves in the words that it was lent.
+-- `front::search_front` meets its contract: the theory's state holds between the rounds, and e falls with each.
 use Prim.Native.Nat.{_*_}
-use mathlib.Core.Path.{sym}
+use native.Mathlib.Omega.{arith}
+use mathlib.Core.Path.{_≡_, refl, _∙_}
 use borrow.Author.Needs.{needs}
-use lib.Seq.{length-take-le}
-use Rattle.search.proofs.Fronts.{found-in, found-others}
+use lib.ListN.{length, drop}
+use Rattle.arcs.specs.Arcs.{arcsIn}
+use Rattle.search.specs.Regions.{frontIn}
+use Rattle.search.proofs.Cursors.{roads-kept}
+use Rattle.search.proofs.Turns.{Standing, standing-first, first, next, last}
 use Rattle.search.proofs.front.search_front.Statement.{statement}
 use Rattle.search.proofs.front.search_front.Tie as tie
 
-mul-m : tie.Need-mul-m
-mul-m c = search needs
+abbrev Inv-loop : tie.InvT-loop
+Inv-loop edges closed n s work₀ k₀ e₀ work k e = (length work ≡ length work₀) × (drop (3 * n) work ≡ drop (3 * n) work₀) × Standing (arcsIn edges closed) n s k e (frontIn n work)
 
-slice-relend-prefix-search : tie.Need-slice-relend-prefix-search
-slice-relend-prefix-search c = search needs
+abbrev μ-loop : tie.MeasureT-loop
+μ-loop edges closed n s work₀ k₀ e₀ work k e = e
 
-slice-aggregate-search : tie.Need-slice-aggregate-search
-slice-aggregate-search c = let a = c .before .before .before .before .args in sym (length-take-le (3 * a .n) (a .work .now) (search needs))
+begin-requires : tie.Need-begin-requires Inv-loop μ-loop
+begin-requires c κs = search needs
 
-search-requires : tie.Need-search-requires
-search-requires c κs = let a = c .before .before .before .before .args in rw (length-take-le (3 * a .n) (a .work .now) (search needs)) (search needs)
+loop-holds : tie.Need-loop-holds Inv-loop μ-loop
+loop-holds c =
+    let a = c .before .before .before .before .before .before .before .args in
+    let p = c .before .before .before .before .before .before .before .pre in
+    let r = c .before .before .begin .ensures in
+    (refl, refl, first (a .edges .now) (a .closed .now) (a .n) (a .s) (p .0 .0) (p .0 .1) (p .1 .ends) _ _ (r .0) (r .1 .0) (r .1 .1 .0))
 
-same-length : tie.Need-same-length
+round-requires : tie.Need-round-requires Inv-loop μ-loop
+round-requires c κs =
+    let a = c .before .before .before .before .before .before .before .before .before .before .args in
+    let p = c .before .before .before .before .before .before .before .before .before .before .pre in
+    let l = c .before .before .loop in
+    ((l .inv .2 .holds, omega (arith, c .before .loop-test .taken), standing-first (arcsIn (a .edges .now) (a .closed .now)) (a .n) (a .s) (l .k) (l .e) _ (l .inv .2)), (roads-kept (a .edges .now) (a .closed .now) (a .n) (a .work .now) (l .work) (l .inv .1 ∙ c .before .before .before .before .before .begin .ensures .1 .1 .1) (p .1), search needs))
+
+sub-e : tie.Need-sub-e Inv-loop μ-loop
+sub-e c = omega (arith, c .before .before .before .before .before .loop .inv .2 .holds .queue .held, c .before .before .before .before .loop-test .taken)
+
+loop-less : tie.Need-loop-less Inv-loop μ-loop
+loop-less c = omega (arith, c .before .before .before .before .before .loop .inv .2 .holds .queue .held, c .before .before .before .before .loop-test .taken)
+
+loop-again : tie.Need-loop-again Inv-loop μ-loop
+loop-again c =
+    let a = c .before .before .before .before .before .before .before .before .before .before .before .before .before .args in
+    let p = c .before .before .before .before .before .before .before .before .before .before .before .before .before .pre in
+    let l = c .before .before .before .before .before .loop in
+    (search needs, c .before .before .round .ensures .1 ∙ l .inv .1, next (a .edges .now) (a .closed .now) (a .n) (a .s) (p .0 .0) (p .0 .1) (p .1 .ends) (l .k) (l .e) _ (l .inv .2) _ _ (c .before .before .round .ensures .0))
+
+finish-requires : tie.Need-finish-requires Inv-loop μ-loop
+finish-requires c κs = (search needs, c .before .before .loop .inv .2 .holds .queue .room)
+
+same-length : tie.Need-same-length Inv-loop μ-loop
 same-length c = search needs
 
-returns : tie.Need-returns
+returns : tie.Need-returns Inv-loop μ-loop
 returns c =
-    let a = c .before .before .before .before .before .before .before .args in
-    let ys = c .before .before .search .last .1 .1 .1 .1 .0 in
-    let k = c .before .before .search .kept .1 .1 .1 .1 .0 in
-    (found-in (a .n) (a .work .now) ys (search needs) k _ _ _ (c .before .before .search .ensures .1) (c .before .before .search .ensures .0), found-others (a .n) (a .work .now) ys (search needs) k)
+    let a = c .before .before .before .before .before .before .before .before .before .before .before .before .before .args in
+    let p = c .before .before .before .before .before .before .before .before .before .before .before .before .before .pre in
+    let l = c .before .before .before .before .before .loop in
+    let o = c .before .before .finish .ensures in
+    (last (a .edges .now) (a .closed .now) (a .n) (a .s) (p .0 .0) (p .0 .1) (p .1 .ends) (l .k) (l .e) _ (l .inv .2) (omega (arith, c .before .before .before .before .loop-test .left)) _ (o .0) (o .1 .0), o .1 .1 ∙ (l .inv .1 ∙ c .before .before .before .before .before .before .before .before .begin .ensures .1 .1 .1))
 
 pub search-front-spec : {M : Type 1} → statement M
 search-front-spec =
     tie.close
     (tie.spec
-    mul-m
-    slice-relend-prefix-search
-    slice-aggregate-search
-    search-requires
+    Inv-loop
+    μ-loop
+    begin-requires
+    loop-holds
+    round-requires
+    sub-e
+    loop-less
+    loop-again
+    finish-requires
     same-length
     returns)

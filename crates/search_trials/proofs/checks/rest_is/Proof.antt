@@ -6,10 +6,10 @@ use Rattle.search_trials.proofs.checks.rest_is.Statement.{statement}
 use Rattle.search_trials.proofs.checks.rest_is.Tie as tie
 
 abbrev Inv-loop : tie.InvT-loop
-Inv-loop work start x end ok₀ i₀ ok i = Unit {0}
+Inv-loop work start stop x end ok₀ i₀ ok i = Unit {0}
 
 abbrev μ-loop : tie.MeasureT-loop
-μ-loop work start x end ok₀ i₀ ok i = end - i
+μ-loop work start stop x end ok₀ i₀ ok i = end - i
 
 loop-holds : tie.Need-loop-holds Inv-loop μ-loop
 loop-holds c = tt

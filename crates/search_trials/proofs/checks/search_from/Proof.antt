@@ -30,12 +30,15 @@ numbers-broken-requires c κs = search needs
 returns-5 : tie.Need-returns-5
 returns-5 c = search needs
 
-search-front-requires : tie.Need-search-front-requires
+build-index-requires : tie.Need-build-index-requires
 unfolding edgeCount
-search-front-requires c κs = (
-  (omega arith, omega arith, omega arith),
+build-index-requires c κs = (
+  (omega arith, omega arith),
   (sym (c .before .before .before .before .some-edge-broken .ensures) ∙ c .before .before .before .if4 .left, sym (c .before .before .numbers-broken .ensures) ∙ c .before .if5 .left),
 )
+
+search-front-requires : tie.Need-search-front-requires
+search-front-requires c κs = (search needs, c .before .before .before .build-index .ensures .0)
 
 same-length : tie.Need-same-length
 same-length c = search needs
@@ -55,6 +58,7 @@ search-from-spec =
     returns-4
     numbers-broken-requires
     returns-5
+    build-index-requires
     search-front-requires
     same-length
     returns-6)

@@ -1,0 +1,19 @@
+-- `cells::cell_square` meets its contract.
+use Rattle.grid.specs.Stored.{modelCell}
+use Rattle.grid.proofs.Reached.{bounded}
+use Rattle.crossing.proofs.Alike.{cell-square-made}
+use borrow.Author.Needs.{needs}
+use Rattle.crossing.proofs.cells.cell_square.Statement.{statement}
+use Rattle.crossing.proofs.cells.cell_square.Tie as tie
+
+cell-requires : tie.Need-cell-requires
+cell-requires c κs = search needs
+
+square-requires : tie.Need-square-requires
+square-requires c κs = bounded (c .before .before .pre .0)
+
+returns : tie.Need-returns
+returns c = cell-square-made (c .before .before .before .args .grid) (c .before .before .before .args .nodes .now) (c .before .before .before .args .u) (modelCell (c .before .cell .result)) _ (c .before .before .before .pre .0) (c .before .before .before .pre .1) (c .before .cell .ensures) (c .square .ensures)
+
+pub cell-square-spec : {M : Type 1} → statement M
+cell-square-spec = tie.close (tie.spec cell-requires square-requires returns)

@@ -1,0 +1,71 @@
+-- `chains::list_all` meets its contract: the edges below i are listed.
+use Prim.Native.Nat.{_≤_, _-_}
+use native.Mathlib.Nat.{div-le-self}
+use native.Mathlib.Omega.{arith}
+use mathlib.Core.Bool.{false≢true}
+use mathlib.Core.Path.{_≡_, refl}
+use borrow.Author.Needs.{needs}
+use lib.ListN.{length}
+use Rattle.index.proofs.Listing.{chained-growing, chained-more, chained-last}
+use Rattle.index.specs.Index.{Chained}
+use Rattle.model.specs.Network.{edgeCount}
+use Rattle.index.proofs.chains.list_all.Statement.{statement}
+use Rattle.index.proofs.chains.list_all.Tie as tie
+
+abbrev Inv-loop : tie.InvT-loop
+Inv-loop edges closed s ix₀ n m k₀ i₀ ix k i = (i ≤ m) × (m ≡ edgeCount edges) × (n ≤ k) × (k ≤ length ix) × (length ix ≡ length ix₀) × Chained edges closed i n s k ix
+
+abbrev μ-loop : tie.MeasureT-loop
+μ-loop edges closed s ix₀ n m k₀ i₀ ix k i = m - i
+
+loop-holds : tie.Need-loop-holds Inv-loop μ-loop
+unfolding edgeCount
+loop-holds c = (search needs, refl, search needs, search needs, refl, c .before .before .before .pre .1 .1)
+
+sub-if1 : tie.Need-sub-if1 Inv-loop μ-loop
+sub-if1 c = search needs
+
+same-length : tie.Need-same-length Inv-loop μ-loop
+same-length c = search needs
+
+returns : tie.Need-returns Inv-loop μ-loop
+returns c = λ e. absurd (false≢true e)
+
+div-list-open : tie.Need-div-list-open Inv-loop μ-loop
+div-list-open c = search needs
+
+list-open-requires : tie.Need-list-open-requires Inv-loop μ-loop
+list-open-requires c κs = ((c .before .before .before .before .before .before .before .pre .0 .0, c .before .before .before .before .before .before .before .pre .0 .1, omega arith), ((search needs, search needs, search needs, omega (arith, div-le-self (c .before .before .before .loop .i) (c .before .before .before .before .before .before .before .args .s))), chained-growing _ _ _ _ _ _ _ (c .before .before .before .loop .inv .5)))
+
+add-i : tie.Need-add-i Inv-loop μ-loop
+add-i c = search needs
+
+loop-less : tie.Need-loop-less Inv-loop μ-loop
+loop-less c = search needs
+
+loop-again : tie.Need-loop-again Inv-loop μ-loop
+loop-again c = (omega arith, search needs, omega (arith, c .before .before .list-open .ensures .0 .more), omega (arith, c .before .before .list-open .ensures .0 .few), search needs, chained-more _ _ _ _ (c .before .before .before .before .before .before .loop .i) _ _ _ _ _ refl (c .before .before .before .before .before .before .loop .inv .5) (c .before .before .list-open .ensures))
+
+same-length-2 : tie.Need-same-length-2 Inv-loop μ-loop
+same-length-2 c = search needs
+
+returns-2 : tie.Need-returns-2 Inv-loop μ-loop
+returns-2 c = λ e. chained-last _ _ _ _ (c .before .loop .i) _ _ (omega arith) (c .before .loop .inv .3) (c .before .loop .inv .5)
+
+pub list-all-spec : {M : Type 1} → statement M
+list-all-spec =
+    tie.close
+    (tie.spec
+    Inv-loop
+    μ-loop
+    loop-holds
+    sub-if1
+    same-length
+    returns
+    div-list-open
+    list-open-requires
+    add-i
+    loop-less
+    loop-again
+    same-length-2
+    returns-2)

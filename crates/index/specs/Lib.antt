@@ -1,0 +1,4 @@
+pub mod Index
+pub mod Cursor
+pub mod Grown
+pub mod Seeking

@@ -1,0 +1,2 @@
+// The regions of the working words.
+pub mod regions;

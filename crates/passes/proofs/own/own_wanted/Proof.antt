@@ -1,0 +1,38 @@
+-- `own::own_wanted` meets its contract: region WANT is the set of region OWN, which stays.
+use native.Mathlib.Omega.{arith}
+use mathlib.Core.Path.{_∙_}
+use borrow.Author.Needs.{needs}
+use Rattle.passes.proofs.Seeking.{sought-made}
+use Rattle.passes.proofs.own.own_wanted.Statement.{statement}
+use Rattle.passes.proofs.own.own_wanted.Tie as tie
+
+own-access-requires : tie.Need-own-access-requires
+own-access-requires c κs = c .before .before .before .before .before .pre
+
+clear-requires : tie.Need-clear-requires
+clear-requires c κs = search needs
+
+unite-requires : tie.Need-unite-requires
+unite-requires c κs = search needs
+
+count-requires : tie.Need-count-requires
+count-requires c κs = search needs
+
+same-length : tie.Need-same-length
+same-length c = search needs
+
+returns : tie.Need-returns
+returns c =
+    let r = sought-made (c .before .before .before .before .before .before .before .before .before .before .before .before .before .before .before .before .before .before .args .n) (omega (arith, c .before .before .before .before .before .before .before .before .before .before .before .before .before .before .before .before .before .before .pre .0 .3)) _ _ _ (c .before .before .before .before .before .before .before .before .clear .ensures .0) (c .before .before .before .before .before .before .before .before .clear .ensures .1) (c .before .before .before .before .unite .ensures .0) (c .before .before .before .before .unite .ensures .1) _ (c .count .ensures) in
+    (r .0 ∙ c .before .before .before .before .before .before .before .before .before .before .before .before .own-access .ensures .0, (r .1, r .2 ∙ c .before .before .before .before .before .before .before .before .before .before .before .before .own-access .ensures .1))
+
+pub own-wanted-spec : {M : Type 1} → statement M
+own-wanted-spec =
+    tie.close
+    (tie.spec
+    own-access-requires
+    clear-requires
+    unite-requires
+    count-requires
+    same-length
+    returns)

@@ -1,0 +1,60 @@
+-- `rounds::round` meets its contract: a nearest node is settled, and no settled one is farther.
+use mathlib.Core.Path.{_∙_}
+use borrow.Author.Needs.{needs}
+use Rattle.arcs.specs.Arcs.{arcsIn}
+use Rattle.search.proofs.Cursors.{roads-kept}
+use Rattle.search.proofs.Fronts.{round-holds, round-within, round-front, others}
+use Rattle.search.proofs.rounds.round.Statement.{statement}
+use Rattle.search.proofs.rounds.round.Tie as tie
+
+mul-m : tie.Need-mul-m
+mul-m c = search needs
+
+slice-relend-prefix-settle-nearest : tie.Need-slice-relend-prefix-settle-nearest
+slice-relend-prefix-settle-nearest c = search needs
+
+slice-aggregate-settle-nearest : tie.Need-slice-aggregate-settle-nearest
+slice-aggregate-settle-nearest c = search needs
+
+settle-nearest-requires : tie.Need-settle-nearest-requires
+settle-nearest-requires c κs = search needs
+
+sub-relax : tie.Need-sub-relax
+sub-relax c = search needs
+
+sub-relax-2 : tie.Need-sub-relax-2
+sub-relax-2 c = search needs
+
+relax-requires : tie.Need-relax-requires
+relax-requires c κs =
+    let a = c .before .before .before .before .before .before .before .before .args in
+    let p = c .before .before .before .before .before .before .before .before .pre in
+    let t = c .before .before .before .settle-nearest .ensures in
+    let ys = c .before .before .before .settle-nearest .last .0 in
+    let k = c .before .before .before .settle-nearest .kept .0 in
+    ((round-holds (a .n) (a .work .now) ys (search needs) k (a .k) (a .e) _ t, t .near .inside, round-within (a .n) (a .work .now) ys (search needs) k (a .k) (a .e) _ t (p .0 .2)), (roads-kept (a .edges .now) (a .closed .now) (a .n) (a .work .now) _ (others (a .n) (a .work .now) ys (search needs) k) (p .1 .0), search needs))
+
+same-length : tie.Need-same-length
+same-length c = search needs
+
+returns : tie.Need-returns
+returns c =
+    let a = c .before .before .before .before .before .before .before .before .before .before .before .args in
+    let t = c .before .before .before .before .before .before .settle-nearest .ensures in
+    let ys = c .before .before .before .before .before .before .settle-nearest .last .0 in
+    let k = c .before .before .before .before .before .before .settle-nearest .kept .0 in
+    (round-front (a .n) (a .work .now) ys (search needs) k (a .k) (a .e) _ t (arcsIn (a .edges .now) (a .closed .now)) _ _ (c .before .before .relax .ensures .0), c .before .before .relax .ensures .1 ∙ others (a .n) (a .work .now) ys (search needs) k)
+
+pub round-spec : {M : Type 1} → statement M
+round-spec =
+    tie.close
+    (tie.spec
+    mul-m
+    slice-relend-prefix-settle-nearest
+    slice-aggregate-settle-nearest
+    settle-nearest-requires
+    sub-relax
+    sub-relax-2
+    relax-requires
+    same-length
+    returns)

@@ -1,0 +1,58 @@
+// Dijkstra's method (document 002, 2.1) from one node, up to the wanted nodes.
+ghost use mathlib.Core.Path.{_≡_};
+ghost use Prim.Native.Nat.{_+_, _-_, _*_, _<_, _≤_};
+ghost use lib.ListN.{length, getD, drop, replicate};
+ghost use Rattle.model.specs.Network.{maxNodes};
+ghost use Rattle.algorithms.specs.Dijkstra.{at};
+ghost use Rattle.algorithms.specs.Stops.{Stopped, lacking};
+ghost use Rattle.arcs.specs.Arcs.{arcsIn};
+ghost use Rattle.heap.specs.Words.{low};
+ghost use Rattle.index.specs.Index.{Roads};
+ghost use Rattle.search.specs.Regions.{timesIn, orderIn, wantIn};
+use crate::regions::REGIONS;
+use crate::rounds::begin;
+use crate::rounds::finish;
+use crate::rounds::round;
+use bitset::bits::contains;
+use heap::words::HALF;
+
+// How many wanted nodes are lacking, where `left` were before the node at position e of the order was settled.
+fn left_then(work: &[u32], n: usize, e: usize, left: usize) -> usize
+    requires { ⌜ (e < n) × (0 < left) × (8 * n ≤ length (now work)) × (low (getD (now work) (n + e) 0) < n) ⌝ }
+    ensures { λ r. ⌜ r ≡ left - at (wantIn n (now (work .entry))) (low (getD (now (work .entry)) (n + e) 0)) ⌝ }
+{
+    let m = REGIONS * n;
+    let u = (work[n + e] % HALF) as usize;
+    if contains(&work[m..], u) {
+        return left - 1;
+    }
+    left
+}
+
+// Searches from s until every wanted node is settled, of which there are at most `left`, or no reached node is left. The wanted nodes are a set whose bits stand
+// from 3 n on. In the first 3 n words then stand the times of the settled nodes and of the wanted ones, and from position e of the order on the settled
+// nodes, the farthest first. The others stay. Left open: which of equally far nodes stands first, and what the other words of the 3 n are.
+pub fn search_wanted(
+    edges: &[u8],
+    closed: &[u8],
+    n: usize,
+    s: usize,
+    left: usize,
+    work: &mut [u32],
+) -> usize
+    requires { ⌜ (n ≤ maxNodes) × (s < n) × (8 * n ≤ length (now work)) × (lacking (wantIn n (now work)) (replicate n 0) ≤ left) ⌝ }
+    requires { ⌜ Roads (now edges) (now closed) n (now work) ⌝ }
+    ensures found { λ e. ⌜ Stopped (arcsIn (now (edges .entry)) (now (closed .entry))) n s (wantIn n (now (work .entry))) (timesIn n (now (work .exit))) (orderIn n e (now (work .exit))) × (e ≤ n) ⌝ }
+    ensures others { λ _. ⌜ drop (3 * n) (now (work .exit)) ≡ drop (3 * n) (now (work .entry)) ⌝ }
+{
+    let mut k = begin(work, n, s);
+    let mut e = n;
+    let mut lacking = left;
+    while 0 < k && 0 < lacking {
+        k = round(edges, closed, n, k, e, work);
+        e -= 1;
+        lacking = left_then(work, n, e, lacking);
+    }
+    finish(work, n, e);
+    e
+}
