@@ -119,6 +119,31 @@ jukesogbi_route jukesogbi_way(const uint8_t *oracle, size_t oracle_size, uint32_
 jukesogbi_times jukesogbi_block(const uint8_t *oracle, size_t oracle_size, const uint32_t *starts, size_t starts_count,
                                 const uint32_t *ends, size_t ends_count, uint32_t *work, size_t words);
 
+/* One check, many answers. jukesogbi_open checks the oracle, rules 1 to 11 and 14, and leaves its grid and an index of its roads in the first 8 * N
+ * working words; where it hands back a rule, nothing is written. After a 0 the calls below answer as those of their names above do, but without
+ * checking the oracle again, and they leave the words opened.
+ *
+ * The caller's duty: the oracle is the one that was opened, with the same bytes, and the words are those that jukesogbi_open or the last of these
+ * calls left, as many as they were. Nothing but these calls may have changed either: with other bytes or words, they may read and write anywhere. To
+ * answer from several threads, open the oracle once for each, with words of its own. */
+uint32_t jukesogbi_open(const uint8_t *oracle, size_t oracle_size, uint32_t *work, size_t words);
+
+/* Rule 12. */
+jukesogbi_reply jukesogbi_opened_time(const uint8_t *oracle, size_t oracle_size, uint32_t s, uint32_t t,
+                                      uint32_t *work, size_t words);
+
+/* Rules 12, 13. */
+jukesogbi_reply jukesogbi_opened_far(const uint8_t *oracle, size_t oracle_size, uint32_t s, uint32_t t,
+                                     const uint32_t *work, size_t words);
+
+/* Rules 12, 15. */
+jukesogbi_route jukesogbi_opened_way(const uint8_t *oracle, size_t oracle_size, uint32_t s, uint32_t t,
+                                     uint32_t *work, size_t words, uint8_t *out, size_t room);
+
+/* Rules 12, 17. */
+jukesogbi_times jukesogbi_opened_block(const uint8_t *oracle, size_t oracle_size, const uint32_t *starts, size_t starts_count,
+                                       const uint32_t *ends, size_t ends_count, uint32_t *work, size_t words);
+
 #ifdef __cplusplus
 }
 #endif

@@ -139,6 +139,13 @@ pub mod raw {
         pub fn jukesogbi_block(
             oracle: *const u8, oracle_size: usize, starts: *const u32, starts_count: usize, ends: *const u32, ends_count: usize, work: *mut u32, words: usize,
         ) -> Times;
+        pub fn jukesogbi_open(oracle: *const u8, oracle_size: usize, work: *mut u32, words: usize) -> u32;
+        pub fn jukesogbi_opened_time(oracle: *const u8, oracle_size: usize, s: u32, t: u32, work: *mut u32, words: usize) -> Answer;
+        pub fn jukesogbi_opened_far(oracle: *const u8, oracle_size: usize, s: u32, t: u32, work: *const u32, words: usize) -> Answer;
+        pub fn jukesogbi_opened_way(oracle: *const u8, oracle_size: usize, s: u32, t: u32, work: *mut u32, words: usize, out: *mut u8, room: usize) -> Route;
+        pub fn jukesogbi_opened_block(
+            oracle: *const u8, oracle_size: usize, starts: *const u32, starts_count: usize, ends: *const u32, ends_count: usize, work: *mut u32, words: usize,
+        ) -> Times;
     }
 }
 
@@ -150,7 +157,21 @@ pub fn seconds(number: u32) -> Option<u32> {
     (number != NO_WALK).then_some(number)
 }
 
-fn answer(a: raw::Answer) -> Result<Answer, Refused> {
+pub(crate) fn route(r: raw::Route) -> Result<usize, Refused> {
+    if r.rule != 0 {
+        return Err(Refused(r.rule));
+    }
+    Ok(r.nodes as usize)
+}
+
+pub(crate) fn squares(b: raw::Times) -> Result<Block, Refused> {
+    if b.rule != 0 {
+        return Err(Refused(b.rule));
+    }
+    Ok(Block { times: b.times })
+}
+
+pub(crate) fn answer(a: raw::Answer) -> Result<Answer, Refused> {
     if a.rule != 0 {
         return Err(Refused(a.rule));
     }
@@ -204,19 +225,11 @@ pub fn list_rule(oracle: &[u8], u: u32) -> u32 {
 
 /// Writes the nodes of the way as 16-bit numbers at the front of `out`, and answers how many they are.
 pub fn way(oracle: &[u8], s: u32, t: u32, work: &mut [u32], out: &mut [u8]) -> Result<usize, Refused> {
-    let r = unsafe { raw::jukesogbi_way(oracle.as_ptr(), oracle.len(), s, t, work.as_mut_ptr(), work.len(), out.as_mut_ptr(), out.len()) };
-    if r.rule != 0 {
-        return Err(Refused(r.rule));
-    }
-    Ok(r.nodes as usize)
+    route(unsafe { raw::jukesogbi_way(oracle.as_ptr(), oracle.len(), s, t, work.as_mut_ptr(), work.len(), out.as_mut_ptr(), out.len()) })
 }
 
 /// All times between up to 12 starts and 12 ends.
 pub fn block(oracle: &[u8], starts: &[u32], ends: &[u32], work: &mut [u32]) -> Result<Block, Refused> {
     let (s, t) = (starts.as_ptr(), ends.as_ptr());
-    let b = unsafe { raw::jukesogbi_block(oracle.as_ptr(), oracle.len(), s, starts.len(), t, ends.len(), work.as_mut_ptr(), work.len()) };
-    if b.rule != 0 {
-        return Err(Refused(b.rule));
-    }
-    Ok(Block { times: b.times })
+    squares(unsafe { raw::jukesogbi_block(oracle.as_ptr(), oracle.len(), s, starts.len(), t, ends.len(), work.as_mut_ptr(), work.len()) })
 }

@@ -4,5 +4,6 @@ pub mod core;
 pub mod draw;
 pub mod files;
 pub mod listing;
+pub mod oracle;
 pub mod plain;
 pub mod sample;

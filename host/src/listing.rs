@@ -2,6 +2,7 @@
 
 use crate::core::{self, Refused};
 use crate::files;
+use crate::oracle::Oracle;
 use std::io::{self, Write};
 
 /// A time as text, `-` for none.
@@ -16,17 +17,18 @@ pub fn answer_text(a: &core::Answer) -> String {
 
 /// Writes the listing, or `refused R`. The inner result is the refusal.
 pub fn write(oracle: &[u8], out: &mut impl Write) -> io::Result<Result<(), Refused>> {
-    // The list of node 0 is refused for rules 1 to 11 alone: there is at least one node.
-    if let Err(refused) = core::list(oracle, 0) {
-        writeln!(out, "refused {}", refused.0)?;
-        return Ok(Err(refused));
-    }
+    let mut opened = match Oracle::open(oracle) {
+        Ok(opened) => opened,
+        Err(refused) => {
+            writeln!(out, "refused {}", refused.0)?;
+            return Ok(Err(refused));
+        }
+    };
     let n = files::node_count(oracle) as u32;
-    let mut work = vec![0; files::words_needed(oracle)];
     writeln!(out, "places {n} transit {}", files::transit_nodes(oracle).len())?;
     for s in 0..n {
         for t in s + 1..n {
-            match core::time(oracle, s, t, &mut work) {
+            match opened.time(s, t) {
                 Ok(a) => writeln!(out, "{s} {t} {}", answer_text(&a))?,
                 Err(refused) => return Ok(Err(refused)),
             }

@@ -4,6 +4,7 @@ mod bench;
 mod demo;
 
 use jukesogbi::core::{self, Refused};
+use jukesogbi::oracle::Oracle;
 use jukesogbi::{draw, files, listing, sample};
 use std::io::{self, BufRead, IsTerminal, Read, Write};
 use std::process::ExitCode;
@@ -18,7 +19,7 @@ const USAGE: &str = "usage: jukesogbi COMMAND, where `-` stands for standard inp
   far ORACLE [S T]               the same for a far pair, from lists and table alone
   list ORACLE U                  the access list of place U
   way ORACLE [S T]               the places of the way from S to T
-                                 time, far and way without S T read pairs `S T`, one a line, from standard input
+                                 time, far and way without S T check the oracle once and read pairs `S T`, one a line, from standard input
   block ORACLE S,S,.. T,T,..     all times from up to 12 places S to up to 12 places T, a line for each S
   listing ORACLE                 all pairs with S below T
   sample N SEED NETWORK          write a road-like network of N places
@@ -80,12 +81,12 @@ fn run(args: Vec<String>) -> Done {
         ["build", network, g, oracle] => build(network, number(g)?, oracle, lend),
         ["audit", oracle] => audit(oracle, lend),
         ["time", oracle, s, t] => print_line(&time_line(&read(oracle)?, number(s)?, number(t)?, lend)?),
-        ["time", oracle] => each_pair(oracle, |o, s, t| time_line(o, s, t, lend)),
+        ["time", oracle] => each_pair(oracle, lend, |o, s, t| o.time(s, t).map(|a| answer_line(&a)), |o, s, t| time_line(o, s, t, lend)),
         ["far", oracle, s, t] => print_line(&far_line(&read(oracle)?, number(s)?, number(t)?)?),
-        ["far", oracle] => each_pair(oracle, far_line),
+        ["far", oracle] => each_pair(oracle, lend, |o, s, t| o.far(s, t).map(|a| answer_line(&a)), far_line),
         ["list", oracle, u] => list(&read(oracle)?, number(u)?),
         ["way", oracle, s, t] => print_line(&way_line(&read(oracle)?, number(s)?, number(t)?, lend)?),
-        ["way", oracle] => each_pair(oracle, |o, s, t| way_line(o, s, t, lend)),
+        ["way", oracle] => each_pair(oracle, lend, |o, s, t| opened_way_line(o, s, t, lend), |o, s, t| way_line(o, s, t, lend)),
         ["block", oracle, starts, ends] => block(&read(oracle)?, &numbers(starts)?, &numbers(ends)?, lend),
         ["listing", oracle] => list_all(&read(oracle)?),
         ["sample", n, seed, network] => write_sample(number(n)?, number(seed)?, network),
@@ -234,20 +235,41 @@ fn far_line(o: &[u8], s: u32, t: u32) -> Result<String, Refused> {
 fn way_nodes(o: &[u8], s: u32, t: u32, lend: Lend) -> Result<Vec<u16>, Refused> {
     let mut out = vec![0; lend.room.unwrap_or(2 * files::node_count(o))];
     let nodes = core::way(o, s, t, &mut lent_words(o, lend), &mut out)?;
-    Ok(out[..2 * nodes].chunks_exact(2).map(|c| files::read16(c, 0)).collect())
+    Ok(node_numbers(&out[..2 * nodes]))
+}
+
+fn node_numbers(bytes: &[u8]) -> Vec<u16> {
+    bytes.chunks_exact(2).map(|c| files::read16(c, 0)).collect()
+}
+
+fn nodes_text(nodes: &[u16]) -> String {
+    nodes.iter().map(u16::to_string).collect::<Vec<_>>().join(" ")
 }
 
 fn way_line(o: &[u8], s: u32, t: u32, lend: Lend) -> Result<String, Refused> {
-    let nodes = way_nodes(o, s, t, lend)?;
-    Ok(nodes.iter().map(u16::to_string).collect::<Vec<_>>().join(" "))
+    way_nodes(o, s, t, lend).map(|nodes| nodes_text(&nodes))
 }
 
-/// Answers the pairs on standard input, one line each. A refused pair is answered by `refused N`.
-fn each_pair(oracle: &str, answer: impl Fn(&[u8], u32, u32) -> Result<String, Refused>) -> Done {
+fn opened_way_line(o: &mut Oracle, s: u32, t: u32, lend: Lend) -> Result<String, Refused> {
+    let mut out = vec![0; lend.room.unwrap_or(2 * files::node_count(o.bytes()))];
+    let nodes = o.way(s, t, &mut out)?;
+    Ok(nodes_text(&node_numbers(&out[..2 * nodes])))
+}
+
+/// Answers the pairs on standard input, one line each, from an opened oracle. A refused pair is answered by `refused N`; where the oracle is refused, or
+/// too few words are lent, each pair is refused by the call that checks.
+fn each_pair(
+    oracle: &str,
+    lend: Lend,
+    opened_answer: impl Fn(&mut Oracle, u32, u32) -> Result<String, Refused>,
+    checked_answer: impl Fn(&[u8], u32, u32) -> Result<String, Refused>,
+) -> Done {
     if oracle == "-" {
         return fault("the oracle and the pairs cannot both come from standard input");
     }
     let o = read(oracle)?;
+    let enough = lend.words.is_none_or(|words| words >= files::words_needed(&o));
+    let mut opened = if enough { Oracle::open(&o[..]).ok() } else { None };
     let mut refused = false;
     let mut out = io::BufWriter::new(io::stdout().lock());
     for line in io::stdin().lock().lines() {
@@ -258,7 +280,11 @@ fn each_pair(oracle: &str, answer: impl Fn(&[u8], u32, u32) -> Result<String, Re
             (Some(s), Some(t), None) => (number(s)?, number(t)?),
             _ => return fault(format!("`{line}` is no pair `S T`")),
         };
-        let text = answer(&o, s, t).unwrap_or_else(|r| {
+        let answer = match &mut opened {
+            Some(opened) => opened_answer(opened, s, t),
+            None => checked_answer(&o, s, t),
+        };
+        let text = answer.unwrap_or_else(|r| {
             refused = true;
             eprintln!("{s} {t}: {r}");
             format!("refused {}", r.0)

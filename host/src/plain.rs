@@ -1,5 +1,5 @@
 //! Building in plain Rust with all the memory it likes, to measure the proved core against: adjacency lists, a binary heap, one search per crossing
-//! node, backward marks. It serves the benchmark alone.
+//! node that ends when every wanted node is settled, backward marks. It serves the benchmark alone.
 
 use crate::files::{self, Network};
 use std::cmp::Reverse;
@@ -75,6 +75,14 @@ impl Search {
     pub fn all(&mut self, graph: &Graph, s: usize) {
         self.run(graph, s, |_| false);
     }
+
+    /// From s, until each of the `left` wanted nodes is settled.
+    pub fn toward(&mut self, graph: &Graph, s: usize, wanted: &[bool], mut left: usize) {
+        self.run(graph, s, |u| {
+            left -= wanted[u as usize] as usize;
+            left == 0
+        });
+    }
 }
 
 pub struct Cells {
@@ -139,8 +147,11 @@ pub fn build(network: &[u8], g: u32) -> Vec<u8> {
     bodies.push((g as u16).to_le_bytes().to_vec());
     bodies.push(transit.iter().flat_map(|&v| (v as u16).to_le_bytes()).collect());
     let (mut starts, mut lists) = (Vec::new(), Vec::new());
+    let mut wanted = vec![false; n];
     for (u, list) in access.iter().enumerate() {
-        search.all(&graph, u);
+        list.iter().for_each(|&a| wanted[a as usize] = true);
+        search.toward(&graph, u, &wanted, list.len());
+        list.iter().for_each(|&a| wanted[a as usize] = false);
         starts.extend(((4 * n + lists.len()) as u32).to_le_bytes());
         lists.extend((list.len() as u16).to_le_bytes());
         for &a in list {
@@ -170,7 +181,7 @@ fn cell_access(net: &Network, graph: &Graph, cells: &Cells, open: &[usize], c: (
     let mut through = vec![false; n];
     let mut marked = vec![false; n];
     for p in own {
-        search.all(graph, p as usize);
+        search.toward(graph, p as usize, &wanted, outer.len());
         marked.fill(false);
         for &u in search.order.iter().rev() {
             let d = search.times[u as usize];
@@ -183,6 +194,79 @@ fn cell_access(net: &Network, graph: &Graph, cells: &Cells, open: &[usize], c: (
     }
     inner.into_iter().filter(|&a| through[a as usize]).collect()
 }
+
+// ---- The check ----
+
+/// Numbers of 16 bits that rise, each below `limit`.
+fn rising(body: &[u8], limit: usize) -> bool {
+    let numbers = || body.chunks_exact(2).map(|c| files::read16(c, 0));
+    body.len().is_multiple_of(2) && numbers().zip(numbers().skip(1)).all(|(a, b)| a < b) && numbers().next_back().is_none_or(|k| (k as usize) < limit)
+}
+
+fn in_range(seconds: u32) -> bool {
+    seconds <= 409_500_000 || seconds == NONE
+}
+
+fn lists_sound(access: &[u8], n: usize, transit: usize) -> bool {
+    if access.len() < 4 * n {
+        return false;
+    }
+    let mut next = 4 * n;
+    for u in 0..n {
+        if files::read32(access, 4 * u) as usize != next || access.len() < next + 2 {
+            return false;
+        }
+        let count = files::read16(access, next) as usize;
+        let Some(entries) = access.get(next + 2..next + 2 + 6 * count) else { return false };
+        let mut least = 0;
+        for e in entries.chunks_exact(6) {
+            let index = files::read16(e, 0) as usize;
+            if index < least || index >= transit || !in_range(files::read32(e, 2)) {
+                return false;
+            }
+            least = index + 1;
+        }
+        next += 2 + 6 * count;
+    }
+    next == access.len()
+}
+
+/// Whether an oracle keeps rules 1 to 11.
+pub fn well_shaped(o: &[u8]) -> bool {
+    if o.len() < 65 || o[..2] != [1, 7] {
+        return false;
+    }
+    let mut next = 65;
+    for k in 0..7 {
+        let entry = &o[2 + 9 * k..];
+        if entry[0] as usize != k + 1 || files::read32(entry, 1) as usize != next {
+            return false;
+        }
+        next += files::read32(entry, 5) as usize;
+    }
+    if next != o.len() {
+        return false;
+    }
+    let bodies: Vec<&[u8]> = (0..7).map(|k| files::body(o, k).unwrap()).collect();
+    let (n, m, transit) = (bodies[0].len() / 8, bodies[1].len() / 8, bodies[4].len() / 2);
+    let end = |e: &[u8], at: usize| files::read16(e, at) as usize;
+    let sound = |e: &[u8]| end(e, 0) < n && end(e, 2) < n && end(e, 0) != end(e, 2) && (1..=100_000).contains(&files::read32(e, 4));
+    bodies[0].len().is_multiple_of(8)
+        && (1..=4096).contains(&n)
+        && bodies[0].chunks_exact(4).all(|c| (-1_000_000..=1_000_000).contains(&(files::read32(c, 0) as i32)))
+        && bodies[1].len().is_multiple_of(8)
+        && m <= 16_384
+        && bodies[1].chunks_exact(8).all(sound)
+        && rising(bodies[2], m)
+        && bodies[3].len() == 2
+        && (1..=64).contains(&files::read16(bodies[3], 0))
+        && rising(bodies[4], n)
+        && lists_sound(bodies[5], n, transit)
+        && bodies[6].len() == 4 * transit * transit
+        && bodies[6].chunks_exact(4).all(|c| in_range(files::read32(c, 0)))
+}
+
+// ---- Answers ----
 
 /// A far answer from an oracle's lists and table, without checking it.
 pub struct Tables<'a> {
@@ -217,12 +301,20 @@ impl<'a> Tables<'a> {
     }
 }
 
-/// All times between starts and ends, row by row, `NONE` for none. A start has one search, or none where all its ends are far.
+/// All times between starts and ends, row by row, `NONE` for none. A start has one search, which ends when its local ends are settled, or none where
+/// all its ends are far.
 pub fn block(graph: &Graph, cells: &Cells, tables: &Tables, search: &mut Search, starts: &[u32], ends: &[u32]) -> Vec<u32> {
     let mut times = Vec::with_capacity(starts.len() * ends.len());
     for s in starts.iter().map(|&s| s as usize) {
-        if ends.iter().any(|&t| !cells.far(s, t as usize)) {
-            search.all(graph, s);
+        let mut local: Vec<u32> = ends.iter().copied().filter(|&t| !cells.far(s, t as usize)).collect();
+        local.sort_unstable();
+        local.dedup();
+        if !local.is_empty() {
+            let mut left = local.len();
+            search.run(graph, s, |u| {
+                left -= local.contains(&u) as usize;
+                left == 0
+            });
         }
         times.extend(ends.iter().map(|&t| t as usize).map(|t| if cells.far(s, t) { tables.far(s, t).unwrap_or(NONE) } else { search.times[t] }));
     }
@@ -231,7 +323,7 @@ pub fn block(graph: &Graph, cells: &Cells, tables: &Tables, search: &mut Search,
 
 /// The first least walk by node numbers.
 pub fn way(graph: &Graph, search: &mut Search, s: usize, t: usize) -> Vec<u16> {
-    search.all(graph, t);
+    search.run(graph, t, |u| u as usize == s);
     let d = &search.times;
     if d[s] == NONE {
         return Vec::new();

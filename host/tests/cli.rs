@@ -273,6 +273,13 @@ fn pairs_from_standard_input() {
     assert!(ran.err.contains("0 3: rule 13: ") && ran.err.contains("0 5: rule 12: "), "{}", ran.err);
     let ran = f.run_with("time line.net", b"0 1\n1 2\n");
     assert_eq!((ran.code, ran.text().as_str()), (1, "refused 1\nrefused 1\n"));
+    // The oracle is opened once; where the words lent do not suffice for that, each pair is refused as it is by itself.
+    let ran = f.run_with("time line.oracle --words 23", b"0 2\n0 3\n");
+    assert_eq!((ran.code, ran.text().as_str()), (1, "refused 14\nrefused 12\n"));
+    f.run_with("time line.oracle --words 24", b"0 2\n").says("16 far 1\n");
+    f.run_with("far line.oracle --words 0", b"0 2\n").says("16 far 1\n");
+    let ran = f.run_with("way line.oracle --room 5", b"0 1\n0 2\n1 2\n");
+    assert_eq!((ran.code, ran.text().as_str()), (1, "0 1\nrefused 15\n1 2\n"));
     // What is no pair is wrong use.
     for wrong in ["0", "0 1 2", "a b", "0 -1", "0 4294967296", "0;1"] {
         f.run_with("time fork.oracle", wrong.as_bytes()).is_wrong("");
@@ -376,7 +383,7 @@ fn demo_runs_through() {
 fn bench_prints_two_tables() {
     let rule = "|---|---|---|---|---|";
     Folder::new("bench").run("bench 1").says(&format!(
-        "| what | core | plain | unit | core's time / plain's |\n{rule}\n\n| what | block | single calls | unit | block's time / single calls' |\n{rule}\n"
+        "| what | core | plain | unit | core's time / plain's |\n{rule}\n\n| what | block | single answers | unit | block's time / single answers' |\n{rule}\n"
     ));
 }
 

@@ -5,7 +5,8 @@ mod common;
 
 use common::networks::{self, between, pick, Plan};
 use common::reference::{self, bytes_16, bytes_32, MOST_SECONDS, NO_WALK, WORDS};
-use common::{NetworkCase, OracleCase};
+use common::{NetworkCase, Opened, OracleCase};
+use jukesogbi::plain;
 use jukesogbi::sample::Random;
 
 /// How often each rule was given, with 0 for none.
@@ -51,7 +52,8 @@ fn build(name: impl Fn() -> String + 'static, bytes: Vec<u8>, n: usize, g: u32, 
     given.count(&case.build(g, WORDS * (n + 2), 2_000).result);
 }
 
-/// Puts every question to a damaged file: all pairs with s in `from`, one by one and as a block. `n` is about its number of places, 12 at the most.
+/// Puts every question to a damaged file: all pairs with s in `from`, one by one and as a block, and where it can be opened, once more to the opened
+/// file. `n` is about its number of places, 12 at the most.
 fn ask(name: impl Fn() -> String + 'static, bytes: Vec<u8>, n: usize, from: &[u32], given: &mut Given) {
     let case = OracleCase::new(name, bytes);
     let words = WORDS * (n + 2);
@@ -66,6 +68,23 @@ fn ask(name: impl Fn() -> String + 'static, bytes: Vec<u8>, n: usize, from: &[u3
     }
     let ends: Vec<u32> = (0..n as u32).rev().collect();
     given.count(&case.block(from, &ends, words).result);
+    // What the benchmark measures the check against finds the same.
+    assert_eq!(plain::well_shaped(&case.reference.bytes), case.reference.open(usize::MAX).is_ok(), "{}", (case.input.name)());
+    let opening = case.open(words);
+    given.count(&opening.as_ref().map(|_| ()).map_err(|rule| *rule));
+    if let Ok(mut opened) = opening {
+        ask_opened(&mut opened, n, from, &ends);
+    }
+}
+
+/// Each answer is held against the call that checks.
+fn ask_opened(opened: &mut Opened, n: usize, from: &[u32], ends: &[u32]) {
+    for &s in from {
+        for &t in ends {
+            let _ = (opened.time(s, t), opened.far(s, t), opened.way(s, t, 2 * n));
+        }
+    }
+    let _ = opened.block(from, ends);
 }
 
 /// Values to set a byte to that tend to matter: small numbers, neighbours, the signs' edges.
@@ -316,6 +335,7 @@ fn several_changes_at_once() {
             let case = OracleCase::new(move || text.clone(), bytes);
             for words in [WORDS * n, WORDS * n - 1, 0] {
                 given.count(&case.audit(words).result);
+                given.count(&case.open(words).map(|_| ()));
                 for (s, t) in [(0, n as u32 - 1), (0, 0), (n as u32, 0), (0, u32::MAX)] {
                     given.count(&case.time(s, t, words).result);
                     given.count(&case.far(s, t).result);
@@ -428,17 +448,18 @@ fn random_lists_and_tables() {
         let case = OracleCase::new(move || format!("random lists and table of seed {seed}"), oracle);
         let words = case.words();
         given.count(&case.audit(words).result);
+        let mut opened = case.open(words).unwrap_or_else(|rule| panic!("refused {rule}"));
         for s in 0..n as u32 {
             case.list(s);
             for t in 0..n as u32 {
-                several += (case.time(s, t, words).result.unwrap().pairs > 1) as u32;
-                given.count(&case.far(s, t).result);
+                several += (opened.time(s, t).unwrap().pairs > 1) as u32;
+                given.count(&opened.far(s, t));
             }
-            given.count(&case.way(s, 0, words, 2 * n).result);
+            given.count(&opened.way(s, 0, 2 * n));
         }
         // The first and the last twelve, as far as there are so many.
         let all = all_places(&plan);
-        given.count(&case.block(&all[..n.min(12)], &all[n.saturating_sub(12)..], words).result);
+        given.count(&opened.block(&all[..n.min(12)], &all[n.saturating_sub(12)..]));
     }
     given.assert_met(&[0, 13, 16]);
     assert!(several > 10_000, "only {several} far pairs with several sums");

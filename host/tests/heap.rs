@@ -5,8 +5,8 @@
 mod common;
 
 use common::networks::Plan;
-use common::reference::{bytes_16, Map, Outcome, SIDE};
-use common::{check_way, NetworkCase, OracleCase};
+use common::reference::SIDE;
+use common::{NetworkCase, OracleCase};
 use jukesogbi::sample::Random;
 
 const PLACES: usize = 4_096;
@@ -171,28 +171,6 @@ fn block_by_block(case: &OracleCase, starts: &[u32], ends: &[u32]) {
     }
 }
 
-/// The way by the reference's times from its end, since those are the times to it as well. The reference's own way asks for the times from
-/// each of its places, which takes long where there are many.
-fn way(map: &Map, s: usize, t: usize) -> Vec<usize> {
-    let Some(mut left) = map.d(t, s) else { return Vec::new() };
-    let mut places = vec![s];
-    while left > 0 {
-        let u = *places.last().unwrap();
-        let on = map.steps().filter(|&(from, to, seconds)| from == u && map.d(t, to).is_some_and(|rest| seconds + rest == left));
-        let (_, next, seconds) = on.min_by_key(|&(_, to, _)| to).expect("a least walk begins with a road");
-        places.push(next);
-        left -= seconds;
-    }
-    places
-}
-
-fn ask_way(case: &OracleCase, s: u32, t: u32) {
-    let places = way(case.reference.map().unwrap(), s as usize, t as usize);
-    let written: Vec<u8> = places.iter().flat_map(|&u| bytes_16(u)).collect();
-    let room = written.len();
-    check_way(&case.input, s, t, case.words(), room, &Outcome { result: Ok(places.len()), zeroed: case.words(), written });
-}
-
 /// Up to `count` ends: all, or from the last on those about the powers of two, and some at random.
 fn ends(n: usize, count: usize) -> Vec<u32> {
     if n <= count {
@@ -224,7 +202,7 @@ fn build_and_ask(n: usize, grids: &[u32]) {
         let asked = searched(n, name, &plan);
         assert_eq!(asked.reference.bytes, network.reference.oracle(1).bytes, "the oracle under 1 is another");
         for s in 0..n as u32 {
-            ask_way(&asked, s, (5 * s + 3) % n as u32);
+            asked.long_way(s, (5 * s + 3) % n as u32, 2 * n);
             asked.time(s, (7 * s + 1) % n as u32, asked.words());
         }
     }
@@ -237,7 +215,7 @@ fn ask(n: usize, count: usize) {
         let last = n as u32 - 1;
         block_by_block(&asked, &[0], &ends(n, count));
         block_by_block(&asked, &[last], &ends(n, SIDE));
-        ask_way(&asked, last, last / 2);
+        asked.long_way(last, last / 2, 2 * n);
         asked.time(last / 3, 0, asked.words());
     }
 }

@@ -8,7 +8,7 @@ pub mod networks;
 pub mod reference;
 
 use jukesogbi::core::raw;
-use reference::{Answer, Built, Outcome, Part, Times, SIDE, WORDS};
+use reference::{bytes_16, Answer, Built, Map, Outcome, Part, Times, SIDE, WORDS};
 use std::cell::Cell;
 use std::fmt::Debug;
 use std::rc::Rc;
@@ -324,11 +324,50 @@ impl OracleCase {
         expected
     }
 
+    /// The way where it may have many places, by the reference's times from its end, since those are the times to it as well. The reference's own way
+    /// asks for the times from each of its places. Both are places of the file.
+    pub fn long_way(&self, s: u32, t: u32, room: usize) -> Outcome<usize> {
+        let places = way_by_its_end(self.reference.map().unwrap(), s as usize, t as usize);
+        let fits = 2 * places.len() <= room;
+        let expected = Outcome {
+            result: if fits { Ok(places.len()) } else { Err(15) },
+            zeroed: self.words(),
+            written: if fits { places.into_iter().flat_map(bytes_16).collect() } else { Vec::new() },
+        };
+        check_way(&self.input, s, t, self.words(), room, &expected);
+        expected
+    }
+
     pub fn block(&self, starts: &[u32], ends: &[u32], words: usize) -> Outcome<Times> {
         let expected = self.reference.block(starts, ends, words);
         check_block(&self.input, starts, ends, words, &expected);
         expected
     }
+
+    /// Opens it in so many words. Where that is refused, nothing may be written.
+    pub fn open(&self, words: usize) -> Result<Opened<'_>, u32> {
+        let at = || format!("{}: open with {words} words", (self.input.name)());
+        let (file, expected, mut lent) = (self.input.bytes(), self.reference.open(words), Lent::<u32>::new(words));
+        let before = lent.part().to_vec();
+        let got = unsafe { raw::jukesogbi_open(file.as_ptr(), file.len(), lent.part_mut().as_mut_ptr(), words) };
+        same(got, expected.err().unwrap_or(0), &at);
+        let opened = Opened { case: self, behind: before[if expected.is_ok() { self.words() } else { 0 }..].to_vec(), words: lent };
+        opened.check(&at);
+        expected.map(|()| opened)
+    }
+}
+
+fn way_by_its_end(map: &Map, s: usize, t: usize) -> Vec<usize> {
+    let Some(mut left) = map.d(t, s) else { return Vec::new() };
+    let mut places = vec![s];
+    while left > 0 {
+        let u = *places.last().unwrap();
+        let on = map.steps().filter(|&(from, to, seconds)| from == u && map.d(t, to).is_some_and(|rest| seconds + rest == left));
+        let (_, next, seconds) = on.min_by_key(|&(_, to, _)| to).expect("a least walk begins with a road");
+        places.push(next);
+        left -= seconds;
+    }
+    places
 }
 
 impl Drop for OracleCase {
@@ -337,6 +376,81 @@ impl Drop for OracleCase {
         if !std::thread::panicking() {
             self.input.check(&self.reference.bytes);
         }
+    }
+}
+
+// ---- An opened oracle ----
+
+/// An oracle opened in lent words. Each question is put to the checking call, too, and that is held against the reference; what it answers is what the
+/// question without a check must answer.
+pub struct Opened<'a> {
+    case: &'a OracleCase,
+    /// Of the first 8 N, only the core knows what they hold.
+    words: Lent<u32>,
+    /// What stands behind those.
+    behind: Vec<u32>,
+}
+
+impl Opened<'_> {
+    fn check(&self, at: &dyn Fn() -> String) {
+        let words = self.words.part();
+        assert!(words.ends_with(&self.behind), "{}: a word that is not to be written has changed", at());
+        self.words.check_guards(at);
+    }
+
+    fn at(&self, question: String) -> impl Fn() -> String {
+        let name = self.case.input.name.clone();
+        move || format!("{}: opened, {question}", name())
+    }
+
+    pub fn time(&mut self, s: u32, t: u32) -> Result<Answer, u32> {
+        let (at, file) = (self.at(format!("time {s} to {t}")), self.case.input.bytes());
+        let expected = self.case.time(s, t, self.case.words()).result;
+        let (work, words) = (self.words.part_mut().as_mut_ptr(), self.words.size);
+        let got = unsafe { raw::jukesogbi_opened_time(file.as_ptr(), file.len(), s, t, work, words) };
+        same(got, answer_record(expected), &at);
+        self.check(&at);
+        expected
+    }
+
+    /// No word is written.
+    pub fn far(&self, s: u32, t: u32) -> Result<Answer, u32> {
+        let (at, file) = (self.at(format!("far {s} to {t}")), self.case.input.bytes());
+        let expected = self.case.far(s, t).result;
+        let (words, before) = (self.words.part(), self.words.part().to_vec());
+        let got = unsafe { raw::jukesogbi_opened_far(file.as_ptr(), file.len(), s, t, words.as_ptr(), words.len()) };
+        same(got, answer_record(expected), &at);
+        self.words.check_kept(&before, &at);
+        expected
+    }
+
+    pub fn way(&mut self, s: u32, t: u32, room: usize) -> Result<usize, u32> {
+        let n = self.case.reference.size() as u32;
+        let expected = if s < n && t < n { self.case.long_way(s, t, room) } else { self.case.way(s, t, self.case.words(), room) };
+        let (at, file) = (self.at(format!("way {s} to {t} with {room} bytes")), self.case.input.bytes());
+        let mut out = Lent::<u8>::new(room);
+        let out_after = expected.expected_out(out.part());
+        let (work, words) = (self.words.part_mut().as_mut_ptr(), self.words.size);
+        let got = unsafe { raw::jukesogbi_opened_way(file.as_ptr(), file.len(), s, t, work, words, out.part_mut().as_mut_ptr(), room) };
+        same(got, route_record(expected.result), &at);
+        self.check(&at);
+        assert!(out.part() == out_after, "{}: output is {:?}, not {out_after:?}", at(), out.part());
+        out.check_guards(&at);
+        expected.result
+    }
+
+    pub fn block(&mut self, starts: &[u32], ends: &[u32]) -> Result<Times, u32> {
+        let (at, file) = (self.at(format!("block from {starts:?} to {ends:?}")), self.case.input.bytes());
+        let expected = self.case.block(starts, ends, self.case.words()).result;
+        let (from, to) = (Lent::holding(starts), Lent::holding(ends));
+        let (s, t) = (from.part().as_ptr(), to.part().as_ptr());
+        let (work, words) = (self.words.part_mut().as_mut_ptr(), self.words.size);
+        let got = unsafe { raw::jukesogbi_opened_block(file.as_ptr(), file.len(), s, starts.len(), t, ends.len(), work, words) };
+        same(got, times_record(expected), &at);
+        self.check(&at);
+        from.check_kept(starts, &at);
+        to.check_kept(ends, &at);
+        expected
     }
 }
 

@@ -584,6 +584,15 @@ impl Questions {
         Outcome { result, zeroed: needed, written: Vec::new() }
     }
 
+    /// Opening: 1 to 11, 14.
+    pub fn open(&self, words: usize) -> Result<(), u32> {
+        match &self.read {
+            Ok(shaped) if words < WORDS * shaped.map.size() => Err(14),
+            Ok(_) => Ok(()),
+            Err(rule) => Err(*rule),
+        }
+    }
+
     /// Rules 1 to 11, and 12 for the places named in the call.
     fn asked(&self, places: &[u32]) -> Result<&Shaped, u32> {
         let shaped = self.read.as_ref().map_err(|rule| *rule)?;
