@@ -4,6 +4,7 @@ use crate::Done;
 use jukesogbi::oracle::Oracle;
 use jukesogbi::plain::{self, Cells, Graph, Search, Tables};
 use jukesogbi::sample::Random;
+use jukesogbi::form::{MAX_NODES, NUMBER_SIZE};
 use jukesogbi::{core, files, sample};
 use std::time::{Duration, Instant};
 
@@ -94,7 +95,7 @@ fn checking(case: &Case) {
 fn asking(case: &Case) {
     let o = &case.oracle;
     let n = files::node_count(o);
-    let mut out = vec![0; 2 * n];
+    let mut out = vec![0; NUMBER_SIZE * n];
     checking(case);
     let mut opened = Oracle::open(o.as_slice()).expect("a built oracle is well-shaped");
     let (graph, cells, tables) = prepared(o);
@@ -162,7 +163,7 @@ pub fn run(n: usize, grid: Option<u32>) -> Done {
     head("| what | core | plain | unit | core's time / plain's |");
     let (sizes, grids) = match grid {
         Some(g) => (vec![n], vec![g]),
-        None => ([256, 1024, 4096].into_iter().filter(|&size| size <= n).collect(), vec![16, 32, 64]),
+        None => ([256, 1024, MAX_NODES].into_iter().filter(|&size| size <= n).collect(), vec![16, 32, 64]),
     };
     let mut blocks = Vec::new();
     for n in sizes {

@@ -7,28 +7,11 @@ use std::fmt;
 #[derive(Clone, Copy, Debug, PartialEq, Eq)]
 pub struct Refused(pub u32);
 
-/// What each rule says, as in the scope document.
+/// What each rule says: its line of the header, which alone has the texts.
 pub fn rule_text(rule: u32) -> &'static str {
-    match rule {
-        1 => "the file is too short, has a wrong edition or a wrong entry count, or its contents are incomplete",
-        2 => "a kind, offset or length breaks the order or the joins of the bodies",
-        3 => "the places body is no multiple of 8 bytes, or there are not 1 to 4,096 places",
-        4 => "a coordinate is outside -1,000,000 to 1,000,000",
-        5 => "the roads body is no multiple of 8 bytes, or there are over 16,384 roads",
-        6 => "a road has an end that is no place, equal ends, or seconds outside 1 to 100,000",
-        7 => "the closed list has an odd length, does not rise, or names no road",
-        8 => "the grid body is not 2 bytes, or g is outside 1 to 64",
-        9 => "the transit body has an odd length, does not rise, or names no place",
-        10 => "the access body breaks its layout, has an index not below T, or a value out of range",
-        11 => "the table is not of 4 x T x T bytes, or has a value out of range",
-        12 => "a place number in the call is not below the number of places",
-        13 => "the far question was asked of a local pair",
-        14 => "working memory is below 8 x N words",
-        15 => "output is shorter than the whole result",
-        16 => "the oracle differs from the one built from its bodies 1 to 4",
-        17 => "either side of the block names no place or more than 12",
-        _ => "no such rule",
-    }
+    let (_, table) = include_str!("../../include/jukesogbi.h").split_once("Rules, in checking order:\n").expect("the header lists the rules");
+    let texts = table.lines().map_while(|line| line.trim_start_matches([' ', '*']).split_once("  "));
+    texts.into_iter().find(|(number, _)| number.parse() == Ok(rule)).map_or("no such rule", |(_, text)| text)
 }
 
 impl fmt::Display for Refused {

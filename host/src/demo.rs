@@ -1,6 +1,7 @@
 //! The demonstration: a sample network under two grids, audited, asked and drawn.
 
 use crate::{fault, Done};
+use jukesogbi::form::NUMBER_SIZE;
 use jukesogbi::{core, draw, files, listing, sample};
 
 const NODES: usize = 60;
@@ -39,9 +40,9 @@ pub fn run() -> Done {
     }
     println!("both grids answer alike on all {alike} pairs");
     let (s, t) = pairs[0];
-    let mut out = vec![0; 2 * NODES];
+    let mut out = vec![0; NUMBER_SIZE * NODES];
     let nodes = core::way(&oracles[0], s, t, &mut work, &mut out)?;
-    let way: Vec<u16> = out[..2 * nodes].chunks_exact(2).map(|c| files::read16(c, 0)).collect();
+    let way = files::numbers(&out[..NUMBER_SIZE * nodes]);
     println!("way {s} to {t}: {}", way.iter().map(u16::to_string).collect::<Vec<_>>().join(" "));
     if let Err(e) = std::fs::write(PICTURE, draw::svg(&oracles[0], &way)) {
         return fault(format!("cannot write {PICTURE}: {e}"));

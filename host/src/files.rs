@@ -1,7 +1,6 @@
 //! Network and oracle files: their bodies, and a network's bytes from its nodes and edges. For showing and making files only: the core reads for itself.
 
-/// Working words for each node.
-pub const WORDS: usize = 8;
+use crate::form::*;
 
 /// A road of the scope document.
 #[derive(Clone, Copy, Debug, PartialEq, Eq)]
@@ -20,10 +19,10 @@ pub struct Network {
     pub closed: Vec<u16>,
 }
 
-/// A file of edition 1 with these bodies.
-pub fn file(bodies: &[Vec<u8>]) -> Vec<u8> {
-    let mut out = vec![1, bodies.len() as u8];
-    let mut offset = 2 + 9 * bodies.len();
+/// A file of this edition with these bodies.
+pub fn file(edition: u8, bodies: &[Vec<u8>]) -> Vec<u8> {
+    let mut out = vec![edition, bodies.len() as u8];
+    let mut offset = entry_at(bodies.len());
     for (k, b) in bodies.iter().enumerate() {
         out.push(k as u8 + 1);
         out.extend((offset as u32).to_le_bytes());
@@ -49,7 +48,7 @@ impl Network {
     }
 
     pub fn to_bytes(&self) -> Vec<u8> {
-        file(&self.bodies())
+        file(NETWORK_EDITION, &self.bodies())
     }
 }
 
@@ -63,17 +62,17 @@ pub fn read32(b: &[u8], at: usize) -> u32 {
 
 /// Body k, from 0, where the contents show one inside the file.
 pub fn body(f: &[u8], k: usize) -> Option<&[u8]> {
-    let at = 2 + 9 * k;
-    if f.len() < 2 || k >= f[1] as usize || f.len() < at + 9 {
+    let at = entry_at(k);
+    if f.len() < HEAD_SIZE || k >= f[1] as usize || f.len() < at + ENTRY_SIZE {
         return None;
     }
     let (offset, size) = (read32(f, at + 1) as usize, read32(f, at + 5) as usize);
     f.get(offset..offset.checked_add(size)?)
 }
 
-/// The number of nodes that a file shows, as far as it can be read; at most 4,096.
+/// The number of nodes that a file shows, as far as it can be read; at most as many as a network may have.
 pub fn node_count(f: &[u8]) -> usize {
-    body(f, 0).map_or(0, |b| b.len() / 8).min(4096)
+    body(f, NODES).map_or(0, |b| b.len() / NODE_SIZE).min(MAX_NODES)
 }
 
 /// The working words that any call over this file needs.
@@ -84,25 +83,36 @@ pub fn words_needed(f: &[u8]) -> usize {
 /// Bytes enough for the oracle of this network, whatever its grid: all nodes are access nodes of each cell at the most.
 pub fn most_room(f: &[u8]) -> usize {
     let n = node_count(f);
-    65 + f.len() + 2 + 2 * n + 4 * n + n * (2 + 6 * n) + 4 * n * n
+    let lists = n * (START_SIZE + COUNT_SIZE + LIST_ENTRY_SIZE * n);
+    entry_at(ORACLE_BODIES) + f.len() + GRID_SIZE + NUMBER_SIZE * n + lists + VALUE_SIZE * n * n
 }
 
 /// The network in a file that the core has accepted.
 pub fn network(f: &[u8]) -> Network {
-    let (nodes, edges, closed) = (body(f, 0).unwrap_or(&[]), body(f, 1).unwrap_or(&[]), body(f, 2).unwrap_or(&[]));
+    let of = |k| body(f, k).unwrap_or(&[]);
     Network {
-        nodes: nodes.chunks_exact(8).map(|c| (read32(c, 0) as i32, read32(c, 4) as i32)).collect(),
-        edges: edges.chunks_exact(8).map(|c| Edge { first: read16(c, 0), second: read16(c, 2), seconds: read32(c, 4) }).collect(),
-        closed: closed.chunks_exact(2).map(|c| read16(c, 0)).collect(),
+        nodes: of(NODES).chunks_exact(NODE_SIZE).map(|c| (read32(c, 0) as i32, read32(c, COORDINATE_SIZE) as i32)).collect(),
+        edges: of(EDGES).chunks_exact(EDGE_SIZE).map(|c| Edge { first: read16(c, 0), second: read16(c, 2), seconds: read32(c, 4) }).collect(),
+        closed: numbers(of(CLOSED)),
     }
+}
+
+/// A list of 16-bit numbers.
+pub fn numbers(b: &[u8]) -> Vec<u16> {
+    b.chunks_exact(NUMBER_SIZE).map(|c| read16(c, 0)).collect()
+}
+
+/// The entries of an access list, its count included: an index and a value each.
+pub fn list_entries(list: &[u8]) -> impl Iterator<Item = (u16, u32)> + '_ {
+    list[COUNT_SIZE..].chunks_exact(LIST_ENTRY_SIZE).map(|e| (read16(e, 0), read32(e, NUMBER_SIZE)))
 }
 
 /// The grid number of an oracle.
 pub fn grid_number(o: &[u8]) -> u32 {
-    body(o, 3).filter(|b| b.len() == 2).map_or(0, |b| read16(b, 0) as u32)
+    body(o, GRID).filter(|b| b.len() == GRID_SIZE).map_or(0, |b| read16(b, 0) as u32)
 }
 
 /// The transit nodes of an oracle.
 pub fn transit_nodes(o: &[u8]) -> Vec<u16> {
-    body(o, 4).unwrap_or(&[]).chunks_exact(2).map(|c| read16(c, 0)).collect()
+    numbers(body(o, TRANSIT).unwrap_or(&[]))
 }

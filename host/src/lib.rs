@@ -3,6 +3,7 @@
 pub mod core;
 pub mod draw;
 pub mod files;
+pub mod form;
 pub mod listing;
 pub mod oracle;
 pub mod plain;

@@ -5,6 +5,7 @@ mod demo;
 
 use jukesogbi::core::{self, Refused};
 use jukesogbi::oracle::Oracle;
+use jukesogbi::form::{MAX_GRID, MAX_NODES, NUMBER_SIZE};
 use jukesogbi::{draw, files, listing, sample};
 use std::io::{self, BufRead, IsTerminal, Read, Write};
 use std::process::ExitCode;
@@ -93,7 +94,7 @@ fn run(args: Vec<String>) -> Done {
         ["draw", oracle, picture] => draw(oracle, picture, None, lend),
         ["draw", oracle, picture, s, t] => draw(oracle, picture, Some((number(s)?, number(t)?)), lend),
         ["demo"] => demo::run(),
-        ["bench"] => bench::run(4096, None),
+        ["bench"] => bench::run(MAX_NODES, None),
         ["bench", n] => bench::run(number(n)? as usize, None),
         ["bench", n, g] => bench_one(number(n)?, number(g)?),
         ["help"] | ["--help"] | ["-h"] => print_line(USAGE),
@@ -233,13 +234,14 @@ fn far_line(o: &[u8], s: u32, t: u32) -> Result<String, Refused> {
 }
 
 fn way_nodes(o: &[u8], s: u32, t: u32, lend: Lend) -> Result<Vec<u16>, Refused> {
-    let mut out = vec![0; lend.room.unwrap_or(2 * files::node_count(o))];
+    let mut out = way_room(o, lend);
     let nodes = core::way(o, s, t, &mut lent_words(o, lend), &mut out)?;
-    Ok(node_numbers(&out[..2 * nodes]))
+    Ok(files::numbers(&out[..NUMBER_SIZE * nodes]))
 }
 
-fn node_numbers(bytes: &[u8]) -> Vec<u16> {
-    bytes.chunks_exact(2).map(|c| files::read16(c, 0)).collect()
+/// Output for a way, which has no node twice.
+fn way_room(o: &[u8], lend: Lend) -> Vec<u8> {
+    vec![0; lend.room.unwrap_or(NUMBER_SIZE * files::node_count(o))]
 }
 
 fn nodes_text(nodes: &[u16]) -> String {
@@ -251,9 +253,9 @@ fn way_line(o: &[u8], s: u32, t: u32, lend: Lend) -> Result<String, Refused> {
 }
 
 fn opened_way_line(o: &mut Oracle, s: u32, t: u32, lend: Lend) -> Result<String, Refused> {
-    let mut out = vec![0; lend.room.unwrap_or(2 * files::node_count(o.bytes()))];
+    let mut out = way_room(o.bytes(), lend);
     let nodes = o.way(s, t, &mut out)?;
-    Ok(nodes_text(&node_numbers(&out[..2 * nodes])))
+    Ok(nodes_text(&files::numbers(&out[..NUMBER_SIZE * nodes])))
 }
 
 /// Answers the pairs on standard input, one line each, from an opened oracle. A refused pair is answered by `refused N`; where the oracle is refused, or
@@ -296,9 +298,8 @@ fn each_pair(
 }
 
 fn list(o: &[u8], u: u32) -> Done {
-    for entry in core::list(o, u)?[2..].chunks_exact(6) {
-        let text = listing::seconds_text(core::seconds(files::read32(entry, 2)));
-        print_line(&format!("{} {text}", files::read16(entry, 0)))?;
+    for (index, value) in files::list_entries(core::list(o, u)?) {
+        print_line(&format!("{index} {}", listing::seconds_text(core::seconds(value))))?;
     }
     Ok(())
 }
@@ -329,13 +330,13 @@ fn list_all(o: &[u8]) -> Done {
 
 /// A sample has as many places as a network may have.
 fn sample_size(n: u32) -> Result<usize, Stop> {
-    if (1..=4096).contains(&n) { Ok(n as usize) } else { fault("a network has 1 to 4,096 places") }
+    if (1..=MAX_NODES as u32).contains(&n) { Ok(n as usize) } else { fault(format!("a network has 1 to {MAX_NODES} places")) }
 }
 
 /// The benchmark of one size under one grid.
 fn bench_one(n: u32, g: u32) -> Done {
-    if !(1..=64).contains(&g) {
-        return fault("a grid has 1 to 64 cells a side");
+    if !(1..=MAX_GRID).contains(&g) {
+        return fault(format!("a grid has 1 to {MAX_GRID} cells a side"));
     }
     bench::run(sample_size(n)?, Some(g))
 }

@@ -2,6 +2,7 @@
 //! node that ends when every wanted node is settled, backward marks. It serves the benchmark alone.
 
 use crate::files::{self, Network};
+use crate::form::*;
 use std::cmp::Reverse;
 use std::collections::BinaryHeap;
 
@@ -85,6 +86,10 @@ impl Search {
     }
 }
 
+/// The radii of the squares of cells.
+const INNER: i64 = 2;
+const OUTER: i64 = 4;
+
 pub struct Cells {
     pub of: Vec<(i64, i64)>,
 }
@@ -103,7 +108,7 @@ impl Cells {
     }
 
     pub fn far(&self, s: usize, t: usize) -> bool {
-        !self.within(4, self.of[s], t)
+        !self.within(OUTER, self.of[s], t)
     }
 }
 
@@ -152,7 +157,7 @@ pub fn build(network: &[u8], g: u32) -> Vec<u8> {
         list.iter().for_each(|&a| wanted[a as usize] = true);
         search.toward(&graph, u, &wanted, list.len());
         list.iter().for_each(|&a| wanted[a as usize] = false);
-        starts.extend(((4 * n + lists.len()) as u32).to_le_bytes());
+        starts.extend(((START_SIZE * n + lists.len()) as u32).to_le_bytes());
         lists.extend((list.len() as u16).to_le_bytes());
         for &a in list {
             lists.extend(index[a as usize].to_le_bytes());
@@ -161,7 +166,7 @@ pub fn build(network: &[u8], g: u32) -> Vec<u8> {
     }
     starts.extend(lists);
     bodies.push(starts);
-    let mut table = Vec::with_capacity(4 * transit.len() * transit.len());
+    let mut table = Vec::with_capacity(VALUE_SIZE * transit.len() * transit.len());
     for &a in &transit {
         search.all(&graph, a as usize);
         for &b in &transit {
@@ -169,13 +174,13 @@ pub fn build(network: &[u8], g: u32) -> Vec<u8> {
         }
     }
     bodies.push(table);
-    files::file(&bodies)
+    files::file(ORACLE_EDITION, &bodies)
 }
 
 /// One search per crossing node of the cell, then marks backward over the settle order: a node is marked when it is wanted or leads on to a marked one.
 fn cell_access(net: &Network, graph: &Graph, cells: &Cells, open: &[usize], c: (i64, i64), search: &mut Search) -> Vec<u32> {
     let n = net.nodes.len();
-    let (own, inner, outer) = (crossing(net, cells, open, 0, c), crossing(net, cells, open, 2, c), crossing(net, cells, open, 4, c));
+    let (own, inner, outer) = (crossing(net, cells, open, 0, c), crossing(net, cells, open, INNER, c), crossing(net, cells, open, OUTER, c));
     let mut wanted = vec![false; n];
     outer.iter().for_each(|&q| wanted[q as usize] = true);
     let mut through = vec![false; n];
@@ -199,71 +204,80 @@ fn cell_access(net: &Network, graph: &Graph, cells: &Cells, open: &[usize], c: (
 
 /// Numbers of 16 bits that rise, each below `limit`.
 fn rising(body: &[u8], limit: usize) -> bool {
-    let numbers = || body.chunks_exact(2).map(|c| files::read16(c, 0));
-    body.len().is_multiple_of(2) && numbers().zip(numbers().skip(1)).all(|(a, b)| a < b) && numbers().next_back().is_none_or(|k| (k as usize) < limit)
+    let numbers = || body.chunks_exact(NUMBER_SIZE).map(|c| files::read16(c, 0));
+    body.len().is_multiple_of(NUMBER_SIZE) && numbers().zip(numbers().skip(1)).all(|(a, b)| a < b) && numbers().next_back().is_none_or(|k| (k as usize) < limit)
 }
 
 fn in_range(seconds: u32) -> bool {
-    seconds <= 409_500_000 || seconds == NONE
+    seconds <= MAX_VALUE || seconds == NONE
+}
+
+/// The size of the list at a position, its count included.
+fn list_size(access: &[u8], at: usize) -> usize {
+    COUNT_SIZE + LIST_ENTRY_SIZE * files::read16(access, at) as usize
 }
 
 fn lists_sound(access: &[u8], n: usize, transit: usize) -> bool {
-    if access.len() < 4 * n {
+    if access.len() < START_SIZE * n {
         return false;
     }
-    let mut next = 4 * n;
+    let mut next = START_SIZE * n;
     for u in 0..n {
-        if files::read32(access, 4 * u) as usize != next || access.len() < next + 2 {
+        if files::read32(access, START_SIZE * u) as usize != next || access.len() < next + COUNT_SIZE {
             return false;
         }
-        let count = files::read16(access, next) as usize;
-        let Some(entries) = access.get(next + 2..next + 2 + 6 * count) else { return false };
+        let end = next + list_size(access, next);
+        let Some(list) = access.get(next..end) else { return false };
         let mut least = 0;
-        for e in entries.chunks_exact(6) {
-            let index = files::read16(e, 0) as usize;
-            if index < least || index >= transit || !in_range(files::read32(e, 2)) {
+        for (index, value) in files::list_entries(list) {
+            let index = index as usize;
+            if index < least || index >= transit || !in_range(value) {
                 return false;
             }
             least = index + 1;
         }
-        next += 2 + 6 * count;
+        next = end;
     }
     next == access.len()
 }
 
 /// Whether an oracle keeps rules 1 to 11.
 pub fn well_shaped(o: &[u8]) -> bool {
-    if o.len() < 65 || o[..2] != [1, 7] {
+    if o.len() < entry_at(ORACLE_BODIES) || o[..HEAD_SIZE] != [ORACLE_EDITION, ORACLE_BODIES as u8] {
         return false;
     }
-    let mut next = 65;
-    for k in 0..7 {
-        let entry = &o[2 + 9 * k..];
+    let mut next = entry_at(ORACLE_BODIES);
+    for k in 0..ORACLE_BODIES {
+        let entry = &o[entry_at(k)..];
         if entry[0] as usize != k + 1 || files::read32(entry, 1) as usize != next {
             return false;
         }
         next += files::read32(entry, 5) as usize;
     }
-    if next != o.len() {
-        return false;
-    }
-    let bodies: Vec<&[u8]> = (0..7).map(|k| files::body(o, k).unwrap()).collect();
-    let (n, m, transit) = (bodies[0].len() / 8, bodies[1].len() / 8, bodies[4].len() / 2);
+    next == o.len() && bodies_sound(|k| files::body(o, k).unwrap())
+}
+
+/// Rules 3 to 11.
+fn bodies_sound<'a>(body: impl Fn(usize) -> &'a [u8]) -> bool {
+    let (nodes, edges, table) = (body(NODES), body(EDGES), body(TABLE));
+    let (n, m, transit) = (nodes.len() / NODE_SIZE, edges.len() / EDGE_SIZE, body(TRANSIT).len() / NUMBER_SIZE);
     let end = |e: &[u8], at: usize| files::read16(e, at) as usize;
-    let sound = |e: &[u8]| end(e, 0) < n && end(e, 2) < n && end(e, 0) != end(e, 2) && (1..=100_000).contains(&files::read32(e, 4));
-    bodies[0].len().is_multiple_of(8)
-        && (1..=4096).contains(&n)
-        && bodies[0].chunks_exact(4).all(|c| (-1_000_000..=1_000_000).contains(&(files::read32(c, 0) as i32)))
-        && bodies[1].len().is_multiple_of(8)
-        && m <= 16_384
-        && bodies[1].chunks_exact(8).all(sound)
-        && rising(bodies[2], m)
-        && bodies[3].len() == 2
-        && (1..=64).contains(&files::read16(bodies[3], 0))
-        && rising(bodies[4], n)
-        && lists_sound(bodies[5], n, transit)
-        && bodies[6].len() == 4 * transit * transit
-        && bodies[6].chunks_exact(4).all(|c| in_range(files::read32(c, 0)))
+    let sound = |e: &[u8]| {
+        end(e, 0) < n && end(e, 2) < n && end(e, 0) != end(e, 2) && (MIN_SECONDS..=MAX_SECONDS).contains(&files::read32(e, 4))
+    };
+    nodes.len().is_multiple_of(NODE_SIZE)
+        && (1..=MAX_NODES).contains(&n)
+        && nodes.chunks_exact(COORDINATE_SIZE).all(|c| (-MAX_METRES..=MAX_METRES).contains(&(files::read32(c, 0) as i32)))
+        && edges.len().is_multiple_of(EDGE_SIZE)
+        && m <= MAX_EDGES
+        && edges.chunks_exact(EDGE_SIZE).all(sound)
+        && rising(body(CLOSED), m)
+        && body(GRID).len() == GRID_SIZE
+        && (1..=MAX_GRID).contains(&(files::read16(body(GRID), 0) as u32))
+        && rising(body(TRANSIT), n)
+        && lists_sound(body(ACCESS), n, transit)
+        && table.len() == VALUE_SIZE * transit * transit
+        && table.chunks_exact(VALUE_SIZE).all(|c| in_range(files::read32(c, 0)))
 }
 
 // ---- Answers ----
@@ -277,13 +291,13 @@ pub struct Tables<'a> {
 
 impl<'a> Tables<'a> {
     pub fn of(oracle: &'a [u8]) -> Tables<'a> {
-        Tables { access: files::body(oracle, 5).unwrap(), table: files::body(oracle, 6).unwrap(), transit: files::transit_nodes(oracle).len() }
+        let body = |k| files::body(oracle, k).unwrap();
+        Tables { access: body(ACCESS), table: body(TABLE), transit: files::transit_nodes(oracle).len() }
     }
 
     fn list(&self, u: usize) -> impl Iterator<Item = (usize, u32)> + '_ {
-        let at = files::read32(self.access, 4 * u) as usize;
-        let count = files::read16(self.access, at) as usize;
-        self.access[at + 2..at + 2 + 6 * count].chunks_exact(6).map(|e| (files::read16(e, 0) as usize, files::read32(e, 2)))
+        let at = files::read32(self.access, START_SIZE * u) as usize;
+        files::list_entries(&self.access[at..][..list_size(self.access, at)]).map(|(index, value)| (index as usize, value))
     }
 
     pub fn far(&self, s: usize, t: usize) -> Option<u32> {
@@ -291,7 +305,7 @@ impl<'a> Tables<'a> {
         let entering: Vec<(usize, u32)> = self.list(t).filter(|e| e.1 != NONE).collect();
         for (i, a) in self.list(s).filter(|e| e.1 != NONE) {
             for &(j, b) in &entering {
-                let between = files::read32(self.table, 4 * (i * self.transit + j));
+                let between = files::read32(self.table, VALUE_SIZE * (i * self.transit + j));
                 if between != NONE {
                     least = least.min(a + between + b);
                 }

@@ -247,7 +247,7 @@ fn block_refuses_by_number() {
     for (starts, ends) in [("''", "0"), ("0", "''"), ("''", "''"), ("0,0,0,0,0,0,0,0,0,0,0,0,0", "1"), ("1", "0,0,0,0,0,0,0,0,0,0,0,0,0")] {
         let ran = f.run(&format!("block line.oracle {starts} {ends}"));
         ran.is_refused(17);
-        assert_eq!(ran.err, "rule 17: either side of the block names no place or more than 12\n");
+        assert_eq!(ran.err, "rule 17: either side of a block names no place or more than 12\n");
         f.run(&format!("block line.oracle {starts} {ends} --words 0")).is_refused(17);
         f.run(&format!("block line.net {starts} {ends}")).is_refused(1);
     }
@@ -345,8 +345,8 @@ fn sample_makes_accepted_networks() {
         assert_eq!(f.read("oracle"), reference::Network::of(network).oracle(16).bytes);
         f.run("audit oracle").says("accepted\n");
     }
-    f.run("sample 0 1 net").is_wrong("1 to 4,096");
-    f.run("sample 4097 1 net").is_wrong("1 to 4,096");
+    f.run("sample 0 1 net").is_wrong("1 to 4096");
+    f.run("sample 4097 1 net").is_wrong("1 to 4096");
 }
 
 #[test]
@@ -399,7 +399,7 @@ fn bench_of_one_size_and_grid() {
         assert_eq!(["build", "check an oracle", "far answers", "local answers", "ways", "block of 144"].map(rows), [1, 1, far, 1, 1, 2], "{}", ran.text());
     }
     for wrong in ["bench 0 16", "bench 4097 16"] {
-        f.run(wrong).is_wrong("1 to 4,096");
+        f.run(wrong).is_wrong("1 to 4096");
     }
     for wrong in ["bench 30 0", "bench 30 65"] {
         f.run(wrong).is_wrong("1 to 64");

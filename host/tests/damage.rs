@@ -490,6 +490,56 @@ fn each_value_replaced() {
     given.assert_met(&[0, 10, 11, 13, 16]);
 }
 
+/// Built oracles of random networks: cut, with a byte more, with bytes changed, with numbers written over, and with some values replaced.
+#[test]
+fn oracles_of_random_networks() {
+    let mut given = Given::default();
+    for seed in 0..300 {
+        let mut random = Random(seed);
+        let plan = networks::network(&mut random);
+        let (n, g) = (plan.places.len(), networks::grid(&mut random));
+        if n > 12 {
+            continue;
+        }
+        let (oracle, last) = (oracle_of(&plan, g), n as u32 - 1);
+        let mut damaged = Vec::new();
+        for _ in 0..8 {
+            damaged.push(oracle[..random.below(oracle.len() as u64) as usize].to_vec());
+            let mut bytes = oracle.clone();
+            let at = random.below(bytes.len() as u64) as usize;
+            bytes[at] = bytes[at].wrapping_add(1 + random.below(255) as u8);
+            damaged.push(bytes);
+        }
+        damaged.push([&oracle[..], &[0]].concat());
+        // A number of 16 or 32 bits in each body, at a position of such numbers.
+        for kind in 1..=7 {
+            let ((from, to), size) = (reference::body_ends(&oracle, kind), pick(&mut random, &[2, 4]));
+            let numbers = (to - from) / size;
+            if numbers > 0 {
+                let at = from + size * random.below(numbers as u64) as usize;
+                let limits = [0, 65, n, plan.roads.len(), 65_535, 100_001, 1_000_001, MOST_SECONDS as usize + 1, NO_WALK as usize - 1];
+                let mut bytes = oracle.clone();
+                bytes[at..at + size].copy_from_slice(&bytes_32(pick(&mut random, &limits))[..size]);
+                damaged.push(bytes);
+            }
+        }
+        let mut tables = Tables::of(&oracle, n);
+        for _ in 0..4 {
+            let small = random.below(2_000) as u32;
+            let mut values = tables.values();
+            if !values.is_empty() {
+                let k = random.below(values.len() as u64) as usize;
+                *values[k] = pick(&mut random, &[NO_WALK, MOST_SECONDS, small]);
+            }
+        }
+        damaged.push(tables.oracle(&plan, g));
+        for (k, bytes) in damaged.into_iter().enumerate() {
+            ask(move || format!("oracle of seed {seed} under {g}, damage {k}"), bytes, n, &[0, last], &mut given);
+        }
+    }
+    given.assert_met(&[0, 1, 2, 4, 6, 8, 9, 10, 11, 13, 16]);
+}
+
 /// The greatest sum: three greatest values. It is not a refusal and does not come round.
 #[test]
 fn the_greatest_sum() {

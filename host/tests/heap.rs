@@ -5,8 +5,9 @@
 mod common;
 
 use common::networks::Plan;
-use common::reference::SIDE;
-use common::{NetworkCase, OracleCase};
+use common::reference::{self, Built, Outcome, SIDE};
+use common::{check_audit, check_build, NetworkCase, OracleCase};
+use jukesogbi::plain;
 use jukesogbi::sample::Random;
 
 const PLACES: usize = 4_096;
@@ -208,6 +209,21 @@ fn build_and_ask(n: usize, grids: &[u32]) {
     }
 }
 
+/// Building and the audit, against plain Rust's bytes: the marks go over the
+/// places in the order in which a search has settled them.
+fn build_in_order(n: usize, g: u32) {
+    for (name, roads, closed) in networks(n).into_iter().filter(|(_, roads, _)| roads.len() <= 4 * n) {
+        let plan = plan(n, &roads, closed);
+        let bytes = plain::build(&plan.bytes(), g);
+        let network = NetworkCase::new(move || format!("{n} places, {name}, under {g}"), plan.bytes());
+        let values = Built { length: bytes.len(), transit: reference::body(&bytes, 5).len() / 2 };
+        let words = network.words();
+        check_build(&network.input, g, words, bytes.len(), &Outcome { result: Ok(values), zeroed: words, written: bytes.clone() });
+        let asked = OracleCase::new(move || format!("{n} places, {name}, under {g}"), bytes);
+        check_audit(&asked.input, words, &Outcome { result: Ok(()), zeroed: words, written: Vec::new() });
+    }
+}
+
 /// The times from the first place to `count` ends, to some from other starts, and a way. A way is found by a search from its end.
 fn ask(n: usize, count: usize) {
     for (name, roads, closed) in networks(n) {
@@ -228,6 +244,11 @@ fn sizes_to_33() {
 #[test]
 fn sizes_about_64() {
     sizes(63, 65).into_iter().for_each(|n| build_and_ask(n, &[1, 9]));
+}
+
+#[test]
+fn orders_at_sizes_about_128() {
+    sizes(127, 129).into_iter().for_each(|n| build_in_order(n, 7));
 }
 
 #[test]

@@ -5,13 +5,12 @@ use mathlib.Core.Path.{_≡_, refl, sym, _∙_}
 use mathlib.Core.Logic.{_↔_}
 use mathlib.Core.Bool.{true}
 use mathlib.Core.List.{List, List·Memᴰ}
-use lib.ListN.{length, drop, length-map}
-use Rattle.model.specs.Lists.{upTo, member}
+use lib.ListN.{drop}
+use Rattle.model.specs.Lists.{member}
 use Rattle.model.specs.Bytes.{Bytes, words16}
-use Rattle.model.specs.Network.{Edge, Network, node, nodes, nodeCount, order, arcs, distance}
+use Rattle.model.specs.Network.{Edge, Network, nodeCount, order, arcs, distance}
 use Rattle.model.specs.Grid as model
 use Rattle.model.specs.Access.{crossings, between, accessNodes}
-use Rattle.theory.specs.RangeLaws.{length-range}
 use Rattle.theory.specs.Members.{any→, →any}
 use Rattle.theory.specs.Members as lists
 use Rattle.theory.specs.Sound.{open-fine}
@@ -19,19 +18,22 @@ use Rattle.theory.specs.AccessLaws.{between-walks, crossing-node}
 use Rattle.bitset.specs.Bits.{flags}
 use Rattle.arcs.specs.Arcs.{arcsIn}
 use Rattle.index.specs.Index.{Roads}
+use Rattle.grid.specs.Stored.{gridOf}
 use Rattle.grid.specs.declared.Grid.{Grid}
 use Rattle.crossing.specs.Sets.{testFlags, memberFlags, both}
 use Rattle.crossing.specs.SetLaws.{flags-test, test-flags-same}
 use Rattle.crossing.specs.Ground.{cellsIn, Ground}
 use Rattle.crossing.specs.AccessFlags.{toward, through, access-flags}
 use Rattle.marks.specs.Due.{Flagged}
-use Rattle.layout.specs.Regions.{regionAt, regionFlags, Only, want, own, gathered, transit}
+use Rattle.words.specs.Regions.{regionAt, regionFlags, want, own, gathered, transit}
 use Rattle.access.specs.Gathered.{Gathered, Kept}
-use Rattle.access.specs.Networks.{networkIn}
-use Rattle.layout.proofs.Windows.{after-kept, flags-kept}
-use Rattle.layout.proofs.Indexed.{roads-only}
+use Rattle.access.specs.Networks.{networkIn, count-order, count-cells}
+use Rattle.words.proofs.Windows.{flags-kept}
 use Rattle.access.proofs.Flagging.{flagged→, →flagged, member→, →member}
 use Rattle.theory.specs.Tests.{same-test}
+use Rattle.words.specs.Frames.{Only, KeptFrom}
+use Rattle.words.proofs.Stays.{after-kept}
+use Rattle.index.proofs.Laid.{roads-only}
 
 -- The index stays where the starts are put into x, and the goals into y.
 pub roads-crossed : (edges closed : Bytes) (n : ℕ) (w x y : List ℕ) → Only n own w x → Only n want x y → Roads edges closed n w → Roads edges closed n y
@@ -55,12 +57,7 @@ module _ (b e c : Bytes) (grid : Grid) (ground : Ground b e c grid) (n : ℕ) (s
   cs = cellsIn grid b
 
   count : order net ≡ n
-  unfolding order nodes
-  count = length-map (upTo (nodeCount b)) (node b) ∙ (length-range 0 (nodeCount b) ∙ sym size)
-
-  pub count-cells : length (cellsIn grid b) ≡ n
-  unfolding model.cells order
-  count-cells = length-map (nodes b) _ ∙ count
+  count = count-order b n size e c
 
   ends : (x : Edge) → List·Memᴰ x (net .edges) → (x .first < order net) × (x .second < order net)
   ends x m = let f = open-fine (nodeCount b) e (words16 c) (ground .edges-rule) x m in (omega (arith, f .first-in, count, size), omega (arith, f .second-in, count, size))
@@ -74,7 +71,7 @@ module _ (b e c : Bytes) (grid : Grid) (ground : Ground b e c grid) (n : ℕ) (s
     ps = crossings cs (net .edges) 0 cell
 
     abbrev qs : List ℕ
-    qs = crossings cs (net .edges) model.outerRadius cell
+    qs = crossings cs (net .edges) (gridOf grid .outer) cell
 
     inside : (r : ℕ) {x : ℕ} → List·Memᴰ x (crossings cs (net .edges) r cell) → x < n
     inside r m = rw count at (crossing-node net ends cs r cell m)
@@ -88,7 +85,7 @@ module _ (b e c : Bytes) (grid : Grid) (ground : Ground b e c grid) (n : ℕ) (s
         record {
           p = p .0;
           start = →listed n ps (p .0) (inside 0 (p .1)) (p .1);
-          on = record { q = q .0; x = o .i; y = o .j; goal = →listed n qs (q .0) (inside model.outerRadius (q .1)) (q .1); before = o .before; after = o .after; whole = o .whole };
+          on = record { q = q .0; x = o .i; y = o .j; goal = →listed n qs (q .0) (inside (gridOf grid .outer) (q .1)) (q .1); before = o .before; after = o .after; whole = o .whole };
         }
 
     →through : (v : ℕ) → v < n → Gathered (arcs net) (memberFlags n ps) (memberFlags n qs) v → through (distance net) ps qs v ≡ true
@@ -108,7 +105,7 @@ module _ (b e c : Bytes) (grid : Grid) (ground : Ground b e c grid) (n : ℕ) (s
     -- From the words w, with the starts put into x, the goals into y, and gathered into z.
     pub gathered-cell : (w x y z : List ℕ) → regionFlags n own x ≡ memberFlags n ps → Only n own w x → regionFlags n want y ≡ memberFlags n qs → Only n want x y
         → ((v : ℕ) → Flagged (regionFlags n gathered z) v ↔ Gathered (arcsIn e c) (regionFlags n own y) (regionFlags n want y) v) → Kept n y z
-        → (regionFlags n gathered z ≡ testFlags (through (distance net) ps qs) n) × (drop (regionAt n transit) z ≡ drop (regionAt n transit) w)
+        → (regionFlags n gathered z ≡ testFlags (through (distance net) ps qs) n) × (KeptFrom (regionAt n transit) w z)
     gathered-cell w x y z f o g q k r =
         let f′ : regionFlags n own y ≡ memberFlags n ps = flags-kept n own want x y (λ i. omega arith) q ∙ f in (
           gathered-flags (drop (regionAt n gathered) z) (rw (f′, g) at k),
@@ -116,12 +113,13 @@ module _ (b e c : Bytes) (grid : Grid) (ground : Ground b e c grid) (n : ℕ) (s
         )
 
     -- From the words w, gathered into x, with the inner crossing nodes put into y, and those that are in both into z.
-    pub access-cell : (w x y z : List ℕ) → regionFlags n gathered x ≡ testFlags (through (distance net) ps qs) n → drop (regionAt n transit) x ≡ drop (regionAt n transit) w
-        → regionFlags n want y ≡ memberFlags n (crossings cs (net .edges) model.innerRadius cell) → Only n want x y
+    pub access-cell : (w x y z : List ℕ) → regionFlags n gathered x ≡ testFlags (through (distance net) ps qs) n → KeptFrom (regionAt n transit) w x
+        → regionFlags n want y ≡ memberFlags n (crossings cs (net .edges) (gridOf grid .inner) cell) → Only n want x y
         → regionFlags n own z ≡ both (regionFlags n want y) (regionFlags n gathered y) → Only n own y z
-        → (regionFlags n own z ≡ memberFlags n (accessNodes (distance net) cs (net .edges) cell)) × (drop (regionAt n transit) z ≡ drop (regionAt n transit) w)
+        → (regionFlags n own z ≡ memberFlags n (accessNodes (distance net) (gridOf grid) cs (net .edges) cell))
+        × (KeptFrom (regionAt n transit) w z)
     access-cell w x y z f r g o m p =
         let f′ : regionFlags n gathered y ≡ testFlags (through (distance net) ps qs) n = flags-kept n gathered want x y (λ i. omega arith) o ∙ f in (
-          m ∙ rw (g, f′) (sym (rw count-cells at (access-flags (distance net) cs (net .edges) cell))),
+          m ∙ rw (g, f′) (sym (rw (count-cells b n size grid) at (access-flags (distance net) (gridOf grid) cs (net .edges) cell))),
           after-kept _ _ y z p (regionAt n transit) (omega arith) ∙ (after-kept _ _ x y o (regionAt n transit) (omega arith) ∙ r),
         )

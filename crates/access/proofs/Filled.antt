@@ -11,8 +11,10 @@ use Rattle.bitset.specs.Bits.{setWords}
 use Rattle.bitset.proofs.Joined.{in-either, in-both}
 use Rattle.crossing.specs.Sets.{either, both}
 use Rattle.crossing.specs.SetLaws.{flags-either, flags-both}
-use Rattle.layout.specs.Regions.{regionAt, region, regionFlags, Only}
-use Rattle.layout.proofs.Windows.{only-same, only-then, region-kept}
+use Rattle.words.specs.Regions.{regionAt, region, regionFlags}
+use Rattle.words.proofs.Windows.{region-kept}
+use Rattle.words.specs.Frames.{Only}
+use Rattle.words.proofs.Stays.{only-same, only-then}
 
 -- The words were w₀, and are w when the first i words of the set in region k are made what `word` says.
 pub record Filling (word : ℕ → ℕ) (n k : ℕ) (w₀ : List ℕ) (i : ℕ) (w : List ℕ) : Type 0 where
@@ -42,7 +44,8 @@ module _ (word : ℕ → ℕ) (n k : ℕ) (w₀ : List ℕ) where
     next long x e = record {
       room = omega arith;
       size = length-set w (regionAt n k + i) x ∙ g .size;
-      others = only-then _ _ w₀ w (set w (regionAt n k + i) x) (g .others) (record { front = take-set-le (regionAt n k) w (regionAt n k + i) x (omega arith); back = drop-set-lt (regionAt n k + setWords n) w (regionAt n k + i) x (omega arith) });
+      others = only-then _ _ w₀ w (set w (regionAt n k + i) x) (g .others) (record { front = take-set-le (regionAt n k) w (regionAt n k + i) x (omega arith); back =
+          drop-set-lt (regionAt n k + setWords n) w (regionAt n k + i) x (omega arith) });
       made = λ p j l. pick p j l (ℕ-discrete j i);
       ahead = λ j l. getD-set-other w (regionAt n k + i) (regionAt n k + j) x 0 (λ q. absurd (omega arith)) ∙ g .ahead j (omega arith);
     }

@@ -1,11 +1,10 @@
 -- The first three regions as the 3 n words of a search, with the marks made after it. Assumes nothing.
-use Prim.Native.Nat.{ℕ, _+_, _*_, _/_, _≤_, _<_}
+use Prim.Native.Nat.{ℕ, _+_, _/_, _≤_, _<_}
 use native.Mathlib.Omega.{arith}
 use mathlib.Core.Path.{_≡_, refl, sym, ap, _∙_}
 use mathlib.Core.Logic.{_↔_}
-use mathlib.Core.Bool.{true}
 use mathlib.Core.List.{List}
-use lib.ListN.{length, getD, set, take, drop, replicate}
+use lib.ListN.{length, getD, take, drop, replicate}
 use lib.Seq.{length-take-le, take-take, getD-take, getD-drop}
 use Rattle.model.specs.Walk.{Arc}
 use Rattle.theory.specs.Walks.{Positive}
@@ -14,22 +13,23 @@ use Rattle.algorithms.specs.Pass.{Is}
 use Rattle.algorithms.specs.Stops.{Stopped}
 use Rattle.bitset.specs.Bits.{isIn, flags}
 use Rattle.crossing.specs.SetLaws.{flags-test, test-flags-same}
-use Rattle.search.specs.Regions.{timesIn, orderIn, wantIn}
-use Rattle.marks.specs.Due.{Flagged, due, turned}
-use Rattle.marks.specs.Region.{marksIn, Ordered}
+use Rattle.marks.specs.Due.{Flagged, turned}
 use Rattle.marks.proofs.Views.{times-kept, order-kept}
 use Rattle.marks.proofs.Turns as turns
 use Rattle.marks.proofs.Walks.{marked-walk}
-use Rattle.layout.specs.Regions.{regionAt, regionFlags, Only, marks, want}
-use Rattle.layout.proofs.Windows.{drop-more, after-kept, flags-kept, only-same, only-then}
+use Rattle.words.specs.Regions.{regionAt, regionFlags, marks, want, timesIn, orderIn, wantIn, marksIn, searchWords, queueWords}
+use Rattle.words.proofs.Windows.{flags-kept}
 use Rattle.access.proofs.Wanted.{want-region}
+use Rattle.marks.specs.Ordered.{Ordered}
+use Rattle.words.specs.Frames.{Only, Enough, KeptFrom}
+use Rattle.words.proofs.Stays.{kept-more, after-kept, only-same, only-then}
 
 abbrev front : ℕ → List ℕ → List ℕ
-front n w = take (3 * n) w
+front n w = take (searchWords n) w
 
 module _ (n : ℕ) (w : List ℕ) where
-  two-front : take (2 * n) (front n w) ≡ take (2 * n) w
-  two-front = take-take (2 * n) (3 * n) w (omega arith)
+  two-front : take (queueWords n) (front n w) ≡ take (queueWords n) w
+  two-front = take-take (queueWords n) (searchWords n) w (omega arith)
 
   times-front : timesIn n (front n w) ≡ timesIn n w
   times-front = times-kept n w (front n w) two-front
@@ -37,18 +37,18 @@ module _ (n : ℕ) (w : List ℕ) where
   order-front : (i : ℕ) → orderIn n i (front n w) ≡ orderIn n i w
   order-front = order-kept n w (front n w) two-front
 
-  mark-front : (v : ℕ) → v < n → isIn (drop (2 * n) (front n w)) v ≡ isIn (drop (2 * n) w) v
+  mark-front : (v : ℕ) → v < n → isIn (drop (queueWords n) (front n w)) v ≡ isIn (drop (queueWords n) w) v
   unfolding isIn
-  mark-front v h = rw (getD-drop (2 * n) (front n w) (v / 32) 0, getD-take (3 * n) w (2 * n + v / 32) 0 (omega arith), getD-drop (2 * n) w (v / 32) 0)
+  mark-front v h = rw (getD-drop (queueWords n) (front n w) (v / 32) 0, getD-take (searchWords n) w (queueWords n + v / 32) 0 (omega arith), getD-drop (queueWords n) w (v / 32) 0)
 
   marks-front : marksIn n (front n w) ≡ regionFlags n marks w
-  marks-front = flags-test n (drop (2 * n) (front n w)) ∙ (test-flags-same _ _ n mark-front ∙ sym (flags-test n (drop (2 * n) w)))
+  marks-front = flags-test n (drop (queueWords n) (front n w)) ∙ (test-flags-same _ _ n mark-front ∙ sym (flags-test n (drop (queueWords n) w)))
 
-  size-front : 8 * n ≤ length w → length (front n w) ≡ 3 * n
-  size-front h = length-take-le (3 * n) w (omega arith)
+  size-front : Enough n w → length (front n w) ≡ searchWords n
+  size-front h = length-take-le (searchWords n) w (omega arith)
 
   node-front : (i : ℕ) → i < n → getD (front n w) (n + i) 0 ≡ getD w (n + i) 0
-  node-front i h = getD-take (3 * n) w (n + i) 0 (omega arith)
+  node-front i h = getD-take (searchWords n) w (n + i) 0 (omega arith)
 
 -- ---- the words were w₀, and are w when the order is passed up to position i
 pub record Marking (arcs : List Arc) (n e : ℕ) (w₀ : List ℕ) (i : ℕ) (w : List ℕ) : Type 0 where
@@ -56,7 +56,7 @@ pub record Marking (arcs : List Arc) (n e : ℕ) (w₀ : List ℕ) (i : ℕ) (w 
   pub others : Only n marks w₀ w
   pub standing : turns.Standing arcs n e (regionFlags n want w₀) (front n w₀) i (front n w)
 
-module _ (arcs : List Arc) (n e : ℕ) (w₀ : List ℕ) (long : 8 * n ≤ length w₀) where
+module _ (arcs : List Arc) (n e : ℕ) (w₀ : List ℕ) (long : Enough n w₀) where
   -- w are the words before the marks were cleared.
   pub first : (w : List ℕ) → e ≤ n → Only n marks w w₀ → regionFlags n marks w₀ ≡ replicate n 0 → Ordered n (timesIn n w) (orderIn n e w) → Marking arcs n e w₀ e w₀
   first w h o m r = record {
@@ -91,21 +91,16 @@ module _ (arcs : List Arc) (n e : ℕ) (w₀ : List ℕ) (long : 8 * n ≤ lengt
       (λ v. rw (marks-front n w′, times-front n w, order-front n w e, same) at (l .1 v), only-then _ _ w w₀ w′ o (g .others))
 
 -- The wanted nodes stay in a search.
-want-kept : (n : ℕ) (w x : List ℕ) → drop (3 * n) x ≡ drop (3 * n) w → regionFlags n want x ≡ regionFlags n want w
-want-kept n w x e = ap (flags n) (drop-more (3 * n) (regionAt n want) w x (omega arith) e)
+want-kept : (n : ℕ) (w x : List ℕ) → KeptFrom (searchWords n) w x → regionFlags n want x ≡ regionFlags n want w
+want-kept n w x e = ap (flags n) (kept-more (searchWords n) (regionAt n want) w x (omega arith) e)
 
 -- From the words w, the search from p has found x, and the marks made after it are y.
-pub toward-found : (arcs : List Arc) (n p e : ℕ) (w x y : List ℕ) → Stopped arcs n p (wantIn n w) (timesIn n x) (orderIn n e x) → drop (3 * n) x ≡ drop (3 * n) w
+pub toward-found : (arcs : List Arc) (n p e : ℕ) (w x y : List ℕ) → Stopped arcs n p (wantIn n w) (timesIn n x) (orderIn n e x) → KeptFrom (searchWords n) w x
     → ((v : ℕ) → Flagged (regionFlags n marks y) v ↔ Is arcs (timesIn n x) (Flagged (regionFlags n want x)) (orderIn n e x) v)
     → (v : ℕ) → Flagged (regionFlags n marks y) v ↔ Toward arcs p (Flagged (regionFlags n want w)) v
 toward-found arcs n p e w x y f d m v =
     marked-walk arcs n p (regionFlags n want w) (timesIn n x) (orderIn n e x) (rw (want-region n w) at f) _ v (rw (want-kept n w x d) at (m v))
 
 -- What stays after a search from p and the marks made after it.
-pub rest-kept : (n : ℕ) (w x y : List ℕ) → 0 < n → drop (3 * n) x ≡ drop (3 * n) w → Only n marks x y → drop (3 * n) y ≡ drop (3 * n) w
-rest-kept n w x y h e o = after-kept _ _ x y o (3 * n) (omega arith) ∙ e
-
--- A node that is due is marked.
-pub turn-due : (arcs : List Arc) (times wanted marked : List ℕ) (v : ℕ) → true ≡ due arcs times wanted marked v → set marked v 1 ≡ turned arcs times wanted marked v
-unfolding turned
-turn-due arcs times wanted marked v d = rw (← d)
+pub rest-kept : (n : ℕ) (w x y : List ℕ) → 0 < n → KeptFrom (searchWords n) w x → Only n marks x y → KeptFrom (searchWords n) w y
+rest-kept n w x y h e o = after-kept _ _ x y o (searchWords n) (omega arith) ∙ e

@@ -15,11 +15,13 @@ use Rattle.bitset.specs.Bits.{isIn, flags}
 use Rattle.index.specs.Index.{Roads}
 use Rattle.crossing.specs.Sets.{either, ones}
 use Rattle.marks.specs.Due.{Flagged}
-use Rattle.layout.specs.Regions.{regionAt, regionFlags, Only, marks, want, own, gathered, transit}
+use Rattle.words.specs.Regions.{regionAt, regionFlags, marks, want, own, gathered, transit, searchWords}
 use Rattle.access.specs.Gathered.{Gathered, Joined, Kept}
-use Rattle.layout.proofs.Windows.{drop-more, after-kept, flags-kept}
-use Rattle.layout.proofs.Indexed.{roads-from}
+use Rattle.words.proofs.Windows.{flags-kept}
 use Rattle.access.proofs.Flagging.{member→, →member, either-flagged}
+use Rattle.words.specs.Frames.{Only, KeptFrom}
+use Rattle.words.proofs.Stays.{kept-more, after-kept}
+use Rattle.index.proofs.Laid.{roads-from}
 
 -- ---- what stays
 pub kept-same : (n : ℕ) (w : List ℕ) → Kept n w w
@@ -37,11 +39,11 @@ kept-only n w w′ o = record {
 }
 
 -- Where the first three regions alone are changed.
-kept-front : (n : ℕ) (w w′ : List ℕ) → drop (3 * n) w′ ≡ drop (3 * n) w → Kept n w w′
+kept-front : (n : ℕ) (w w′ : List ℕ) → KeptFrom (searchWords n) w w′ → Kept n w w′
 kept-front n w w′ e = record {
-  wanted = ap (flags n) (drop-more (3 * n) (regionAt n want) w w′ (omega arith) e);
-  starts = ap (flags n) (drop-more (3 * n) (regionAt n own) w w′ (omega arith) e);
-  rest = drop-more (3 * n) (regionAt n transit) w w′ (omega arith) e;
+  wanted = ap (flags n) (kept-more (searchWords n) (regionAt n want) w w′ (omega arith) e);
+  starts = ap (flags n) (kept-more (searchWords n) (regionAt n own) w w′ (omega arith) e);
+  rest = kept-more (searchWords n) (regionAt n transit) w w′ (omega arith) e;
 }
 
 -- ---- one start
@@ -50,11 +52,11 @@ module _ (arcs : List Arc) (n p : ℕ) (w : List ℕ) where
   One w′ = ((v : ℕ) → Flagged (regionFlags n gathered w′) v ↔ Joined arcs (regionFlags n gathered w) (regionFlags n own w) (regionFlags n want w) p v) × Kept n w w′
 
   -- x are the words after the marks, and w′ those after the union.
-  pub from-start : p < n → true ≡ isIn (drop (regionAt n own) w) p → (x w′ : List ℕ) → drop (3 * n) x ≡ drop (3 * n) w
+  pub from-start : p < n → true ≡ isIn (drop (regionAt n own) w) p → (x w′ : List ℕ) → KeptFrom (searchWords n) w x
       → ((v : ℕ) → Flagged (regionFlags n marks x) v ↔ Toward arcs p (Flagged (regionFlags n want w)) v)
       → regionFlags n gathered w′ ≡ either (regionFlags n marks x) (regionFlags n gathered x) → Only n gathered x w′ → One w′
   from-start h e x w′ d m u o =
-      let same : regionFlags n gathered x ≡ regionFlags n gathered w = ap (flags n) (drop-more (3 * n) (regionAt n gathered) w x (omega arith) d) in
+      let same : regionFlags n gathered x ≡ regionFlags n gathered w = ap (flags n) (kept-more (searchWords n) (regionAt n gathered) w x (omega arith) d) in
       let s : Flagged (regionFlags n own w) p = →member n (drop (regionAt n own) w) p h (sym e) in (
         λ v. let k = either-flagged n (drop (regionAt n marks) x) (drop (regionAt n gathered) x) v in (
           λ l. ⊎-elim (λ f. inr (s, m v .0 f)) (λ f. inl (rw same at f)) (k .0 (rw u at l)),
@@ -114,7 +116,8 @@ module _ (arcs : List Arc) (n : ℕ) (w₀ : List ℕ) where
           );
         }
       where
-        pick : (v : ℕ) (b : Below arcs (regionFlags n own w₀) (regionFlags n want w₀) (p + 1) v) → Dec (b .q ≡ p) → Joined arcs (regionFlags n gathered w) (regionFlags n own w) (regionFlags n want w) p v
+        pick : (v : ℕ) (b : Below arcs (regionFlags n own w₀) (regionFlags n want w₀) (p + 1) v) → Dec (b .q ≡ p)
+            → Joined arcs (regionFlags n gathered w) (regionFlags n own w) (regionFlags n want w) p v
         pick v b (yes e) = inr (rw (g .others .starts, g .others .wanted, ← e) (b .start, b .on))
         pick v b (no d) = inl (g .members v .1 (record { q = b .q; below = omega (arith, b .below, d); start = b .start; on = b .on }))
 

@@ -18,29 +18,30 @@ use Rattle.theory.specs.Members.{map→, →map, filter→, →filter, →upTo,
 use Rattle.theory.specs.Members as lists
 use Rattle.algorithms.specs.Dijkstra.{at}
 use Rattle.algorithms.specs.Settle.{blank}
-use Rattle.arcs.proofs.Bodies.{edge-fine}
 use Rattle.bitset.specs.Bits.{setWords}
 use Rattle.bitset.proofs.Members.{length-flags}
 use Rattle.grid.specs.Squares.{SquareOf, reachesNode}
 use Rattle.grid.specs.declared.Grid.{Grid}
 use Rattle.grid.specs.declared.square.Square.{Square}
-use Rattle.index.specs.declared.cursor.Cursor.{Cursor}
-use Rattle.index.specs.Index.{indexAt, OpenAt, Roads}
-use Rattle.index.specs.Cursor.{Valid, Passing, Stepped}
-use Rattle.index.proofs.Laid.{same-from, valid-kept, passing-kept}
-use Rattle.index.proofs.Step.{mem-split}
-use Rattle.index.proofs.Same.{passing-all}
+use Rattle.index.specs.Index.{OpenAt, Roads}
+use Rattle.index.proofs.Laid.{roads-only}
 use Rattle.crossing.specs.Sets.{memberFlags}
 use Rattle.crossing.specs.SetLaws.{flags-test, test-flags-same}
 use Rattle.crossing.specs.Ground.{cellsIn, openIn, Ground}
 use Rattle.crossing.specs.Beside.{crossesSquare}
 use Rattle.crossing.proofs.Crossed.{crosses-same}
 use Rattle.marks.specs.Due.{Flagged}
-use Rattle.layout.specs.Regions.{regionAt, regionFlags, Only}
-use Rattle.layout.proofs.Windows.{only-same, only-then}
-use Rattle.layout.proofs.Indexed.{roads-only}
+use Rattle.words.specs.Regions.{regionAt, regionFlags, indexAt}
 use Rattle.access.specs.Crossed.{CrossingOf, Put}
 use Rattle.access.proofs.Flagging.{member→, →member}
+use Rattle.words.specs.Frames.{Only, KeptFrom}
+use Rattle.words.proofs.Stays.{kept-more, only-same, only-then}
+use Rattle.theory.specs.Sound.{edge-fine}
+use Rattle.arcs.specs.declared.cursor.Cursor.{Cursor}
+use Rattle.arcs.specs.Cursor.{Valid, PassedEdges, Stepped}
+use Rattle.arcs.proofs.Kept.{valid-kept, passing-kept}
+use Rattle.arcs.proofs.Step.{mem-split}
+use Rattle.arcs.proofs.Same.{passing-all}
 
 -- ---- a flag is set
 module _ (l : List ℕ) (v : ℕ) where
@@ -110,19 +111,19 @@ module _ (nodes edges closed : Bytes) (s : Square) (n k : ℕ) where
   -- ---- the open edges at v, as a cursor passes them
   pub record Walked (v : ℕ) (w₀ : List ℕ) (c : Cursor) (w : List ℕ) : Type 0 where
     pub done : List ℕ
-    pub passing : Passing edges closed n w v done c
+    pub passing : PassedEdges edges closed n w v done c
     pub put : PutOf (λ j. List·Memᴰ j done) w₀ w
 
   module _ (v : ℕ) (w₀ : List ℕ) where
-    pub walked-first : (c : Cursor) → Passing edges closed n w₀ v [] c → Walked v w₀ c w₀
+    pub walked-first : (c : Cursor) → PassedEdges edges closed n w₀ v [] c → Walked v w₀ c w₀
     walked-first c p = record { done = []; passing = p; put = put-none _ w₀ (λ j m. List·Memᴰ·not-nil m) }
 
     module _ (c : Cursor) (w : List ℕ) (g : Walked v w₀ c w) where
       module _ (h : regionAt n k + setWords n ≤ indexAt n) where
         -- w′ are the words after the turn of an edge.
         module _ (w′ : List ℕ) (o : Only n k w w′) where
-          index-same : drop (indexAt n) w′ ≡ drop (indexAt n) w
-          index-same = same-from edges closed n w w′ _ h (o .back)
+          index-same : KeptFrom (indexAt n) w w′
+          index-same = kept-more _ (indexAt n) w w′ h (o .back)
 
           pub walked-valid : Valid edges closed n w′ v c
           walked-valid = valid-kept edges closed n w w′ index-same v c (g .passing .valid)
@@ -180,7 +181,8 @@ module _ {nodes edges closed : Bytes} {grid : Grid} (ground : Ground nodes edges
   listed : (x : ℕ) → CrossingOf nodes edges closed s x → List·Memᴰ x (crossings (cellsIn grid nodes) (openIn edges closed) r c)
   unfolding crossings openEdges
   listed x o =
-      let e = →map (edge edges) (filter (isOpen (words16 closed)) (upTo (edgeCount edges))) (→filter (isOpen (words16 closed)) (upTo (edgeCount edges)) (→upTo (edgeCount edges) (o .j) (o .real .below)) (o .real .unclosed)) in
+      let e = →map (edge edges) (filter (isOpen (words16 closed)) (upTo (edgeCount edges)))
+          (→filter (isOpen (words16 closed)) (upTo (edgeCount edges)) (→upTo (edgeCount edges) (o .j) (o .real .below)) (o .real .unclosed)) in
       let m = →map crossingEnd _ (→filter (crosses (cellsIn grid nodes) r c) (openIn edges closed) e (sym (same (o .j) (o .real .below)) ∙ o .crosses)) in
       subst (λ (z : ℕ). List·Memᴰ z (crossings (cellsIn grid nodes) (openIn edges closed) r c)) (sym (o .end)) m
 
@@ -209,12 +211,9 @@ module _ {nodes edges closed : Bytes} {grid : Grid} (ground : Ground nodes edges
     real : (a : ℕ) → Flagged (regionFlags n k y) a → List·Memᴰ a (crossings (cellsIn grid nodes) (openIn edges closed) r c)
     real a f = ⊎-elim (λ g. let b : Flagged (replicate n 0) a = rw z at g in absurd (omega (arith, blank n a))) (λ o. listed a o) (p .real a f)
 
-    -- w are the words before the region was cleared.
-    pub crossings-put : (w : List ℕ) → Only n k w x → (regionFlags n k y ≡ memberFlags n (crossings (cellsIn grid nodes) (openIn edges closed) r c)) × Only n k w y
+    pub crossings-put : regionFlags n k y ≡ memberFlags n (crossings (cellsIn grid nodes) (openIn edges closed) r c)
     unfolding memberFlags
-    crossings-put w o = (
-      flags-test n (drop (regionAt n k) y) ∙ test-flags-same _ _ n (λ a h. same-test
-          (λ i. lists.→member a _ (real a (→member n (drop (regionAt n k) y) a h i)))
-          (λ m. member→ n (drop (regionAt n k) y) a (found a (lists.member→ a _ m)) .1)),
-      only-then _ _ w x y o (p .others),
-    )
+    crossings-put =
+        flags-test n (drop (regionAt n k) y) ∙ test-flags-same _ _ n (λ a h. same-test
+        (λ i. lists.→member a _ (real a (→member n (drop (regionAt n k) y) a h i)))
+        (λ m. member→ n (drop (regionAt n k) y) a (found a (lists.member→ a _ m)) .1))

@@ -7,7 +7,8 @@ use lib.ListN.{drop}
 use Rattle.model.specs.Walk.{Arc}
 use Rattle.algorithms.specs.Marks.{Toward}
 use Rattle.marks.specs.Due.{Flagged}
-use Rattle.layout.specs.Regions.{regionAt, regionFlags, want, own, transit}
+use Rattle.words.specs.Regions.{regionAt, regionFlags, want, own, transit}
+use Rattle.words.specs.Frames.{KeptFrom}
 
 -- v lies on a least walk from a node of `starts` to one of `goals`.
 pub record Gathered (arcs : List Arc) (starts goals : List ℕ) (v : ℕ) : Type 0 where
@@ -23,4 +24,4 @@ Joined arcs already starts goals p v = Flagged already v ⊎ (Flagged starts p �
 pub record Kept (n : ℕ) (w w′ : List ℕ) : Type 0 where
   pub wanted : regionFlags n want w′ ≡ regionFlags n want w
   pub starts : regionFlags n own w′ ≡ regionFlags n own w
-  pub rest : drop (regionAt n transit) w′ ≡ drop (regionAt n transit) w
+  pub rest : KeptFrom (regionAt n transit) w w′

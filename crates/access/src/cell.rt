@@ -3,23 +3,23 @@ ghost use mathlib.Core.Path.{_≡_};
 ghost use Prim.Native.Nat.{_*_, _≤_};
 ghost use lib.ListN.{length, drop};
 ghost use Rattle.model.specs.Network.{maxNodes, nodeCount, distance};
-ghost use Rattle.model.specs.Grid.{outerRadius};
 ghost use Rattle.model.specs.Access.{crossings, accessNodes};
 ghost use Rattle.index.specs.Index.{Roads};
-ghost use Rattle.grid.specs.Stored.{modelCell};
+ghost use Rattle.grid.specs.Stored.{gridOf, modelCell};
 ghost use Rattle.crossing.specs.Sets.{testFlags, memberFlags};
 ghost use Rattle.crossing.specs.Ground.{cellsIn, openIn, Ground};
 ghost use Rattle.crossing.specs.AccessFlags.{through};
-ghost use Rattle.layout.specs.Regions.{regionAt, regionFlags, own, gathered, transit};
+ghost use Rattle.words.specs.Regions.{regionAt, regionFlags, own, gathered, transit};
+ghost use Rattle.words.specs.Frames.{Enough, KeptFrom};
 ghost use Rattle.access.specs.Networks.{networkIn};
 use crate::crossings::put_crossings;
 use crate::gather::gather;
 use crate::sets::meet;
 use grid::Cell;
 use grid::Grid;
-use layout::regions::GATHERED;
-use layout::regions::OWN;
-use layout::regions::WANT;
+use words::regions::GATHERED;
+use words::regions::OWN;
+use words::regions::WANT;
 
 // Makes region GATHERED the set of the nodes on least walks from a crossing node of c to one of its outer square.
 fn cell_gather(
@@ -31,15 +31,15 @@ fn cell_gather(
     n: usize,
     work: &mut [u32],
 )
-    requires { ⌜ Ground (now nodes) (now edges) (now closed) grid × (n ≡ nodeCount (now nodes)) × (n ≤ maxNodes) × (8 * n ≤ length (now work)) × (1 ≤ n) ⌝ }
+    requires { ⌜ Ground (now nodes) (now edges) (now closed) grid × (n ≡ nodeCount (now nodes)) × (n ≤ maxNodes) × Enough n (now work) × (1 ≤ n) ⌝ }
     requires { ⌜ Roads (now edges) (now closed) n (now work) ⌝ }
     ensures members { λ _. ⌜ regionFlags n gathered (now (work .exit)) ≡ testFlags (through (distance (networkIn (now (nodes .entry)) (now (edges .entry)) (now (closed .entry))))
         (crossings (cellsIn grid (now (nodes .entry))) (openIn (now (edges .entry)) (now (closed .entry))) 0 (modelCell c))
-        (crossings (cellsIn grid (now (nodes .entry))) (openIn (now (edges .entry)) (now (closed .entry))) outerRadius (modelCell c))) n ⌝ }
-    ensures others { λ _. ⌜ drop (regionAt n transit) (now (work .exit)) ≡ drop (regionAt n transit) (now (work .entry)) ⌝ }
+        (crossings (cellsIn grid (now (nodes .entry))) (openIn (now (edges .entry)) (now (closed .entry))) (gridOf grid .outer) (modelCell c))) n ⌝ }
+    ensures others { λ _. ⌜ KeptFrom (regionAt n transit) (now (work .entry)) (now (work .exit)) ⌝ }
 {
-    put_crossings(nodes, edges, closed, grid, c, 0, n, OWN, work);
-    put_crossings(nodes, edges, closed, grid, c, Grid::OUTER, n, WANT, work);
+    put_crossings(nodes, edges, closed, grid.square(c, 0), n, OWN, work);
+    put_crossings(nodes, edges, closed, grid.outer_square(c), n, WANT, work);
     gather(edges, closed, n, work);
 }
 
@@ -53,13 +53,13 @@ pub fn cell_access(
     n: usize,
     work: &mut [u32],
 )
-    requires { ⌜ Ground (now nodes) (now edges) (now closed) grid × (n ≡ nodeCount (now nodes)) × (n ≤ maxNodes) × (8 * n ≤ length (now work)) × (1 ≤ n) ⌝ }
+    requires { ⌜ Ground (now nodes) (now edges) (now closed) grid × (n ≡ nodeCount (now nodes)) × (n ≤ maxNodes) × Enough n (now work) × (1 ≤ n) ⌝ }
     requires { ⌜ Roads (now edges) (now closed) n (now work) ⌝ }
     ensures members { λ _. ⌜ regionFlags n own (now (work .exit)) ≡ memberFlags n (accessNodes (distance (networkIn (now (nodes .entry)) (now (edges .entry)) (now (closed .entry))))
-        (cellsIn grid (now (nodes .entry))) (openIn (now (edges .entry)) (now (closed .entry))) (modelCell c)) ⌝ }
-    ensures others { λ _. ⌜ drop (regionAt n transit) (now (work .exit)) ≡ drop (regionAt n transit) (now (work .entry)) ⌝ }
+        (gridOf grid) (cellsIn grid (now (nodes .entry))) (openIn (now (edges .entry)) (now (closed .entry))) (modelCell c)) ⌝ }
+    ensures others { λ _. ⌜ KeptFrom (regionAt n transit) (now (work .entry)) (now (work .exit)) ⌝ }
 {
     cell_gather(nodes, edges, closed, grid, c, n, work);
-    put_crossings(nodes, edges, closed, grid, c, Grid::INNER, n, WANT, work);
+    put_crossings(nodes, edges, closed, grid.inner_square(c), n, WANT, work);
     meet(work, n, WANT, GATHERED, OWN);
 }

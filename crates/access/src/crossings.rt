@@ -5,25 +5,21 @@ ghost use mathlib.Core.Bool.{false, cond};
 ghost use Prim.Native.Nat.{_+_, _*_, _<_, _≤_};
 ghost use lib.ListN.{length, set};
 ghost use Rattle.model.specs.Network.{maxNodes, edge, edgeCount, nodeCount, someEdgeBroken};
-ghost use Rattle.model.specs.Access.{crossingEnd, crossings};
+ghost use Rattle.model.specs.Access.{crossingEnd};
 ghost use Rattle.bitset.specs.Bits.{setWords};
-ghost use Rattle.index.specs.Index.{indexAt, OpenAt, Roads};
-ghost use Rattle.grid.specs.Stored.{modelCell};
-ghost use Rattle.crossing.specs.Sets.{memberFlags};
-ghost use Rattle.crossing.specs.Ground.{cellsIn, openIn, Ground};
+ghost use Rattle.index.specs.Index.{OpenAt, Roads};
 ghost use Rattle.crossing.specs.Beside.{crossesSquare};
-ghost use Rattle.layout.specs.Regions.{regionAt, regionFlags, Only};
-ghost use Rattle.access.specs.Crossed.{Put};
+ghost use Rattle.words.specs.Regions.{regionAt, regionFlags, indexAt};
+ghost use Rattle.access.specs.Crossed.{Put, CrossingsOf};
+ghost use Rattle.words.specs.Frames.{Only, Enough};
 use codec::records::EDGE_SIZE;
 use crossing::square::crosses_edge;
 use crossing::square::crossing_end;
-use grid::Cell;
-use grid::Grid;
 use grid::square::Square;
-use index::cursor::first_edge;
-use index::cursor::next_edge;
-use layout::regions::clear;
-use layout::regions::put;
+use arcs::cursor::first_edge;
+use arcs::cursor::next_edge;
+use words::regions::clear;
+use words::regions::put;
 
 // Puts the crossing node of edge i into region k, where the edge crosses the square.
 fn put_crossing(
@@ -55,7 +51,7 @@ fn put_crossings_at(
     k: usize,
     work: &mut [u32],
 )
-    requires { ⌜ (n ≡ nodeCount (now nodes)) × (n ≤ maxNodes) × (8 * n ≤ length (now work)) × (v < n) × (regionAt n k + setWords n ≤ indexAt n) ⌝ }
+    requires { ⌜ (n ≡ nodeCount (now nodes)) × (n ≤ maxNodes) × Enough n (now work) × (v < n) × (regionAt n k + setWords n ≤ indexAt n) ⌝ }
     requires { ⌜ Roads (now edges) (now closed) n (now work) ⌝ }
     ensures { λ _. ⌜ Put (now (nodes .entry)) (now (edges .entry)) (now (closed .entry)) square (OpenAt (now (edges .entry)) (now (closed .entry)) v) n k (now (work .entry)) (now (work .exit)) ⌝ }
 {
@@ -67,24 +63,21 @@ fn put_crossings_at(
     }
 }
 
-// Makes region k, one of those before the index, the set of the crossing nodes of the square of radius r about c.
+// Makes region k, one of those before the index, the set of the crossing nodes of the square.
 pub fn put_crossings(
     nodes: &[u8],
     edges: &[u8],
     closed: &[u8],
-    grid: Grid,
-    c: Cell,
-    r: u32,
+    square: Square,
     n: usize,
     k: usize,
     work: &mut [u32],
 )
-    requires { ⌜ Ground (now nodes) (now edges) (now closed) grid × (n ≡ nodeCount (now nodes)) × (n ≤ maxNodes) × (8 * n ≤ length (now work)) × (1 ≤ n) × (regionAt n k + setWords n ≤ indexAt n) ⌝ }
+    requires { ⌜ (n ≡ nodeCount (now nodes)) × (n ≤ maxNodes) × Enough n (now work) × (1 ≤ n) × (regionAt n k + setWords n ≤ indexAt n) ⌝ }
     requires { ⌜ Roads (now edges) (now closed) n (now work) ⌝ }
-    ensures members { λ _. ⌜ regionFlags n k (now (work .exit)) ≡ memberFlags n (crossings (cellsIn grid (now (nodes .entry))) (openIn (now (edges .entry)) (now (closed .entry))) r (modelCell c)) ⌝ }
+    ensures members { λ _. ⌜ CrossingsOf (now (nodes .entry)) (now (edges .entry)) (now (closed .entry)) square n (regionFlags n k (now (work .exit))) ⌝ }
     ensures others { λ _. ⌜ Only n k (now (work .entry)) (now (work .exit)) ⌝ }
 {
-    let square = grid.square(c, r);
     clear(work, n, k);
     let mut v = 0;
     while v < n {

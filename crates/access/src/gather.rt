@@ -7,21 +7,22 @@ ghost use Rattle.arcs.specs.Arcs.{arcsIn};
 ghost use Rattle.index.specs.Index.{Roads};
 ghost use Rattle.crossing.specs.Sets.{ones};
 ghost use Rattle.marks.specs.Due.{Flagged};
-ghost use Rattle.layout.specs.Regions.{regionFlags, want, own, gathered};
+ghost use Rattle.words.specs.Regions.{regionFlags, want, own, gathered};
+ghost use Rattle.words.specs.Frames.{Enough};
 ghost use Rattle.access.specs.Gathered.{Gathered, Joined, Kept};
 use crate::sets::count;
 use crate::sets::unite;
 use crate::toward::toward;
-use layout::regions::GATHERED;
-use layout::regions::MARKS;
-use layout::regions::OWN;
-use layout::regions::WANT;
-use layout::regions::clear;
-use layout::regions::has;
+use words::regions::GATHERED;
+use words::regions::MARKS;
+use words::regions::OWN;
+use words::regions::WANT;
+use words::regions::clear;
+use words::regions::has;
 
 // Gathers from p, if it is in region OWN. Region WANT has at most `left` nodes.
 fn gather_from(edges: &[u8], closed: &[u8], n: usize, p: usize, left: usize, work: &mut [u32])
-    requires { ⌜ (n ≤ maxNodes) × (p < n) × (8 * n ≤ length (now work)) × (ones (regionFlags n want (now work)) ≤ left) ⌝ }
+    requires { ⌜ (n ≤ maxNodes) × (p < n) × Enough n (now work) × (ones (regionFlags n want (now work)) ≤ left) ⌝ }
     requires { ⌜ Roads (now edges) (now closed) n (now work) ⌝ }
     ensures members { λ _. ⌜ ((v : ℕ) → Flagged (regionFlags n gathered (now (work .exit))) v
         ↔ Joined (arcsIn (now (edges .entry)) (now (closed .entry))) (regionFlags n gathered (now (work .entry))) (regionFlags n own (now (work .entry))) (regionFlags n want (now (work .entry))) p v) ⌝ }
@@ -35,7 +36,7 @@ fn gather_from(edges: &[u8], closed: &[u8], n: usize, p: usize, left: usize, wor
 
 // Makes region GATHERED the set of the nodes on least walks from a node of OWN to a node of WANT, every equally quick way counted.
 pub fn gather(edges: &[u8], closed: &[u8], n: usize, work: &mut [u32])
-    requires { ⌜ (n ≤ maxNodes) × (8 * n ≤ length (now work)) × (1 ≤ n) ⌝ }
+    requires { ⌜ (n ≤ maxNodes) × Enough n (now work) × (1 ≤ n) ⌝ }
     requires { ⌜ Roads (now edges) (now closed) n (now work) ⌝ }
     ensures members { λ _. ⌜ ((v : ℕ) → Flagged (regionFlags n gathered (now (work .exit))) v
         ↔ Gathered (arcsIn (now (edges .entry)) (now (closed .entry))) (regionFlags n own (now (work .entry))) (regionFlags n want (now (work .entry))) v) ⌝ }

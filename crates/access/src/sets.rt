@@ -5,9 +5,10 @@ ghost use lib.Bits.{bitAnd, bitOr};
 ghost use lib.ListN.{length, getD, set};
 ghost use Rattle.bitset.specs.Bits.{setWords};
 ghost use Rattle.crossing.specs.Sets.{either, both, ones};
-ghost use Rattle.layout.specs.Regions.{regionAt, regionFlags, Only};
+ghost use Rattle.words.specs.Regions.{regionAt, regionFlags};
+ghost use Rattle.words.specs.Frames.{Only};
 use bitset::bits::set_words;
-use layout::regions::region_at;
+use words::regions::region_at;
 
 // Puts the members that the word at `from` has into the word at `into`.
 fn unite_word(work: &mut [u32], from: usize, into: usize)
@@ -66,5 +67,5 @@ pub fn count(work: &[u32], n: usize, k: usize) -> usize
 {
     let a = region_at(n, k);
     let e = a + set_words(n);
-    crossing::sets::count(n, &work[a..e])
+    bitset::counts::count(n, &work[a..e])
 }

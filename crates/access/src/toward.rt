@@ -8,22 +8,22 @@ ghost use Rattle.algorithms.specs.Marks.{Toward};
 ghost use Rattle.algorithms.specs.Pass.{Is};
 ghost use Rattle.arcs.specs.Arcs.{arcsIn};
 ghost use Rattle.index.specs.Index.{Roads};
-ghost use Rattle.search.specs.Regions.{timesIn, orderIn};
 ghost use Rattle.crossing.specs.Sets.{ones};
 ghost use Rattle.marks.specs.Due.{Flagged, due, turned};
-ghost use Rattle.marks.specs.Region.{Ordered};
-ghost use Rattle.layout.specs.Regions.{regionFlags, Only, marks, want};
-use layout::regions::MARKS;
-use layout::regions::WANT;
-use layout::regions::clear;
-use layout::regions::has;
-use layout::regions::put;
+ghost use Rattle.words.specs.Regions.{regionFlags, marks, want, timesIn, orderIn, searchWords};
+ghost use Rattle.marks.specs.Ordered.{Ordered};
+ghost use Rattle.words.specs.Frames.{Only, Enough, KeptFrom};
+use words::regions::MARKS;
+use words::regions::WANT;
+use words::regions::clear;
+use words::regions::has;
+use words::regions::put;
 use marks::leads::leads;
 use search::wanted::search_wanted;
 
 // Whether v is to be marked: it is wanted itself, or leads on.
 fn is_due(edges: &[u8], closed: &[u8], n: usize, work: &[u32], v: usize) -> bool
-    requires { ⌜ (n ≤ maxNodes) × (v < n) × (8 * n ≤ length (now work)) ⌝ }
+    requires { ⌜ (n ≤ maxNodes) × (v < n) × Enough n (now work) ⌝ }
     requires { ⌜ Roads (now edges) (now closed) n (now work) ⌝ }
     ensures { λ r. ⌜ r ≡ due (arcsIn (now (edges .entry)) (now (closed .entry))) (timesIn n (now (work .entry))) (regionFlags n want (now (work .entry))) (regionFlags n marks (now (work .entry))) v ⌝ }
 {
@@ -35,7 +35,7 @@ fn is_due(edges: &[u8], closed: &[u8], n: usize, work: &[u32], v: usize) -> bool
 
 // Marks v, if it is due.
 fn mark(edges: &[u8], closed: &[u8], n: usize, work: &mut [u32], v: usize)
-    requires { ⌜ (n ≤ maxNodes) × (v < n) × (8 * n ≤ length (now work)) ⌝ }
+    requires { ⌜ (n ≤ maxNodes) × (v < n) × Enough n (now work) ⌝ }
     requires { ⌜ Roads (now edges) (now closed) n (now work) ⌝ }
     ensures members { λ _. ⌜ regionFlags n marks (now (work .exit)) ≡ turned (arcsIn (now (edges .entry)) (now (closed .entry))) (timesIn n (now (work .entry))) (regionFlags n want (now (work .entry))) (regionFlags n marks (now (work .entry))) v ⌝ }
     ensures others { λ _. ⌜ Only n marks (now (work .entry)) (now (work .exit)) ⌝ }
@@ -47,7 +47,7 @@ fn mark(edges: &[u8], closed: &[u8], n: usize, work: &mut [u32], v: usize)
 
 // Marks the node at position i of the order, if it is due.
 fn mark_at(edges: &[u8], closed: &[u8], n: usize, work: &mut [u32], i: usize)
-    requires { ⌜ (n ≤ maxNodes) × (i < n) × (8 * n ≤ length (now work)) × (getD (now work) (n + i) 0 < n) ⌝ }
+    requires { ⌜ (n ≤ maxNodes) × (i < n) × Enough n (now work) × (getD (now work) (n + i) 0 < n) ⌝ }
     requires { ⌜ Roads (now edges) (now closed) n (now work) ⌝ }
     ensures members { λ _. ⌜ regionFlags n marks (now (work .exit)) ≡ turned (arcsIn (now (edges .entry)) (now (closed .entry))) (timesIn n (now (work .entry))) (regionFlags n want (now (work .entry))) (regionFlags n marks (now (work .entry))) (getD (now (work .entry)) (n + i) 0) ⌝ }
     ensures others { λ _. ⌜ Only n marks (now (work .entry)) (now (work .exit)) ⌝ }
@@ -58,7 +58,7 @@ fn mark_at(edges: &[u8], closed: &[u8], n: usize, work: &mut [u32], i: usize)
 
 // After a search whose order begins at position e: marks each node of the order that is wanted, or from which a tight arc leads to a marked one.
 pub fn mark_back(edges: &[u8], closed: &[u8], n: usize, e: usize, work: &mut [u32])
-    requires { ⌜ (n ≤ maxNodes) × (e ≤ n) × (8 * n ≤ length (now work)) × Ordered n (timesIn n (now work)) (orderIn n e (now work)) × (1 ≤ n) ⌝ }
+    requires { ⌜ (n ≤ maxNodes) × (e ≤ n) × Enough n (now work) × Ordered n (timesIn n (now work)) (orderIn n e (now work)) × (1 ≤ n) ⌝ }
     requires { ⌜ Roads (now edges) (now closed) n (now work) ⌝ }
     ensures members { λ _. ⌜ ((v : ℕ) → Flagged (regionFlags n marks (now (work .exit))) v
         ↔ Is (arcsIn (now (edges .entry)) (now (closed .entry))) (timesIn n (now (work .entry))) (Flagged (regionFlags n want (now (work .entry)))) (orderIn n e (now (work .entry))) v) ⌝ }
@@ -74,10 +74,10 @@ pub fn mark_back(edges: &[u8], closed: &[u8], n: usize, e: usize, work: &mut [u3
 
 // Marks every node that lies on some least walk from p to a wanted node, of which there are at most `left`, every equally quick way counted, and no other.
 pub fn toward(edges: &[u8], closed: &[u8], n: usize, p: usize, left: usize, work: &mut [u32])
-    requires { ⌜ (n ≤ maxNodes) × (p < n) × (8 * n ≤ length (now work)) × (ones (regionFlags n want (now work)) ≤ left) ⌝ }
+    requires { ⌜ (n ≤ maxNodes) × (p < n) × Enough n (now work) × (ones (regionFlags n want (now work)) ≤ left) ⌝ }
     requires { ⌜ Roads (now edges) (now closed) n (now work) ⌝ }
     ensures members { λ _. ⌜ ((v : ℕ) → Flagged (regionFlags n marks (now (work .exit))) v ↔ Toward (arcsIn (now (edges .entry)) (now (closed .entry))) p (Flagged (regionFlags n want (now (work .entry)))) v) ⌝ }
-    ensures others { λ _. ⌜ drop (3 * n) (now (work .exit)) ≡ drop (3 * n) (now (work .entry)) ⌝ }
+    ensures others { λ _. ⌜ KeptFrom (searchWords n) (now (work .entry)) (now (work .exit)) ⌝ }
 {
     let e = search_wanted(edges, closed, n, p, left, work);
     mark_back(edges, closed, n, e, work);

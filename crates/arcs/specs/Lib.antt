@@ -1,1 +1,4 @@
 pub mod Arcs
+pub mod Cursor
+pub mod Seeking
+pub mod Leaving

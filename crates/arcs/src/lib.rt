@@ -1,1 +1,3 @@
-// The arcs of the open edges, and laws about them. There is no code here.
+// Walking the network by its index: cursors over the open edges at a node, and over the arcs that leave it. What an edge is to a walk is known here alone.
+pub mod cursor;
+pub mod leaving;

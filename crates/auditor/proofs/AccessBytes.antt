@@ -11,7 +11,7 @@ use lib.Dec.{eqb}
 use borrow.Author.Tests.{eqb-true}
 use Rattle.model.specs.Lists.{gapless, all, equal, range, upTo, concat}
 use Rattle.model.specs.Bytes.{Bytes, word16, bytes32, cut}
-use Rattle.model.specs.Oracle.{startSize, entrySize, starts, listStart, listCount, listPart, accessBroken}
+use Rattle.model.specs.Oracle.{startSize, listSize, starts, listStart, listCount, listPart, accessBroken}
 use Rattle.theory.specs.Tests.{both, same-test}
 use Rattle.theory.specs.Passed.{or-false, not-false}
 use Rattle.theory.specs.ReadLaws.{word16-drop}
@@ -23,7 +23,7 @@ use Rattle.auditor.proofs.Tested.{below→, →below}
 
 -- f gives the list of each node; a list's first number tells its size.
 abbrev pub Sized : ℕ → (ℕ → Bytes) → Type 0
-Sized n f = (v : ℕ) → v < n → (l : Bytes) → 2 + entrySize * word16 (f v ++ l) 0 ≡ length (f v)
+Sized n f = (v : ℕ) → v < n → (l : Bytes) → listSize (word16 (f v ++ l) 0) ≡ length (f v)
 
 module _ (b : Bytes) (f : ℕ → Bytes) where
   abbrev Alike : ℕ → Type 0
@@ -34,7 +34,7 @@ module _ (b : Bytes) (f : ℕ → Bytes) where
   Stand k m at = gapless at (map (listPart b) (range k m)) (length b) ≡ true
 
   module _ (k m at : ℕ) (g : Stand k (suc m) at) where
-    step : (eqb (listStart b k) at ≡ true) × (gapless (at + (2 + entrySize * listCount b k)) (map (listPart b) (range (suc k) m)) (length b) ≡ true)
+    step : (eqb (listStart b k) at ≡ true) × (gapless (at + listSize (listCount b k)) (map (listPart b) (range (suc k) m)) (length b) ≡ true)
     unfolding gapless range listPart
     step = both {b = eqb (listStart b k) at} g
 
@@ -42,7 +42,7 @@ module _ (b : Bytes) (f : ℕ → Bytes) where
     start = eqb-true (listStart b k) at (step .0)
 
     abbrev size : ℕ
-    size = 2 + entrySize * listCount b k
+    size = listSize (listCount b k)
 
     fits : at + size ≤ length b
     fits = gapless-after (at + size) (length b) (map (listPart b) (range (suc k) m)) (step .1)
@@ -64,10 +64,13 @@ module _ (b : Bytes) (f : ℕ → Bytes) where
       let a : Alike k = same k (omega arith) (omega arith) in
       let here : f k ≡ take (size k m at g) (drop at b) = sym a ∙ its-cut k m at g in
       let later : concat (map f (range (suc k) m)) ≡ drop (at + length (f k)) b = lists-follow m (suc k) (at + length (f k)) (next k m at g a) (λ v l h. same v (omega arith) (omega arith)) in
-      rw later (ap (λ (x : ℕ). f k ++ drop (at + x) b) (its-size k m at g a) ∙ (ap (λ (l : Bytes). l ++ drop (at + size k m at g) b) here ∙ (ap (λ (l : Bytes). take (size k m at g) (drop at b) ++ l) (sym (drop-drop (size k m at g) at b)) ∙ take-append-drop (size k m at g) (drop at b))))
+      rw later (ap (λ (x : ℕ). f k ++ drop (at + x) b) (its-size k m at g a)
+          ∙ (ap (λ (l : Bytes). l ++ drop (at + size k m at g) b) here
+              ∙ (ap (λ (l : Bytes). take (size k m at g) (drop at b) ++ l) (sym (drop-drop (size k m at g) at b)) ∙ take-append-drop (size k m at g) (drop at b))))
 
   module _ (small : AreBytes b) where
-    starts-follow : (m k at : ℕ) → startSize * (k + m) ≤ length b → Stand k m at → ((v : ℕ) → k ≤ v → v < k + m → Alike v) → take (startSize * m) (drop (startSize * k) b) ≡ starts at (map f (range k m))
+    starts-follow : (m k at : ℕ) → startSize * (k + m) ≤ length b → Stand k m at → ((v : ℕ) → k ≤ v → v < k + m → Alike v)
+        → take (startSize * m) (drop (startSize * k) b) ≡ starts at (map f (range k m))
     unfolding starts range listStart
     starts-follow zero k at h g same = refl
     starts-follow (suc m) k at h g same =
@@ -80,7 +83,7 @@ module _ (b : Bytes) (f : ℕ → Bytes) where
         rw z (take-add startSize (startSize * m) (drop (startSize * k) b) ∙ rw (off, later, first))
 
   -- And back: where the lists stand from `at` on, each is found.
-  module _ (k m at : ℕ) (g : Stand k (suc m) at) (sized : (l : Bytes) → 2 + entrySize * word16 (f k ++ l) 0 ≡ length (f k)) (more : Bytes) (split : drop at b ≡ f k ++ more) where
+  module _ (k m at : ℕ) (g : Stand k (suc m) at) (sized : (l : Bytes) → listSize (word16 (f k ++ l) 0) ≡ length (f k)) (more : Bytes) (split : drop at b ≡ f k ++ more) where
     size-is : size k m at g ≡ length (f k)
     unfolding listCount
     size-is =
@@ -94,7 +97,7 @@ module _ (b : Bytes) (f : ℕ → Bytes) where
     later : drop (at + length (f k)) b ≡ more
     later = sym (drop-drop (length (f k)) at b) ∙ rw split (drop-at (f k) more (length (f k)) refl)
 
-  follow-lists : (m k at : ℕ) → Stand k m at → ((v : ℕ) → k ≤ v → v < k + m → (l : Bytes) → 2 + entrySize * word16 (f v ++ l) 0 ≡ length (f v))
+  follow-lists : (m k at : ℕ) → Stand k m at → ((v : ℕ) → k ≤ v → v < k + m → (l : Bytes) → listSize (word16 (f v ++ l) 0) ≡ length (f v))
       → drop at b ≡ concat (map f (range k m)) → (v : ℕ) → k ≤ v → v < k + m → Alike v
   unfolding concat range
   follow-lists zero k at g sized e v l h = absurd (omega arith)
@@ -102,7 +105,8 @@ module _ (b : Bytes) (f : ℕ → Bytes) where
       let first = sized k (omega arith) (omega arith) in
       let more = concat (map f (range (suc k) m)) in
       pick (ℕ-discrete v k) (here k m at g first more e)
-      (λ d. follow-lists m (suc k) (at + length (f k)) (next k m at g (here k m at g first more e)) (λ u i j. sized u (omega arith) (omega arith)) (later k m at g first more e) v (omega arith) (omega arith))
+      (λ d. follow-lists m (suc k) (at + length (f k)) (next k m at g (here k m at g first more e)) (λ u i j. sized u (omega arith) (omega arith))
+          (later k m at g first more e) v (omega arith) (omega arith))
     where
       pick : Dec (v ≡ k) → Alike k → ((v ≡ k → ⊥) → Alike v) → Alike v
       pick (yes q) a r = rw q a

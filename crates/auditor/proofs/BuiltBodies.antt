@@ -1,26 +1,23 @@
 -- The bodies are the built ones just when the oracle is. Assumes nothing.
 use Prim.Native.Nat.{ℕ, _*_, _≤_}
 use native.Mathlib.Omega.{arith}
-use native.Mathlib.Nat.{le-trans}
 use mathlib.Core.Path.{_≡_, refl, sym, _∙_, ap}
 use mathlib.Core.Bool.{true, not, _&&_}
 use mathlib.Core.List.{_++_, append-assoc}
 use lib.ListN.{length}
 use borrow.Author.Tests.{not-true}
-use Rattle.model.specs.Lists.{equal, upTo, concatMap}
+use Rattle.model.specs.Lists.{equal, concatMap}
 use Rattle.model.specs.Bytes.{Bytes, word16, bytes16}
 use Rattle.model.specs.Contents.{nodeBody, edgeBody, closedBody, gridBody, transitBody, accessBody, tableBody}
 use Rattle.model.specs.Network.{network, order, nodes, nodeCount, distance, maxNodes}
-use Rattle.model.specs.Grid.{gridOver, gridNumber}
+use Rattle.model.specs.Grid.{gridOver, division}
 use Rattle.model.specs.Grid as model
-use Rattle.model.specs.Access.{accessNodes, accessLists, transitNodes}
-use Rattle.model.specs.Oracle.{entrySize, entryBytes, listBytes, accessBytes, tableBytes, transitCount}
-use Rattle.model.specs.Rules.{wellShaped, differsFromBuilt}
+use Rattle.model.specs.Access.{accessLists, transitNodes}
+use Rattle.model.specs.Oracle.{entryBytes, listBytes, accessBytes, tableBytes, transitCount}
+use Rattle.model.specs.Rules.{wellShaped, differsFromBuilt, workWords}
 use Rattle.theory.specs.Tests.{and, both, same-test}
-use Rattle.theory.specs.RangeLaws.{length-range}
-use Rattle.theory.specs.ReadLaws.{length-concatMap, length-value}
+use Rattle.theory.specs.ReadLaws.{length-list}
 use Rattle.theory.specs.FileLaws.{word16-read}
-use Rattle.theory.specs.Members.{length-filter}
 use Rattle.theory.specs.Passed.{Shaped, all-shaped}
 use Rattle.theory.specs.Sound.{count-nodes, node-bytes}
 use Rattle.theory.specs.Audits.{equal-self, equal→, rule16}
@@ -28,24 +25,18 @@ use Rattle.theory.specs.AuditBodies.{builtTransit, builtAccess, builtTable, is-
 use Rattle.theory.specs.Whole.{AreBytes}
 use Rattle.grid.specs.Stored.{gridOf}
 use Rattle.grid.specs.declared.Grid.{Grid}
-use Rattle.crossing.specs.Ground.{cellsIn, Ground}
+use Rattle.crossing.specs.Ground.{Ground}
 use Rattle.access.specs.Networks.{networkIn}
 use Rattle.passes.specs.Building.{accessOf, transitIn, listIn}
 use Rattle.passes.specs.Placed.{whole}
-use Rattle.passes.specs.BuildingLaws.{count-cells, access-body}
-use Rattle.query.specs.Grids.{oracleGrid}
-use Rattle.query.proofs.Cells.{over-oracle}
+use Rattle.passes.specs.BuildingLaws.{access-few, access-body}
+use Rattle.checks.specs.Grids.{oracleGrid}
+use Rattle.checks.proofs.OracleGrid.{over-oracle}
 use Rattle.auditor.specs.Same.{KeepsLists, sameList, sameLists, sameBodies}
 use Rattle.auditor.proofs.AccessBytes.{Sized, same-whole}
 
 -- A list's first number is that of its entries.
 module _ (nodes edges closed : Bytes) (grid : Grid) (few : nodeCount nodes ≤ maxNodes) where
-  few-access : (v : ℕ) → length (accessOf nodes edges closed grid v) ≤ nodeCount nodes
-  unfolding accessOf accessNodes
-  few-access v =
-      let cs = cellsIn grid nodes in
-      le-trans (length-filter _ (upTo (length cs))) (omega (arith, length-range 0 (length cs), count-cells nodes edges closed grid (nodeCount nodes) refl))
-
   sized : Sized (nodeCount nodes) (listIn nodes edges closed grid)
   unfolding listIn listBytes bytes16
   sized v h l =
@@ -53,19 +44,18 @@ module _ (nodes edges closed : Bytes) (grid : Grid) (few : nodeCount nodes ≤ m
       let d = distance (networkIn nodes edges closed) in
       let a = accessOf nodes edges closed grid v in
       let entries = concatMap (λ x. entryBytes t x (d v x)) a in
-      let each : (x : ℕ) → length (entryBytes t x (d v x)) ≡ entrySize = λ x. unfold entryBytes bytes16 in omega (arith, length-value (d v x)) in
-      let size : length entries ≡ entrySize * length a = length-concatMap (λ x. entryBytes t x (d v x)) entrySize each a in
-      let first : word16 ((bytes16 (length a) ++ entries) ++ l) 0 ≡ length a = ap (λ (b : Bytes). word16 b 0) (append-assoc (bytes16 (length a)) entries l) ∙ word16-read (length a) (entries ++ l) (omega (arith, few-access v)) in
-      rw first (omega (arith, size))
+      let first : word16 ((bytes16 (length a) ++ entries) ++ l) 0 ≡ length a = ap (λ (b : Bytes). word16 b 0) (append-assoc (bytes16 (length a)) entries l)
+          ∙ word16-read (length a) (entries ++ l) (omega (arith, access-few nodes edges closed grid (nodeCount nodes) refl v)) in
+      rw first (sym (length-list d t v a))
 
-module _ (o : Bytes) (shaped : wellShaped o ≡ true) (small : AreBytes o) (grid : Grid) (made : gridOf grid ≡ gridOver (gridNumber (gridBody o)) (nodes (nodeBody o))) where
+module _ (o : Bytes) (shaped : wellShaped o ≡ true) (small : AreBytes o) (grid : Grid) (made : gridOf grid ≡ gridOver (division (gridBody o)) (nodes (nodeBody o))) where
   abbrev n : ℕ
   n = nodeCount (nodeBody o)
 
   p : Shaped o
   p = all-shaped o shaped
 
-  transit-is : transitIn (nodeBody o) (edgeBody o) (closedBody o) grid ≡ transitNodes (order (network o)) (accessLists (network o) (gridOver (gridNumber (gridBody o)) (network o .nodes)))
+  transit-is : transitIn (nodeBody o) (edgeBody o) (closedBody o) grid ≡ transitNodes (order (network o)) (accessLists (network o) (gridOver (division (gridBody o)) (network o .nodes)))
   unfolding transitIn network
   transit-is = rw (count-nodes o) (ap (λ (m : model.Grid). transitNodes n (accessLists (networkIn (nodeBody o) (edgeBody o) (closedBody o)) m)) made)
 
@@ -82,7 +72,8 @@ module _ (o : Bytes) (shaped : wellShaped o ≡ true) (small : AreBytes o) (grid
   lists-tell : sameLists (nodeBody o) (edgeBody o) (closedBody o) grid (accessBody o) ≡ equal (accessBody o) (builtAccess o shaped)
   unfolding sameLists sameList
   lists-tell =
-      same-whole n (transitCount (transitBody o)) (accessBody o) (listIn (nodeBody o) (edgeBody o) (closedBody o) grid) (p .access) (part-bytes o small 5) (sized (nodeBody o) (edgeBody o) (closedBody o) grid (node-bytes o (p .sound) .0)) ∙
+      same-whole n (transitCount (transitBody o)) (accessBody o) (listIn (nodeBody o) (edgeBody o) (closedBody o) grid) (p .access) (part-bytes o small 5)
+          (sized (nodeBody o) (edgeBody o) (closedBody o) grid (node-bytes o (p .sound) .0)) ∙
       ap (equal (accessBody o)) access-is
 
   bodies-tell : sameBodies (nodeBody o) (edgeBody o) (closedBody o) grid (transitBody o) (accessBody o) (tableBody o)
@@ -105,11 +96,13 @@ module _ (o : Bytes) (shaped : wellShaped o ≡ true) (small : AreBytes o) (grid
           rw (← x, ← y, ← z) (and (equal-self (transitBody o)) (and (equal-self (accessBody o)) (equal-self (tableBody o))))
 
 -- ---- with the bodies as the code has them
-module _ (o : Bytes) (shaped : wellShaped o ≡ true) (grid : Grid) (made : gridOf grid ≡ oracleGrid o) (nb eb cb : Bytes) (p : nb ≡ nodeBody o) (q : eb ≡ edgeBody o) (r : cb ≡ closedBody o) (ab : Bytes) (s : ab ≡ accessBody o) where
-  pub bodies-asked : (n room : ℕ) → n ≡ nodeCount (nodeBody o) → 8 * n ≤ room → Ground nb eb cb grid × (n ≡ nodeCount nb) × (n ≤ maxNodes) × (8 * n ≤ room) × KeepsLists n ab × (1 ≤ n)
+module _ (o : Bytes) (shaped : wellShaped o ≡ true) (grid : Grid) (made : gridOf grid ≡ oracleGrid o) (nb eb cb : Bytes) (p : nb ≡ nodeBody o) (q : eb ≡ edgeBody o)
+    (r : cb ≡ closedBody o) (ab : Bytes) (s : ab ≡ accessBody o) where
+  pub bodies-asked : (n room : ℕ) → n ≡ nodeCount (nodeBody o) → workWords n ≤ room → Ground nb eb cb grid × (n ≡ nodeCount nb) × (n ≤ maxNodes) × (workWords n ≤ room) × KeepsLists n ab × (1 ≤ n)
   bodies-asked n room e h =
       let k = all-shaped o shaped in
-      (record { over = over-oracle o nb p grid made k; edges-rule = rw (p, q) (k .sound .some-edge); closed-rule = rw (q, r) (k .sound .closed) }, rw p e, rw e (node-bytes o (k .sound) .0), h, (transitCount (transitBody o), rw (e, s) (k .access)), rw e (node-bytes o (k .sound) .1))
+      (record { over = over-oracle o nb p grid made k; edges-rule = rw (p, q) (k .sound .some-edge); closed-rule = rw (q, r) (k .sound .closed) }, rw p e,
+          rw e (node-bytes o (k .sound) .0), h, (transitCount (transitBody o), rw (e, s) (k .access)), rw e (node-bytes o (k .sound) .1))
 
   pub bodies-told : AreBytes o → (tb xb : Bytes) → tb ≡ transitBody o → xb ≡ tableBody o → sameBodies nb eb cb grid tb ab xb ≡ not (differsFromBuilt o)
   unfolding oracleGrid

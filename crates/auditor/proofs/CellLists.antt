@@ -16,18 +16,19 @@ use Rattle.grid.specs.declared.Grid.{Grid}
 use Rattle.crossing.specs.Ground.{cellsIn}
 use Rattle.crossing.specs.Cells.{sameCell, firstOfCell, same-cell}
 use Rattle.access.specs.Networks.{networkIn}
-use Rattle.layout.specs.Regions.{regionAt, own, transit}
+use Rattle.words.specs.Regions.{regionAt, own, transit}
 use Rattle.emit.specs.Parts.{listBytesOf}
 use Rattle.emit.specs.PartLaws.{list-values}
 use Rattle.passes.specs.Building.{accessOf, transitIn, listIn, membersIn}
 use Rattle.passes.specs.BuildingLaws.{distance-words, access-below, same-access}
+use Rattle.words.specs.Frames.{KeptFrom}
 use Rattle.auditor.specs.Same.{KeepsLists, sameList, sameBeside, sameOfCell}
 
 pub listed : (n : ℕ) (access : Bytes) → KeepsLists n access → (v : ℕ) → v < n → Listed access v
 listed n access k v h = (k .0, record { nodes = n; below = h; kept = k .1 })
 
 -- Region TRANSIT stays where the words from it on do.
-pub transit-kept : (n : ℕ) (w w′ : List ℕ) → drop (regionAt n transit) w′ ≡ drop (regionAt n transit) w → membersIn n transit w′ ≡ membersIn n transit w
+pub transit-kept : (n : ℕ) (w w′ : List ℕ) → KeptFrom (regionAt n transit) w w′ → membersIn n transit w′ ≡ membersIn n transit w
 transit-kept n w w′ e = rw e
 
 module _ (nodes edges closed : Bytes) (grid : Grid) (access : Bytes) (u : ℕ) where
@@ -53,4 +54,5 @@ module _ (nodes edges closed : Bytes) (grid : Grid) (access : Bytes) (u : ℕ) w
     unfolding sameBeside sameList listIn
     this-cell w ts os v e =
         rw (e, ts, os, same-access nodes edges closed grid u v (same-cell cs u v .0 e))
-        (ap (equal (cut (listPart access v) access)) (list-values (distance (networkIn nodes edges closed)) v n _ _ _ (distance-words nodes edges closed grid n size v) (access-below nodes edges closed grid n size v)))
+        (ap (equal (cut (listPart access v) access))
+            (list-values (distance (networkIn nodes edges closed)) v n _ _ _ (distance-words nodes edges closed grid n size v) (access-below nodes edges closed grid n size v)))

@@ -5,38 +5,33 @@ use mathlib.Core.Path.{_≡_, sym, _∙_, ap}
 use mathlib.Core.Bool.{Bool, true, false}
 use mathlib.Core.List.{List}
 use lib.ListN.{length}
-use Rattle.model.specs.Lists.{equal, upTo, concatMap}
-use Rattle.model.specs.Bytes.{Bytes, bytes16}
+use Rattle.model.specs.Lists.{equal, concatMap}
+use Rattle.model.specs.Bytes.{Bytes, bytes16, numberSize}
 use Rattle.model.specs.Network.{nodeCount}
-use Rattle.theory.specs.RangeLaws.{length-range}
-use Rattle.theory.specs.Members.{length-filter}
+use Rattle.model.specs.Oracle.{valueSize}
 use Rattle.theory.specs.Audits.{equal→}
 use Rattle.algorithms.specs.Rounds.{distanceWords}
 use Rattle.arcs.specs.Arcs.{arcsIn}
-use Rattle.bitset.specs.Bits.{isIn}
+use Rattle.bitset.specs.Members.{membersOf}
+use Rattle.bitset.proofs.Ranks.{members-most}
 use Rattle.grid.specs.declared.Grid.{Grid}
-use Rattle.emit.specs.Members.{membersOf}
 use Rattle.emit.specs.Parts.{numbersBytes, rowBytes}
 use Rattle.emit.specs.PartLaws.{length-numbers}
-use Rattle.layout.specs.Regions.{transit}
+use Rattle.words.specs.Regions.{transit}
 use Rattle.passes.specs.Building.{transitIn, membersIn}
 use Rattle.passes.specs.BuildingLaws.{table-words}
 use Rattle.auditor.specs.Same.{sameLists, sameBodies}
 
-few-members : (n : ℕ) (s : List ℕ) → length (membersOf n s) ≤ n
-unfolding membersOf
-few-members n s = omega (arith, length-filter (isIn s) (upTo n), length-range 0 n)
-
 -- T, where the transit body is the members of a set.
 module _ (n : ℕ) (s b : List ℕ) (e : equal b (numbersBytes (membersOf n s)) ≡ true) where
-  count-body : length b ≡ 2 * length (membersOf n s)
+  count-body : length b ≡ numberSize * length (membersOf n s)
   count-body = ap length (equal→ b (numbersBytes (membersOf n s)) e) ∙ length-numbers (membersOf n s)
 
-  pub few-body : length b ≤ 2 * n
-  few-body = omega (arith, count-body, few-members n s)
+  pub few-body : length b ≤ numberSize * n
+  few-body = omega (arith, count-body, members-most s n)
 
   -- The size of a row, where the set has come to be s′ with the same members.
-  pub row-size : (s′ : List ℕ) → membersOf n s′ ≡ membersOf n s → 4 * (length b / 2) ≡ 4 * length (membersOf n s′)
+  pub row-size : (s′ : List ℕ) → membersOf n s′ ≡ membersOf n s → valueSize * (length b / numberSize) ≡ valueSize * length (membersOf n s′)
   row-size s′ q = omega (arith, count-body, ap length q)
 
 module _ (nodes edges closed : Bytes) (grid : Grid) (n : ℕ) (size : n ≡ nodeCount nodes) (b access table : Bytes) (w : List ℕ) (ts : membersIn n transit w ≡ transitIn nodes edges closed grid) where

@@ -1,24 +1,27 @@
 -- What the audit hands back and leaves in the words. Assumes nothing.
-use Prim.Native.Nat.{ℕ, _*_, _≤_}
+use Prim.Native.Nat.{ℕ}
 use mathlib.Core.Path.{_≡_, refl, sym, _∙_, ap}
-use mathlib.Core.Bool.{Bool, true, false, not, cond, false≢true}
+use mathlib.Core.Bool.{Bool, true, false, not, cond}
 use mathlib.Core.List.{List, [], _∷_, _++_, append-assoc}
-use lib.ListN.{length, drop}
+use lib.ListN.{length}
 use Rattle.model.specs.Bytes.{Bytes}
 use Rattle.model.specs.Contents.{nodeBody}
 use Rattle.model.specs.Network.{nodeCount}
-use Rattle.model.specs.Rules.{rule, firstBroken, networkRules, shapeRules, auditRules, wordsNeeded, differsFromBuilt}
-use Rattle.model.specs.Calls.{clears, cleared, workAfter, auditRefusal, Audit}
-use Rattle.theory.specs.Firsts.{counted, first-append, first-stays}
-use Rattle.query.specs.Opened.{roomRules}
-use Rattle.query.proofs.Answers.{upTo14, first-most, words-kept}
+use Rattle.model.specs.Rules.{rule, firstBroken, networkRules, shapeRules, auditRules, wordsNeeded, differsFromBuilt, workWords}
+use Rattle.model.specs.Calls.{clears, cleared, auditRefusal, Audit}
+use Rattle.theory.specs.Firsts.{counted}
+use Rattle.checks.specs.RuleLists.{roomRules}
+use Rattle.checks.proofs.AfterCall.{unclearing, words-kept, last-clears}
+use Rattle.words.specs.Frames.{KeptFrom}
+use Rattle.checks.proofs.CheckOrder.{sooner, last-left}
 
 room-counted : (o : Bytes) (words : ℕ) → counted (roomRules o words) ≡ true
 unfolding counted roomRules shapeRules networkRules
 room-counted o words = refl
 
-room-most : (o : Bytes) (words : ℕ) → firstBroken (roomRules o words) ≤ 14
-room-most o words = first-most (roomRules o words) (unfold upTo14 roomRules shapeRules networkRules in refl)
+room-unwritten : (o : Bytes) (words : ℕ) → unclearing (roomRules o words) ≡ true
+unfolding unclearing clears roomRules shapeRules networkRules
+room-unwritten o words = refl
 
 -- Rule 16 comes last.
 with-last : (o : Bytes) (words : ℕ) → auditRules o words ≡ roomRules o words ++ (rule 16 (differsFromBuilt o) ∷ [])
@@ -27,32 +30,24 @@ with-last o words = sym (append-assoc (shapeRules o) _ _)
 
 module _ (o : Bytes) (work : List ℕ) (r : ℕ) (e : r ≡ firstBroken (roomRules o (length work))) where
   pub audit-refused : (r ≡ 0 → ⊥) → Audit o work r work
-  audit-refused h = record { result = sym same; words = rw same (words-kept r o work h (rw e (room-most o (length work)))) }
+  audit-refused h = record { result = sym same; words = rw same (words-kept (roomRules o (length work)) (room-unwritten o (length work)) r e o work h) }
     where
       same : auditRefusal o work ≡ r
-      same = unfold auditRefusal in (ap firstBroken (with-last o (length work)) ∙ (first-stays (roomRules o (length work)) _ (λ z. h (e ∙ z)) ∙ sym e))
+      same = unfold auditRefusal in (ap firstBroken (with-last o (length work)) ∙ sym (sooner (roomRules o (length work)) r e _ h))
 
-  module _ (z : r ≡ 0) (same : Bool) (told : same ≡ not (differsFromBuilt o)) (mid work′ : List ℕ) (rest : drop (wordsNeeded o) mid ≡ drop (wordsNeeded o) work) (c : work′ ≡ cleared (wordsNeeded o) mid) where
+  module _ (z : r ≡ 0) (same : Bool) (told : same ≡ not (differsFromBuilt o)) (mid work′ : List ℕ) (rest : KeptFrom (wordsNeeded o) work mid) (c : work′ ≡ cleared (wordsNeeded o) mid) where
     last : auditRefusal o work ≡ cond (differsFromBuilt o) 16 0
     unfolding auditRefusal
-    last = ap firstBroken (with-last o (length work)) ∙ (first-append (roomRules o (length work)) _ (room-counted o (length work)) (sym e ∙ z) ∙ unfold firstBroken in refl)
+    last = ap firstBroken (with-last o (length work)) ∙ last-left (roomRules o (length work)) r e (room-counted o (length work)) z 16 (differsFromBuilt o)
 
-    clears-either : (b : Bool) → work′ ≡ workAfter (cond b 16 0) o work
-    unfolding workAfter clears cleared
-    clears-either true = c ∙ rw rest
-    clears-either false = c ∙ rw rest
+    twice : (b : Bool) → _≡_ {A = ℕ} (cond (not (not b)) 16 0) (cond b 16 0)
+    twice true = refl
+    twice false = refl
 
-    numbers : (b : Bool) → same ≡ not b → (same ≡ true → _≡_ {A = ℕ} 0 (cond b 16 0)) × (same ≡ false → _≡_ {A = ℕ} 16 (cond b 16 0))
-    numbers true q = (λ f. absurd (false≢true (sym q ∙ f)), λ f. refl)
-    numbers false q = (λ f. refl, λ f. absurd (false≢true (sym f ∙ q)))
-
-    pub audit-same : same ≡ true → Audit o work 0 work′
-    audit-same f = record { result = numbers (differsFromBuilt o) told .0 f ∙ sym last; words = rw last (clears-either (differsFromBuilt o)) }
-
-    pub audit-differs : same ≡ false → Audit o work 16 work′
-    audit-differs f = record { result = numbers (differsFromBuilt o) told .1 f ∙ sym last; words = rw last (clears-either (differsFromBuilt o)) }
+    pub audit-told : (q : ℕ) → q ≡ cond (not same) 16 0 → Audit o work q work′
+    audit-told q n = record { result = n ∙ (rw told (twice (differsFromBuilt o)) ∙ sym last); words = rw last (c ∙ last-clears o work mid rest 16 (unfold clears in refl) (differsFromBuilt o)) }
 
 -- Behind the words of N nodes.
-pub behind-needed : (f : Bytes) (n : ℕ) → n ≡ nodeCount (nodeBody f) → (w w′ : List ℕ) → drop (8 * n) w′ ≡ drop (8 * n) w → drop (wordsNeeded f) w′ ≡ drop (wordsNeeded f) w
+pub behind-needed : (f : Bytes) (n : ℕ) → n ≡ nodeCount (nodeBody f) → (w w′ : List ℕ) → KeptFrom (workWords n) w w′ → KeptFrom (wordsNeeded f) w w′
 unfolding wordsNeeded
 behind-needed f n e w w′ d = rw (← e) d

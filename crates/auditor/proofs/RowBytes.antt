@@ -9,10 +9,11 @@ use lib.ListN.{length, take, drop, length-take, length-drop}
 use lib.Dec.{eqb}
 use Rattle.model.specs.Lists.{equal}
 use Rattle.model.specs.Bytes.{Bytes}
+use Rattle.model.specs.Oracle.{valueSize}
 use Rattle.theory.specs.Tests.{refuted}
 use Rattle.bitset.specs.Bits.{isIn}
-use Rattle.layout.specs.Regions.{regionAt, region, transit}
-use Rattle.layout.proofs.Windows.{in-front}
+use Rattle.words.specs.Regions.{regionAt, region, transit}
+use Rattle.words.proofs.Windows.{in-front}
 use Rattle.emit.specs.Members.{ifIn}
 use Rattle.emit.specs.Parts.{rowBytes}
 use Rattle.emit.specs.PartLaws.{length-row}
@@ -28,7 +29,7 @@ begins-front (x ∷ r) [] = refl
 begins-front (x ∷ r) (y ∷ l) = ap (λ (b : Bool). eqb y x && b) (begins-front r l)
 
 -- A row of this size at a position of the table.
-module _ (b : Bytes) (at size : ℕ) (times l : List ℕ) (e : size ≡ 4 * length l) where
+module _ (b : Bytes) (at size : ℕ) (times l : List ℕ) (e : size ≡ valueSize * length l) where
   abbrev row : Bytes
   row = rowBytes times l
 
@@ -41,7 +42,8 @@ module _ (b : Bytes) (at size : ℕ) (times l : List ℕ) (e : size ≡ 4 * leng
   pub row-short : length b - at < size → Differs ≡ compared b at row
   unfolding compared
   row-short h =
-      let long : begins row (drop at b) ≡ false = sym (begins-front row (drop at b)) ∙ refuted (λ q. omega (arith, ap length (equal→ (take (length row) (drop at b)) row q), length-take (length row) (drop at b), length-drop at b, its-size)) in
+      let long : begins row (drop at b) ≡ false = sym (begins-front row (drop at b))
+          ∙ refuted (λ q. omega (arith, ap length (equal→ (take (length row) (drop at b)) row q), length-take (length row) (drop at b), length-drop at b, its-size)) in
       rw long
 
   pub row-same : equal (midOf at (at + size - at) b) row ≡ true → Same (at + size) ≡ compared b at row

@@ -8,17 +8,19 @@ use lib.Seq.{length-take-le}
 use Rattle.model.specs.Lists.{equal}
 use Rattle.model.specs.Bytes.{Bytes}
 use Rattle.model.specs.Network.{maxNodes}
-use Rattle.layout.specs.Regions.{region, own, transit}
-use Rattle.layout.proofs.Windows.{region-length}
-use Rattle.emit.specs.Members.{membersOf, HasBits, Among}
+use Rattle.words.specs.Regions.{region, own, transit}
+use Rattle.words.proofs.Windows.{region-length}
+use Rattle.emit.specs.Members.{Among}
+use Rattle.bitset.specs.Members.{membersOf, HasBits}
 use Rattle.emit.specs.Parts.{numbersBytes, rowBytes, listBytesOf}
 use Rattle.passes.specs.Building.{membersIn}
+use Rattle.words.specs.Frames.{Enough}
 
-pub has-times : (n : ℕ) (w : List ℕ) → 8 * n ≤ length w → n ≤ length (take n w)
+pub has-times : (n : ℕ) (w : List ℕ) → Enough n w → n ≤ length (take n w)
 has-times n w long = omega (arith, length-take-le n w (omega arith))
 
 -- t and o are the words of the regions TRANSIT and OWN, as the code lends them.
-module _ (n : ℕ) (w : List ℕ) (long : 8 * n ≤ length w) (some : 1 ≤ n) (t : List ℕ) (q : t ≡ region n transit w) where
+module _ (n : ℕ) (w : List ℕ) (long : Enough n w) (some : 1 ≤ n) (t : List ℕ) (q : t ≡ region n transit w) where
   pub has-transit : HasBits n t
   has-transit = rw q (omega (arith, region-length n transit w (omega arith)))
 

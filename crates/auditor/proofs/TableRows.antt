@@ -9,7 +9,7 @@ use Rattle.model.specs.Lists.{equal, concatMap}
 use Rattle.model.specs.Bytes.{Bytes}
 use Rattle.model.specs.Walk.{Arc}
 use Rattle.algorithms.specs.Rounds.{distanceWords}
-use Rattle.layout.specs.Regions.{region, transit}
+use Rattle.words.specs.Regions.{region, transit, searchWords}
 use Rattle.emit.specs.Members.{ifIn}
 use Rattle.emit.specs.Parts.{rowBytes}
 use Rattle.emit.specs.Records.{compared}
@@ -18,6 +18,7 @@ use Rattle.emit.specs.declared.compare.Compared.the-variants.{Same, Differs}
 use Rattle.emit.proofs.Turns.{membersFrom, members-all, members-step, members-end}
 use Rattle.emit.proofs.Comparing.{Left, left-start, left-different, left-next, left-end}
 use Rattle.passes.specs.Building.{membersIn}
+use Rattle.words.specs.Frames.{KeptFrom}
 use Rattle.auditor.proofs.Behind.{Kept, kept-same, kept-then, transit-behind}
 
 module _ (arcs : List Arc) (n : ℕ) (b : Bytes) (w : List ℕ) where
@@ -35,14 +36,15 @@ module _ (arcs : List Arc) (n : ℕ) (b : Bytes) (w : List ℕ) where
   pub rows-first : RowsLeft 0 0 w
   rows-first = record { kept = kept-same n w; left = left-start (members-all rowOf (region n transit w) n) }
 
-  module _ (v at : ℕ) (x : List ℕ) (p : RowsLeft v at x) (h : v < n) (c : Compared) (e : c ≡ compared b at (ifIn (region n transit x) v (rowBytes (distanceWords arcs n v) (membersIn n transit x)))) where
+  module _ (v at : ℕ) (x : List ℕ) (p : RowsLeft v at x) (h : v < n) (c : Compared)
+      (e : c ≡ compared b at (ifIn (region n transit x) v (rowBytes (distanceWords arcs n v) (membersIn n transit x)))) where
     told : c ≡ compared b at (ifIn (region n transit w) v (rowOf v))
     told = rw (← transit-behind n w x (p .kept .behind)) e
 
     pub rows-differ : c ≡ Differs → equal b whole ≡ false
     rows-differ q = left-different (members-step rowOf (region n transit w) n v h) (p .left) (sym told ∙ q)
 
-    pub rows-next : (m : ℕ) → c ≡ Same m → (y : List ℕ) → length y ≡ length x → drop (3 * n) y ≡ drop (3 * n) x → RowsLeft (v + 1) m y
+    pub rows-next : (m : ℕ) → c ≡ Same m → (y : List ℕ) → length y ≡ length x → KeptFrom (searchWords n) x y → RowsLeft (v + 1) m y
     rows-next m q y s d = record { kept = kept-then n w x y (p .kept) s d; left = left-next (members-step rowOf (region n transit w) n v h) (p .left) (sym told ∙ q) }
 
   pub rows-end : (v at : ℕ) (x : List ℕ) → RowsLeft v at x → n ≤ v → eqb at (length b) ≡ equal b whole

@@ -1,16 +1,17 @@
 -- Tests of all numbers below n, and the lists of the nodes tested cell by cell. Assumes nothing.
 use Prim.Native.Nat.{ℕ, _+_, _≤_, _<_}
 use native.Mathlib.Omega.{arith}
-use mathlib.Core.Path.{_≡_, refl, _∙_, ap}
+use mathlib.Core.Path.{_≡_, _∙_, ap}
 use mathlib.Core.Bool.{Bool, true, false, not, _||_, or-true}
-use mathlib.Core.List.{List, [], _∷_, List·Memᴰ, List·Memᴰ·head, List·Memᴰ·tail}
+use mathlib.Core.List.{List, _∷_, List·Memᴰ, List·Memᴰ·head, List·Memᴰ·tail}
 use Rattle.model.specs.Lists.{all, upTo}
 use Rattle.model.specs.Bytes.{Bytes}
 use Rattle.model.specs.Network.{nodeCount}
 use Rattle.model.specs.Grid.{Cell}
-use Rattle.theory.specs.Tests.{and, both, same-test}
+use Rattle.theory.specs.Tests.{both, same-test}
 use Rattle.theory.specs.RangeLaws.{rest, rest-all, all-step, all-end}
 use Rattle.theory.specs.Members.{→upTo, range→}
+use Rattle.theory.specs.Shape.{all-of}
 use Rattle.grid.specs.declared.Grid.{Grid}
 use Rattle.crossing.specs.Ground.{cellsIn}
 use Rattle.crossing.specs.Cells.{sameCell, firstOfCell, same-cell, first-found}
@@ -22,16 +23,11 @@ module _ (p : ℕ → Bool) where
   all→ (y ∷ l) h (List·Memᴰ·head e) = rw e (both {b = p y} h .0)
   all→ (y ∷ l) h (List·Memᴰ·tail m) = all→ l (both {b = p y} h .1) m
 
-  →all : (l : List ℕ) → ((x : ℕ) → List·Memᴰ x l → p x ≡ true) → all p l ≡ true
-  unfolding all
-  →all [] h = refl
-  →all (y ∷ l) h = and (h y (List·Memᴰ·head refl)) (→all l (λ x m. h x (List·Memᴰ·tail m)))
-
   pub below→ : (n : ℕ) → all p (upTo n) ≡ true → (v : ℕ) → v < n → p v ≡ true
   below→ n h v l = all→ (upTo n) h (→upTo n v l)
 
   pub →below : (n : ℕ) → ((v : ℕ) → v < n → p v ≡ true) → all p (upTo n) ≡ true
-  →below n h = →all (upTo n) (λ v m. h v (omega (arith, range→ 0 n v m)))
+  →below n h = all-of p (upTo n) (λ v m. h v (omega (arith, range→ 0 n v m)))
 
 -- The same by a loop: the tests of the numbers from i on are left.
 module _ (p : ℕ → Bool) (n : ℕ) where
@@ -68,7 +64,8 @@ module _ (nodes edges closed : Bytes) (grid : Grid) (access : Bytes) where
   by-cells = same-test (λ h. →below _ n (λ v l. let (u, m, f, q) = first-found cs v in
       let c : all (sameBeside nodes edges closed grid access u) (upTo n) ≡ true = asked (firstOfCell cs u) _ f (below→ (sameOfCell nodes edges closed grid access) n h u (omega arith)) in
       asked (sameCell cs u v) _ (same-cell cs u v .1 q) (below→ (sameBeside nodes edges closed grid access u) n c v l)))
-      (λ h. →below _ n (λ u m. let c : all (sameBeside nodes edges closed grid access u) (upTo n) ≡ true = →below _ n (λ v l. rw (below→ (sameList nodes edges closed grid access) n h v l) (or-true (not (sameCell cs u v)))) in
+      (λ h. →below _ n (λ u m. let c : all (sameBeside nodes edges closed grid access u) (upTo n) ≡ true =
+          →below _ n (λ v l. rw (below→ (sameList nodes edges closed grid access) n h v l) (or-true (not (sameCell cs u v)))) in
       rw c (or-true (not (firstOfCell cs u)))))
 
   pub by-cells-to : (m : ℕ) → m ≡ nodeCount nodes → all (sameOfCell nodes edges closed grid access) (upTo m) ≡ sameLists nodes edges closed grid access

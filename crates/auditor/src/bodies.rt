@@ -5,25 +5,26 @@ ghost use Prim.Native.Nat.{_*_, _≤_};
 ghost use lib.ListN.{length, drop};
 ghost use Rattle.model.specs.Contents.{nodeBody};
 ghost use Rattle.model.specs.Network.{maxNodes, nodeCount};
-ghost use Rattle.model.specs.Rules.{wellShaped, differsFromBuilt};
+ghost use Rattle.model.specs.Rules.{wellShaped, differsFromBuilt, workWords};
 ghost use Rattle.crossing.specs.Ground.{Ground};
+ghost use Rattle.words.specs.Frames.{Enough, KeptFrom};
 ghost use Rattle.auditor.specs.Same.{KeepsLists, sameBodies};
 use crate::lists::same_lists;
 use crate::rows::same_table;
 use crate::transit::same_transit;
+use checks::kinds::grid_of;
 use codec::records::NUMBER_SIZE;
 use codec::records::VALUE_SIZE;
 use grid::Grid;
 use index::chains::build_index;
 use passes::transit::mark_transit;
-use query::kinds::grid_of;
 use reader::oracle::ACCESS;
 use reader::oracle::CLOSED;
 use reader::oracle::EDGES;
 use reader::oracle::NODES;
 use reader::oracle::TABLE;
 use reader::oracle::TRANSIT;
-use reader::oracle::oracle_body;
+use reader::oracle::oracle_contents;
 
 // Compares the bodies one after the other, by the index of the edges; the first difference ends it.
 fn same_bodies(
@@ -37,9 +38,9 @@ fn same_bodies(
     table: &[u8],
     work: &mut [u32],
 ) -> bool
-    requires { ⌜ Ground (now nodes) (now edges) (now closed) grid × (n ≡ nodeCount (now nodes)) × (n ≤ maxNodes) × (8 * n ≤ length (now work)) × KeepsLists n (now access) × (1 ≤ n) ⌝ }
+    requires { ⌜ Ground (now nodes) (now edges) (now closed) grid × (n ≡ nodeCount (now nodes)) × (n ≤ maxNodes) × Enough n (now work) × KeepsLists n (now access) × (1 ≤ n) ⌝ }
     ensures same { λ r. ⌜ r ≡ sameBodies (now (nodes .entry)) (now (edges .entry)) (now (closed .entry)) grid (now (transit .entry)) (now (access .entry)) (now (table .entry)) ⌝ }
-    ensures rest { λ _. ⌜ drop (8 * n) (now (work .exit)) ≡ drop (8 * n) (now (work .entry)) ⌝ }
+    ensures rest { λ _. ⌜ KeptFrom (workWords n) (now (work .entry)) (now (work .exit)) ⌝ }
 {
     build_index(edges, closed, n, work);
     mark_transit(nodes, edges, closed, grid, n, work);
@@ -55,20 +56,21 @@ fn same_bodies(
 
 // Whether the oracle, of n nodes, is the one built from its bodies 1 to 4.
 pub fn is_built(o: &[u8], n: usize, work: &mut [u32]) -> bool
-    requires { ⌜ (wellShaped (now o) ≡ true) × (n ≡ nodeCount (nodeBody (now o))) × (8 * n ≤ length (now work)) ⌝ }
+    requires { ⌜ (wellShaped (now o) ≡ true) × (n ≡ nodeCount (nodeBody (now o))) × Enough n (now work) ⌝ }
     ensures same { λ r. ⌜ r ≡ not (differsFromBuilt (now (o .entry))) ⌝ }
-    ensures rest { λ _. ⌜ drop (8 * n) (now (work .exit)) ≡ drop (8 * n) (now (work .entry)) ⌝ }
+    ensures rest { λ _. ⌜ KeptFrom (workWords n) (now (work .entry)) (now (work .exit)) ⌝ }
 {
     let grid = grid_of(o);
+    let c = oracle_contents(o);
     same_bodies(
-        oracle_body(o, NODES),
-        oracle_body(o, EDGES),
-        oracle_body(o, CLOSED),
+        c.body(o, NODES),
+        c.body(o, EDGES),
+        c.body(o, CLOSED),
         grid,
         n,
-        oracle_body(o, TRANSIT),
-        oracle_body(o, ACCESS),
-        oracle_body(o, TABLE),
+        c.body(o, TRANSIT),
+        c.body(o, ACCESS),
+        c.body(o, TABLE),
         work,
     )
 }

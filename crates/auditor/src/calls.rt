@@ -1,9 +1,9 @@
 // The call: audit. It asks nothing of its arguments.
 ghost use Rattle.model.specs.Calls.{Audit};
 use crate::bodies::is_built;
-use query::local::zero_front;
-use query::refusals::WORDS;
-use query::refusals::room_refusal;
+use checks::refusals::number_if;
+use checks::refusals::room_refusal;
+use checks::room::zero_words;
 use reader::oracle::node_count;
 
 // Whether the oracle is the built one: 0, or the number of the rule that it breaks. Once the words are used, the first 8 N are zero afterwards.
@@ -16,6 +16,6 @@ pub fn audit(o: &[u8], work: &mut [u32]) -> u32
     }
     let n = node_count(o);
     let same = is_built(o, n, work);
-    zero_front(work, WORDS * n);
-    if same { 0 } else { 16 }
+    zero_words(o, work);
+    number_if(16, !same)
 }

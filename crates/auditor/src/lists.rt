@@ -12,11 +12,12 @@ ghost use Rattle.index.specs.Index.{Roads};
 ghost use Rattle.tables.specs.Premises.{Listed};
 ghost use Rattle.crossing.specs.Beside.{CellSquare};
 ghost use Rattle.crossing.specs.Ground.{Ground};
-ghost use Rattle.layout.specs.Regions.{regionAt, region, own, transit};
+ghost use Rattle.words.specs.Regions.{regionAt, region, own, transit, searchWords};
 ghost use Rattle.emit.specs.Members.{Among};
 ghost use Rattle.emit.specs.Parts.{listBytesOf};
 ghost use Rattle.passes.specs.Building.{membersIn, accessOf, transitIn};
 ghost use Rattle.passes.specs.Sought.{Sought};
+ghost use Rattle.words.specs.Frames.{Enough, KeptFrom};
 ghost use Rattle.auditor.specs.Same.{KeepsLists, sameBeside, sameOfCell, sameLists};
 use bitset::bits::set_words;
 use crossing::cells::beside;
@@ -25,16 +26,16 @@ use crossing::cells::first_of_cell;
 use emit::lists::same_list;
 use grid::Grid;
 use grid::square::Square;
-use layout::regions::OWN;
-use layout::regions::TRANSIT;
-use layout::regions::region_at;
+use words::regions::OWN;
+use words::regions::TRANSIT;
+use words::regions::region_at;
 use passes::own::own_wanted;
-use search::wanted::search_wanted;
+use passes::own::search_own;
 use tables::lists::list_part;
 
 // Whether b is the list of the times in region TIMES to the nodes of region OWN, with their indexes in region TRANSIT.
 fn is_list(work: &[u32], n: usize, b: &[u8]) -> bool
-    requires { ⌜ (n ≤ maxNodes) × (8 * n ≤ length (now work)) × Among n (region n own (now work)) (region n transit (now work)) × (1 ≤ n) ⌝ }
+    requires { ⌜ (n ≤ maxNodes) × Enough n (now work) × Among n (region n own (now work)) (region n transit (now work)) × (1 ≤ n) ⌝ }
     ensures { λ r. ⌜ r ≡ equal (now (b .entry)) (listBytesOf (take n (now (work .entry))) (membersIn n transit (now (work .entry))) (membersIn n own (now (work .entry)))) ⌝ }
 {
     let m = set_words(n);
@@ -55,12 +56,12 @@ fn same_from(
     left: usize,
     work: &mut [u32],
 ) -> bool
-    requires { ⌜ (n ≤ maxNodes) × (v < n) × (8 * n ≤ length (now work)) × Among n (region n own (now work)) (region n transit (now work)) × Listed (now access) v × Sought n left (now work) ⌝ }
+    requires { ⌜ (n ≤ maxNodes) × (v < n) × Enough n (now work) × Among n (region n own (now work)) (region n transit (now work)) × Listed (now access) v × Sought n left (now work) ⌝ }
     requires { ⌜ Roads (now edges) (now closed) n (now work) ⌝ }
     ensures same { λ r. ⌜ r ≡ equal (cut (listPart (now (access .entry)) v) (now (access .entry))) (listBytesOf (distanceWords (arcsIn (now (edges .entry)) (now (closed .entry))) n v) (membersIn n transit (now (work .entry))) (membersIn n own (now (work .entry)))) ⌝ }
-    ensures others { λ _. ⌜ drop (3 * n) (now (work .exit)) ≡ drop (3 * n) (now (work .entry)) ⌝ }
+    ensures others { λ _. ⌜ KeptFrom (searchWords n) (now (work .entry)) (now (work .exit)) ⌝ }
 {
-    search_wanted(edges, closed, n, v, left, work);
+    search_own(edges, closed, n, v, left, work);
     is_list(work, n, list_part(access, v))
 }
 
@@ -78,11 +79,11 @@ fn same_beside(
     left: usize,
     work: &mut [u32],
 ) -> bool
-    requires { ⌜ Ground (now nodes) (now edges) (now closed) grid × (n ≡ nodeCount (now nodes)) × (n ≤ maxNodes) × (u < n) × (v < n) × (8 * n ≤ length (now work)) × KeepsLists n (now access) × CellSquare (now nodes) grid u square ⌝ }
+    requires { ⌜ Ground (now nodes) (now edges) (now closed) grid × (n ≡ nodeCount (now nodes)) × (n ≤ maxNodes) × (u < n) × (v < n) × Enough n (now work) × KeepsLists n (now access) × CellSquare (now nodes) grid u square ⌝ }
     requires { ⌜ (membersIn n transit (now work) ≡ transitIn (now nodes) (now edges) (now closed) grid) × (membersIn n own (now work) ≡ accessOf (now nodes) (now edges) (now closed) grid u) ⌝ }
     requires { ⌜ Sought n left (now work) × Roads (now edges) (now closed) n (now work) ⌝ }
     ensures same { λ r. ⌜ r ≡ sameBeside (now (nodes .entry)) (now (edges .entry)) (now (closed .entry)) grid (now (access .entry)) u v ⌝ }
-    ensures others { λ _. ⌜ drop (3 * n) (now (work .exit)) ≡ drop (3 * n) (now (work .entry)) ⌝ }
+    ensures others { λ _. ⌜ KeptFrom (searchWords n) (now (work .entry)) (now (work .exit)) ⌝ }
 {
     if !beside(nodes, square, v) {
         return true;
@@ -102,11 +103,11 @@ fn same_in_cell(
     left: usize,
     work: &mut [u32],
 ) -> bool
-    requires { ⌜ Ground (now nodes) (now edges) (now closed) grid × (n ≡ nodeCount (now nodes)) × (n ≤ maxNodes) × (u < n) × (8 * n ≤ length (now work)) × KeepsLists n (now access) ⌝ }
+    requires { ⌜ Ground (now nodes) (now edges) (now closed) grid × (n ≡ nodeCount (now nodes)) × (n ≤ maxNodes) × (u < n) × Enough n (now work) × KeepsLists n (now access) ⌝ }
     requires { ⌜ (membersIn n transit (now work) ≡ transitIn (now nodes) (now edges) (now closed) grid) × (membersIn n own (now work) ≡ accessOf (now nodes) (now edges) (now closed) grid u) ⌝ }
     requires { ⌜ Sought n left (now work) × Roads (now edges) (now closed) n (now work) ⌝ }
     ensures same { λ r. ⌜ r ≡ all (sameBeside (now (nodes .entry)) (now (edges .entry)) (now (closed .entry)) grid (now (access .entry)) u) (upTo n) ⌝ }
-    ensures others { λ _. ⌜ drop (3 * n) (now (work .exit)) ≡ drop (3 * n) (now (work .entry)) ⌝ }
+    ensures others { λ _. ⌜ KeptFrom (searchWords n) (now (work .entry)) (now (work .exit)) ⌝ }
 {
     let square = cell_square(nodes, grid, u);
     let mut v = 0;
@@ -142,10 +143,10 @@ fn same_of_cell(
     u: usize,
     work: &mut [u32],
 ) -> bool
-    requires { ⌜ Ground (now nodes) (now edges) (now closed) grid × (n ≡ nodeCount (now nodes)) × (n ≤ maxNodes) × (u < n) × (8 * n ≤ length (now work)) × KeepsLists n (now access) ⌝ }
+    requires { ⌜ Ground (now nodes) (now edges) (now closed) grid × (n ≡ nodeCount (now nodes)) × (n ≤ maxNodes) × (u < n) × Enough n (now work) × KeepsLists n (now access) ⌝ }
     requires { ⌜ (membersIn n transit (now work) ≡ transitIn (now nodes) (now edges) (now closed) grid) × Roads (now edges) (now closed) n (now work) ⌝ }
     ensures same { λ r. ⌜ r ≡ sameOfCell (now (nodes .entry)) (now (edges .entry)) (now (closed .entry)) grid (now (access .entry)) u ⌝ }
-    ensures others { λ _. ⌜ drop (regionAt n transit) (now (work .exit)) ≡ drop (regionAt n transit) (now (work .entry)) ⌝ }
+    ensures others { λ _. ⌜ KeptFrom (regionAt n transit) (now (work .entry)) (now (work .exit)) ⌝ }
 {
     if !first_of_cell(nodes, grid, u) {
         return true;
@@ -164,10 +165,10 @@ pub fn same_lists(
     n: usize,
     work: &mut [u32],
 ) -> bool
-    requires { ⌜ Ground (now nodes) (now edges) (now closed) grid × (n ≡ nodeCount (now nodes)) × (n ≤ maxNodes) × (8 * n ≤ length (now work)) × KeepsLists n (now access) ⌝ }
+    requires { ⌜ Ground (now nodes) (now edges) (now closed) grid × (n ≡ nodeCount (now nodes)) × (n ≤ maxNodes) × Enough n (now work) × KeepsLists n (now access) ⌝ }
     requires { ⌜ (membersIn n transit (now work) ≡ transitIn (now nodes) (now edges) (now closed) grid) × Roads (now edges) (now closed) n (now work) ⌝ }
     ensures same { λ r. ⌜ r ≡ sameLists (now (nodes .entry)) (now (edges .entry)) (now (closed .entry)) grid (now (access .entry)) ⌝ }
-    ensures others { λ _. ⌜ drop (regionAt n transit) (now (work .exit)) ≡ drop (regionAt n transit) (now (work .entry)) ⌝ }
+    ensures others { λ _. ⌜ KeptFrom (regionAt n transit) (now (work .entry)) (now (work .exit)) ⌝ }
 {
     let mut u = 0;
     while u < n {

@@ -4,25 +4,27 @@ ghost use Prim.Native.Nat.{_*_, _<_, _≤_};
 ghost use lib.ListN.{length, take, drop};
 ghost use Rattle.model.specs.Lists.{equal, concatMap};
 ghost use Rattle.model.specs.Network.{maxNodes};
+ghost use Rattle.model.specs.Oracle.{valueSize};
 ghost use Rattle.algorithms.specs.Rounds.{distanceWords};
 ghost use Rattle.arcs.specs.Arcs.{arcsIn};
 ghost use Rattle.index.specs.Index.{Roads};
-ghost use Rattle.layout.specs.Regions.{region, transit};
+ghost use Rattle.words.specs.Regions.{region, transit, searchWords};
 ghost use Rattle.emit.specs.Members.{ifIn};
 ghost use Rattle.emit.specs.Parts.{rowBytes};
 ghost use Rattle.emit.specs.Records.{compared};
 ghost use Rattle.passes.specs.Building.{membersIn};
+ghost use Rattle.words.specs.Frames.{Enough, KeptFrom};
 use bitset::bits::set_words;
 use emit::compare::Compared;
 use emit::rows::same_row;
-use layout::regions::TRANSIT;
-use layout::regions::has;
-use layout::regions::region_at;
+use words::regions::TRANSIT;
+use words::regions::has;
+use words::regions::region_at;
 use search::front::search_front;
 
 // Whether b is the row of the times in region TIMES, with the columns of region TRANSIT.
 fn is_row(work: &[u32], n: usize, b: &[u8]) -> bool
-    requires { ⌜ (8 * n ≤ length (now work)) × (1 ≤ n) ⌝ }
+    requires { ⌜ Enough n (now work) × (1 ≤ n) ⌝ }
     ensures { λ r. ⌜ r ≡ equal (now (b .entry)) (rowBytes (take n (now (work .entry))) (membersIn n transit (now (work .entry)))) ⌝ }
 {
     let a = region_at(n, TRANSIT);
@@ -32,7 +34,7 @@ fn is_row(work: &[u32], n: usize, b: &[u8]) -> bool
 
 // Compares that row, of `size` bytes, with what stands at `at`.
 fn row_at(work: &[u32], n: usize, size: usize, table: &[u8], at: usize) -> Compared
-    requires { ⌜ (8 * n ≤ length (now work)) × (size ≡ 4 * length (membersIn n transit (now work))) × (at ≤ length (now table)) × (1 ≤ n) ⌝ }
+    requires { ⌜ Enough n (now work) × (size ≡ valueSize * length (membersIn n transit (now work))) × (at ≤ length (now table)) × (1 ≤ n) ⌝ }
     ensures { λ r. ⌜ r ≡ compared (now (table .entry)) at (rowBytes (take n (now (work .entry))) (membersIn n transit (now (work .entry)))) ⌝ }
 {
     if table.len() - at < size {
@@ -57,10 +59,10 @@ fn same_from(
     v: usize,
     work: &mut [u32],
 ) -> Compared
-    requires { ⌜ (n ≤ maxNodes) × (v < n) × (8 * n ≤ length (now work)) × (size ≡ 4 * length (membersIn n transit (now work))) × (at ≤ length (now table)) ⌝ }
+    requires { ⌜ (n ≤ maxNodes) × (v < n) × Enough n (now work) × (size ≡ valueSize * length (membersIn n transit (now work))) × (at ≤ length (now table)) ⌝ }
     requires { ⌜ Roads (now edges) (now closed) n (now work) ⌝ }
     ensures same { λ r. ⌜ r ≡ compared (now (table .entry)) at (ifIn (region n transit (now (work .entry))) v (rowBytes (distanceWords (arcsIn (now (edges .entry)) (now (closed .entry))) n v) (membersIn n transit (now (work .entry))))) ⌝ }
-    ensures others { λ _. ⌜ drop (3 * n) (now (work .exit)) ≡ drop (3 * n) (now (work .entry)) ⌝ }
+    ensures others { λ _. ⌜ KeptFrom (searchWords n) (now (work .entry)) (now (work .exit)) ⌝ }
 {
     if !has(work, n, TRANSIT, v) {
         return Compared::Same(at);
@@ -78,10 +80,10 @@ pub fn same_table(
     table: &[u8],
     work: &mut [u32],
 ) -> bool
-    requires { ⌜ (n ≤ maxNodes) × (8 * n ≤ length (now work)) × (size ≡ 4 * length (membersIn n transit (now work))) ⌝ }
+    requires { ⌜ (n ≤ maxNodes) × Enough n (now work) × (size ≡ valueSize * length (membersIn n transit (now work))) ⌝ }
     requires { ⌜ Roads (now edges) (now closed) n (now work) ⌝ }
     ensures same { λ r. ⌜ r ≡ equal (now (table .entry)) (concatMap (λ v. rowBytes (distanceWords (arcsIn (now (edges .entry)) (now (closed .entry))) n v) (membersIn n transit (now (work .entry)))) (membersIn n transit (now (work .entry)))) ⌝ }
-    ensures others { λ _. ⌜ drop (3 * n) (now (work .exit)) ≡ drop (3 * n) (now (work .entry)) ⌝ }
+    ensures others { λ _. ⌜ KeptFrom (searchWords n) (now (work .entry)) (now (work .exit)) ⌝ }
 {
     let mut at = 0;
     let mut v = 0;

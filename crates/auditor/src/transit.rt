@@ -5,16 +5,17 @@ ghost use lib.ListN.{length};
 ghost use Rattle.model.specs.Lists.{equal};
 ghost use Rattle.model.specs.Network.{maxNodes};
 ghost use Rattle.emit.specs.Parts.{numbersBytes};
-ghost use Rattle.layout.specs.Regions.{transit};
+ghost use Rattle.words.specs.Regions.{transit};
 ghost use Rattle.passes.specs.Building.{membersIn};
+ghost use Rattle.words.specs.Frames.{Enough};
 use bitset::bits::set_words;
 use emit::numbers::same_numbers;
-use layout::regions::TRANSIT;
-use layout::regions::region_at;
+use words::regions::TRANSIT;
+use words::regions::region_at;
 
 // Whether b is the numbers of the nodes in region TRANSIT.
 pub fn same_transit(work: &[u32], n: usize, b: &[u8]) -> bool
-    requires { ⌜ (n ≤ maxNodes) × (8 * n ≤ length (now work)) × (1 ≤ n) ⌝ }
+    requires { ⌜ (n ≤ maxNodes) × Enough n (now work) × (1 ≤ n) ⌝ }
     ensures { λ r. ⌜ r ≡ equal (now (b .entry)) (numbersBytes (membersIn n transit (now (work .entry)))) ⌝ }
 {
     let a = region_at(n, TRANSIT);

@@ -1,3 +1,4 @@
--- The laws that the proofs cite; `Members` and `Joined` have those for callers.
+-- The laws that the proofs cite, and that callers cite too.
 pub mod Members
 pub mod Joined
+pub mod Ranks

@@ -95,6 +95,11 @@ flag-out n s v h e = flag-at n s v h ∙ rw e
 flags-by : (n : ℕ) (s : List ℕ) (l : List ℕ) → length l ≡ n → ((v : ℕ) → v < n → flag s v ≡ getD l v 0) → flags n s ≡ l
 flags-by n s l e h = ext-getD 0 (flags n s) l (length-flags n s ∙ rw e) (λ v k. let q : v < n = omega (arith, length-flags n s) in flag-at n s v q ∙ h v q)
 
+-- Two sets with the same members below n.
+pub flags-same : (n : ℕ) (s t : List ℕ) → ((v : ℕ) → v < n → isIn s v ≡ isIn t v) → flags n s ≡ flags n t
+unfolding flag
+flags-same n s t h = flags-by n s (flags n t) (length-flags n t) (λ v k. rw (flag-at n t v k, h v k))
+
 pub flags-insert : (n : ℕ) (s : List ℕ) (v : ℕ) → v < n → n ≤ length s * 32 → flags n (insertIn s v) ≡ set (flags n s) v 1
 unfolding flag
 flags-insert n s v i l = flags-by n (insertIn s v) (set (flags n s) v 1) (simp (length-set, length-flags)) (λ w k. rw (members s v (omega arith) w) (go w k (ℕ-discrete w v)))

@@ -1,6 +1,7 @@
 -- The laws that the proofs cite.
-mod Scan
+mod FirstNamed
 mod Named
 mod Fill
 mod Squares
+mod NearLaws
 mod Squared

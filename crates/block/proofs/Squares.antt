@@ -1,38 +1,48 @@
 -- A square by the kind of its pair. Assumes nothing.
-use Prim.Native.Nat.{ℕ, _<_}
-use mathlib.Core.Path.{_≡_, sym, _∙_, ap}
-use mathlib.Core.Bool.{true}
+use Prim.Native.Nat.{ℕ}
+use mathlib.Core.Path.{_≡_, refl, sym, _∙_, ap}
+use mathlib.Core.Bool.{Bool, true, false, true≢false}
 use mathlib.Core.List.{List}
-use lib.ListN.{length, getD}
-use Rattle.model.specs.Lists.{any}
+use lib.ListN.{getD, drop}
 use Rattle.model.specs.Bytes.{Bytes}
 use Rattle.model.specs.Contents.{nodeBody}
 use Rattle.model.specs.Network.{network, nodeCount, distance}
 use Rattle.model.specs.Oracle.{coded}
 use Rattle.model.specs.Query.{distanceOf, farAnswer, localAnswer, kindBetween, answerOf, timeAnswer}
 use Rattle.model.specs.Rules.{isLocal, localPair}
+use Rattle.model.specs.declared.Kind.{Kind}
 use Rattle.model.specs.declared.Kind.the-variants.{Far, Local}
 use Rattle.model.specs.declared.Answer.{Answer}
-use Rattle.theory.specs.Members.{getD-mem, →any}
-use Rattle.theory.specs.FarSums.{distance-of}
-use Rattle.query.specs.Toward.{Toward}
-use Rattle.query.proofs.Words.{toward-word}
+use Rattle.theory.specs.Given.{distance-of}
+use Rattle.bitset.specs.Bits.{isIn}
+use Rattle.words.specs.Regions.{regionAt, want}
 use Rattle.block.specs.Block.{square}
+use Rattle.block.specs.Near.{NearTime}
 
 module _ (o : Bytes) (s t : ℕ) where
-  pub square-far : (a : Answer) (r : ℕ) → kindBetween o s t ≡ Far → a ≡ farAnswer o s t → r ≡ coded (distanceOf a) → r ≡ square o s t
-  unfolding square timeAnswer answerOf
-  square-far a r k e q = q ∙ rw (e, k)
+  pub local-told : (k : Kind) (b : Bool) → k ≡ kindBetween o s t → b ≡ isLocal k → localPair o s t ≡ b
+  unfolding localPair
+  local-told k b p q = sym (q ∙ ap isLocal p)
 
-  pub square-local : (work : List ℕ) → kindBetween o s t ≡ Local → Toward o s work → t < nodeCount (nodeBody o) → getD work t 0 ≡ square o s t
-  unfolding square timeAnswer answerOf localAnswer
-  square-local work k toward h = toward-word o s t work toward h ∙ rw k (ap coded (sym (distance-of Local 0 (distance (network o) s t))))
+  -- The bit of t, where the code has the number of nodes m.
+  pub bit-told : (work : List ℕ) → NearTime o s t work → (m : ℕ) → m ≡ nodeCount (nodeBody o) → (b : Bool) → b ≡ isIn (drop (regionAt m want) work) t
+      → localPair o s t ≡ b
+  bit-told work near m e b q = sym (q ∙ (ap (λ (k : ℕ). isIn (drop (regionAt k want) work) t) e ∙ near .told))
 
-  pub is-local : kindBetween o s t ≡ Local → localPair o s t ≡ true
-  unfolding localPair isLocal
-  is-local k = rw k
+  kind-told : (k : Kind) → isLocal k ≡ true → k ≡ Local
+  unfolding isLocal
+  kind-told Far e = absurd (true≢false (sym e))
+  kind-told Local e = refl
 
--- ---- the names of a list
-module _ (o : Bytes) (names : List ℕ) (i : ℕ) (h : i < length names) where
-  pub some-local : (s : ℕ) → localPair o s (getD names i 0) ≡ true → any (localPair o s) names ≡ true
-  some-local s e = →any (localPair o s) names (getD-mem names i 0 h) e
+  kind-other : (k : Kind) → isLocal k ≡ false → k ≡ Far
+  unfolding isLocal
+  kind-other Far e = refl
+  kind-other Local e = absurd (true≢false e)
+
+  pub square-far : (a : Answer) (r : ℕ) → localPair o s t ≡ false → a ≡ farAnswer o s t → r ≡ coded (distanceOf a) → r ≡ square o s t
+  unfolding square timeAnswer answerOf localPair
+  square-far a r l e q = q ∙ rw (e, kind-other (kindBetween o s t) l)
+
+  pub square-local : (work : List ℕ) → localPair o s t ≡ true → NearTime o s t work → getD work t 0 ≡ square o s t
+  unfolding square timeAnswer answerOf localAnswer localPair
+  square-local work l near = near .time l ∙ rw (kind-told (kindBetween o s t) l) (ap coded (sym (distance-of Local 0 (distance (network o) s t))))

@@ -5,12 +5,12 @@ use mathlib.Core.Bool.{Bool, _||_, cond}
 use mathlib.Core.List.{List, [], _∷_, _++_, map}
 use lib.ListN.{length, replicate}
 use lib.Dec.{eqb, ltb}
-use Rattle.model.specs.Lists.{any}
 use Rattle.model.specs.Bytes.{Bytes}
 use Rattle.model.specs.Oracle.{coded}
 use Rattle.model.specs.Query.{distanceOf, timeAnswer}
-use Rattle.model.specs.Rules.{Rule, rule, firstBroken, shapeRules, noSuchNode, workTooSmall}
+use Rattle.model.specs.Rules.{Rule, rule, firstBroken, workTooSmall}
 use Rattle.model.specs.Calls.{workAfter}
+use Rattle.checks.specs.RuleLists.{namedRules}
 use Rattle.block.specs.declared.Block.{Block}
 
 -- "Up to 12 starts and 12 ends", "twelve rows of twelve times".
@@ -18,10 +18,6 @@ abbrev pub maxNames : ℕ
 maxNames = 12
 
 -- ---- the rules, in checking order; `words` is the length of the working words
-
--- Rules 1 to 12, rule 12 for every node that is named.
-unfoldable pub namedRules : Bytes → List ℕ → List Rule
-namedRules o names = shapeRules o ++ (rule 12 (any (noSuchNode o) names) ∷ [])
 
 -- Rule 17: "when either side names no place or more than 12, directly after 12".
 unfoldable pub namesBroken : List ℕ → Bool

@@ -1,5 +1,6 @@
 -- What any outcome that keeps the block's contract gives. `BlockCall` and `TimeCall` are the contracts of `block` and `time`. Assumes nothing.
 use Prim.Native.Nat.{ℕ, _≤_, _<_}
+use native.Mathlib.Omega.{arith}
 use mathlib.Core.Path.{_≡_, refl, sym, _∙_, ap}
 use mathlib.Core.Bool.{true, false}
 use mathlib.Core.List.{List, []}
@@ -16,16 +17,23 @@ use Rattle.model.specs.Lists.{any}
 use Rattle.model.specs.Rules.{accepted, noSuchNode, wordsNeeded}
 use Rattle.model.specs.Calls.{cleared, answerAfter, timeResult, TimeCall}
 use Rattle.model.specs.declared.Answer.{Answer}
+use Rattle.model.specs.declared.Division.{Division}
 use Rattle.theory.specs.Passed.{all-passed}
 use Rattle.theory.specs.Sound.{count-nodes, near}
+use Rattle.theory.specs.Sound as sound
 use Rattle.theory.specs.ReadLaws.{decoded-coded}
 use Rattle.theory.specs.Times.{time-exact}
-use Rattle.theory.specs.Theorems as theorems
+use Rattle.theory.specs.Accepted.{good}
+use Rattle.theory.specs.Built.{bodies-of}
+use Rattle.theory.specs.BuiltCalls.{time-kept}
+use Rattle.theory.specs.FarModel.{exact}
+use Rattle.model.specs.Meanings.{meaning-injective}
 use Rattle.demands.specs.Outcomes.{Refuses}
 use Rattle.demands.specs.CallLaws as laws
 use Rattle.block.specs.Block.{maxNames, blockRules, square, rowOf, unusedRow, blockOf, blockRefusal, blockAfter, BlockCall}
 use Rattle.block.specs.Twelve.{used-at, unused-at}
-use Rattle.block.specs.Kept.{BlockKept, block-kept, named-there}
+use Rattle.checks.proofs.NameLists.{named-there}
+use Rattle.block.specs.Kept.{BlockKept, block-kept}
 use Rattle.block.specs.declared.Block.{Block}
 
 -- ---- demand 1: "hands back the number of the first rule broken and writes nothing", and the block beside it is all zeros
@@ -91,16 +99,16 @@ module _ {o : Bytes} {starts ends work work′ : List ℕ} {r : Block} (call : B
         pub square-as-time : {words words′ : List ℕ} {a : Answer} → TimeCall o s t words a words′ → wordsNeeded o ≤ length words → getD (getD (r .times) i []) j 0 ≡ coded (distanceOf a)
         unfolding timeResult answerAfter square
         square-as-time {words} single enough =
-            square-is ∙ rw (single .result, theorems.time-kept o (kept .named .shape) s t (named-there o starts i hi (kept .named .firsts)) (named-there o ends j hj (kept .named .seconds)) words enough)
+            square-is ∙ rw (meaning-injective _ _ (single .result), time-kept o (kept .named .shape) s t (named-there o starts i hi (kept .named .firsts)) (named-there o ends j hj (kept .named .seconds)) words enough)
 
 -- ---- demand 3 over a built oracle: each square is the least total of all walks from its start to its end, marked 'no walk' exactly where there is none
-module _ (f : Bytes) (g : ℕ) (ok : accepted f g ≡ true) {starts ends work work′ : List ℕ} {r : Block} (call : BlockCall (oracle f g) starts ends work r work′) (given : r .rule ≡ 0) where
-  below : (names : List ℕ) (i : ℕ) → i < length names → any (noSuchNode (oracle f g)) names ≡ false → getD names i 0 < nodeCount (nodeBody f)
-  below names i h e = rw (theorems.own-nodes f g ok) at (named-there (oracle f g) names i h e)
+module _ (f : Bytes) (dv : Division) (ok : accepted f dv ≡ true) {starts ends work work′ : List ℕ} {r : Block} (call : BlockCall (oracle f dv) starts ends work r work′) (given : r .rule ≡ 0) where
+  below : (names : List ℕ) (i : ℕ) → i < length names → any (noSuchNode (oracle f dv)) names ≡ false → getD names i 0 < nodeCount (nodeBody f)
+  below names i h e = rw (bodies-of f dv (good f dv (all-passed f dv ok)) 0 (omega arith)) at (named-there (oracle f dv) names i h e)
 
   pub square-least : (i j : ℕ) → i < length starts → j < length ends → IsLeast (Walk (arcs (network f)) (getD starts i 0) (getD ends j 0)) (decoded (getD (getD (r .times) i []) j 0))
   unfolding square
-  square-least i j hi hj = rw (square-is call given i hi j hj, time-exact f g ok s t (rw (count-nodes f) hs) (rw (count-nodes f) ht), small) (theorems.distance-least f g ok s t hs)
+  square-least i j hi hj = rw (square-is call given i hi j hj, time-exact f dv ok s t (rw (count-nodes f) hs) (rw (count-nodes f) ht), small) (exact (network f) (sound.ends f (all-passed f dv ok .sound)) s t (rw (count-nodes f) hs))
     where
       s : ℕ
       s = getD starts i 0
@@ -115,4 +123,4 @@ module _ (f : Bytes) (g : ℕ) (ok : accepted f g ≡ true) {starts ends work wo
       ht = below ends j hj (kept call given .named .seconds)
 
       small : decoded (coded (distance (network f) s t)) ≡ distance (network f) s t
-      small = decoded-coded (distance (network f) s t) (near f (all-passed f g ok .sound) s t (rw (count-nodes f) hs))
+      small = decoded-coded (distance (network f) s t) (near f (all-passed f dv ok .sound) s t (rw (count-nodes f) hs))

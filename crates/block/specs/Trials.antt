@@ -7,9 +7,10 @@ use lib.ListN.{replicate, take}
 use Rattle.model.specs.Bytes.{Bytes}
 use Rattle.model.specs.Lists.{all, concat, equal}
 use Rattle.model.specs.Oracle.{oracle, noWalk}
-use Rattle.model.specs.Trials.{line, fork}
+use Rattle.model.specs.Trials.{line, fork, usual}
 use Rattle.model.specs.Compute.{computed}
-use Rattle.block.specs.Block.{namedRules, namesBroken, sidesRules, blockRules, square, twelve, rowOf, blockOf, blockRefusal, blockAfter}
+use Rattle.checks.specs.RuleLists.{namedRules}
+use Rattle.block.specs.Block.{namesBroken, sidesRules, blockRules, square, twelve, rowOf, blockOf, blockRefusal, blockAfter}
 use Rattle.block.specs.declared.Block.{Block}
 
 pub record Trial : Type 0 where
@@ -36,9 +37,9 @@ refused k = k ∷ replicate 144 0
 
 pub trials : List Trial
 trials =
-    let lineOracle = oracle line 6 in
-    let forkOracle = oracle (fork []) 6 in
-    let closedOracle = oracle (fork (4 ∷ [])) 6 in
+    let lineOracle = oracle line (usual 6) in
+    let forkOracle = oracle (fork []) (usual 6) in
+    let closedOracle = oracle (fork (4 ∷ [])) (usual 6) in
     -- Line: 0 to 2 is far; a start named again, and places that are both start and end.
     record { given = block lineOracle (0 ∷ 1 ∷ 2 ∷ 0 ∷ []) (2 ∷ 1 ∷ 0 ∷ []); expected = rows ((16 ∷ 7 ∷ 0 ∷ []) ∷ (9 ∷ 0 ∷ 7 ∷ []) ∷ (0 ∷ 9 ∷ 16 ∷ []) ∷ (16 ∷ 7 ∷ 0 ∷ []) ∷ []) } ∷
     -- Fork: 0 to 4 is far; an end named again.

@@ -4,10 +4,8 @@ use crate::Block;
 use crate::block_record;
 use crate::names::block_refusal;
 use crate::rows::times_between;
-use query::local::zero_front;
-use query::opened::open_words;
-use query::refusals::WORDS;
-use reader::oracle::node_count;
+use checks::room::zero_words;
+use opened::opening::open_words;
 
 // The times between the starts and the ends. The first 8 N words are zero afterwards.
 pub fn block(o: &[u8], starts: &[u32], ends: &[u32], work: &mut [u32]) -> Block
@@ -19,6 +17,6 @@ pub fn block(o: &[u8], starts: &[u32], ends: &[u32], work: &mut [u32]) -> Block
     }
     open_words(o, work);
     let times = times_between(o, starts, ends, work);
-    zero_front(work, WORDS * node_count(o));
+    zero_words(o, work);
     block_record(0, times)
 }

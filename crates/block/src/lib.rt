@@ -3,6 +3,7 @@ ghost use mathlib.Core.Path.{_≡_};
 
 pub mod calls;
 pub mod names;
+pub mod near;
 pub mod questions;
 pub mod rows;
 

@@ -2,7 +2,8 @@
 ghost use mathlib.Core.Path.{_≡_};
 ghost use lib.ListN.{drop};
 ghost use Rattle.model.specs.Rules.{wordsNeeded};
-ghost use Rattle.query.specs.Opened.{Opened};
+ghost use Rattle.opened.specs.Opened.{Opened};
+ghost use Rattle.words.specs.Frames.{KeptFrom};
 ghost use Rattle.block.specs.Block.{blockOf, blockRefusal, blockAfter};
 use crate::Block;
 use crate::block_record;
@@ -13,7 +14,7 @@ pub fn block(o: &[u8], starts: &[u32], ends: &[u32], work: &mut [u32]) -> Block
     requires { ⌜ Opened (now o) (now work) ⌝ }
     ensures result { λ r. ⌜ r ≡ blockAfter (blockRefusal (now (o .entry)) (now (starts .entry)) (now (ends .entry)) (now (work .entry))) (blockOf (now (o .entry)) (now (starts .entry)) (now (ends .entry))) ⌝ }
     ensures opened { λ _. ⌜ Opened (now (o .entry)) (now (work .exit)) ⌝ }
-    ensures rest { λ _. ⌜ drop (wordsNeeded (now (o .entry))) (now (work .exit)) ≡ drop (wordsNeeded (now (o .entry))) (now (work .entry)) ⌝ }
+    ensures rest { λ _. ⌜ KeptFrom (wordsNeeded (now (o .entry))) (now (work .entry)) (now (work .exit)) ⌝ }
 {
     let rule = sides_refusal(o, starts, ends);
     if rule != 0 {

@@ -7,23 +7,22 @@ use mathlib.Core.Bool.{true, false}
 use mathlib.Core.List.{List}
 use lib.ListN.{length, take, drop}
 use lib.Seq.{length-take-le, take-append-le, take-take, drop-at}
-use Rattle.model.specs.Bytes.{Bytes, word32, bytes16, cut, splice}
+use Rattle.model.specs.Bytes.{Bytes, cut, splice}
 use Rattle.model.specs.Network.{maxNodes, distance}
-use Rattle.model.specs.Oracle.{startSize, entrySize, listBytes, entryBytes}
-use Rattle.theory.specs.ReadLaws.{length-concatMap, length-value}
+use Rattle.model.specs.Oracle.{startSize, listSize, listStart}
+use Rattle.theory.specs.ReadLaws.{length-list}
 use Rattle.algorithms.specs.Rounds.{distanceWords}
 use Rattle.arcs.specs.Arcs.{arcsIn}
 use Rattle.bitset.specs.Bits.{setWords}
+use Rattle.bitset.specs.Members.{membersOf}
 use Rattle.index.specs.Index.{Roads}
 use Rattle.grid.specs.declared.Grid.{Grid}
 use Rattle.crossing.specs.Ground.{cellsIn}
 use Rattle.crossing.specs.Cells.{sameCell, firstOfCell, same-cell}
 use Rattle.access.specs.Networks.{networkIn}
-use Rattle.layout.specs.Regions.{regionAt, region, own, transit}
-use Rattle.layout.proofs.Windows.{take-drop, drop-more}
-use Rattle.layout.proofs.Indexed.{roads-from}
-use Rattle.emit.specs.Members.{membersOf, Among}
-use Rattle.emit.specs.Parts.{listSize, listBytesOf}
+use Rattle.words.specs.Regions.{regionAt, region, own, transit, searchWords}
+use Rattle.emit.specs.Members.{Among}
+use Rattle.emit.specs.Parts.{listBytesOf}
 use Rattle.emit.proofs.Writing.{take-splice, drop-splice, length-splice}
 use Rattle.passes.specs.Building.{accessOf, transitIn, listIn, membersIn}
 use Rattle.passes.specs.BuildingLaws.{list-words, among, same-access}
@@ -31,8 +30,11 @@ use Rattle.passes.specs.Sought.{Sought}
 use Rattle.passes.proofs.Seeking.{sought-later}
 use Rattle.passes.specs.Covered.{seen-none, seen-all, seen-later, to-none, to-all, to-other, to-same}
 use Rattle.passes.specs.Placed.{Placed, offset, whole, length-whole, offset-above, offset-within, offset-order, assembled, read-start}
+use Rattle.words.specs.Frames.{Enough, KeptFrom}
 use Rattle.bodies.specs.Listed.{Based, Begun, Listed, ListedTo}
 use Rattle.bodies.proofs.OwnLists.{own-later}
+use Rattle.words.proofs.Stays.{take-drop, kept-more}
+use Rattle.index.proofs.Laid.{roads-from}
 
 -- ---- bytes written over others, and what stands apart from them
 module _ (old : Bytes) (p : ℕ) (new : Bytes) (h : p + length new ≤ length old) where
@@ -42,7 +44,7 @@ module _ (old : Bytes) (p : ℕ) (new : Bytes) (h : p + length new ≤ length ol
       (ap (take m) (take-splice old p new h) ∙
       (take-append-le m (take p old) new (omega (arith, length-take-le p old (omega arith))) ∙ take-take m p old l))
 
-  drop-after : (a : ℕ) → p + length new ≤ a → drop a (splice p new old) ≡ drop a old
+  drop-after : (a : ℕ) → p + length new ≤ a → KeptFrom a old (splice p new old)
   drop-after a l = let e : a ≡ p + length new + (a - (p + length new)) = omega arith in rw e (drop-splice old p new h (a - (p + length new)))
 
   cut-here : take (length new) (drop p (splice p new old)) ≡ new
@@ -52,10 +54,10 @@ module _ (old : Bytes) (p : ℕ) (new : Bytes) (h : p + length new ≤ length ol
 
 -- ---- one list, at its place
 module _ (n : ℕ) (list : ℕ → Bytes) (body : Bytes) (g : Begun n list body) (v : ℕ) (h : v < n) where
-  start-at : word32 body (startSize * v) ≡ offset n list v
+  start-at : listStart body v ≡ offset n list v
   start-at = read-start n list body (g .starts) (g .small) v h
 
-  start-fits : 4 * v + 4 ≤ length body
+  start-fits : startSize * v + startSize ≤ length body
   start-fits = omega (arith, g .size, length-whole n list)
 
   fits-at : offset n list v + length (list v) ≤ length body
@@ -89,22 +91,21 @@ module _ (n : ℕ) (list : ℕ → Bytes) (body : Bytes) (g : Begun n list body)
 -- ---- the lists of a network
 module _ (b e c : Bytes) (grid : Grid) (n : ℕ) where
   pub length-its : (v : ℕ) → length (listIn b e c grid v) ≡ listSize (length (accessOf b e c grid v))
-  unfolding listIn listBytes listSize bytes16
-  length-its v =
-      let d = distance (networkIn b e c) v in
-      let size : (a : ℕ) → length (entryBytes (transitIn b e c grid) a (d a)) ≡ entrySize = λ a. unfold entryBytes in omega (arith, length-value (d a)) in
-      omega (arith, length-concatMap (λ a. entryBytes (transitIn b e c grid) a (d a)) entrySize size (accessOf b e c grid v))
+  unfolding listIn
+  length-its v = length-list (distance (networkIn b e c)) (transitIn b e c grid) v (accessOf b e c grid v)
 
   -- The words go on to serve where the transit nodes stay.
   module _ (w w′ : List ℕ) (based : Based b e c grid n w) (k : length w′ ≡ length w) where
-    pub based-still : drop (regionAt n transit) w′ ≡ drop (regionAt n transit) w → Based b e c grid n w′
-    based-still q = record { ground = based .ground; count = based .count; few = based .few; words = omega (arith, based .words, k); some = based .some; roads = roads-from e c n w w′ (regionAt n transit) (omega arith) q (based .roads); transits = ap (λ (l : List ℕ). membersOf n (take (setWords n) l)) q ∙ based .transits }
+    pub based-still : KeptFrom (regionAt n transit) w w′ → Based b e c grid n w′
+    based-still q = record { ground = based .ground; count = based .count; few = based .few; words = omega (arith, based .words, k); some = based .some; roads =
+        roads-from e c n w w′ (regionAt n transit) (omega arith) q (based .roads); transits = ap (λ (l : List ℕ). membersOf n (take (setWords n) l)) q ∙ based .transits }
 
-    pub based-later : drop (3 * n) w′ ≡ drop (3 * n) w → Based b e c grid n w′
-    based-later q = based-still (drop-more (3 * n) (regionAt n transit) w w′ (omega arith) q)
+    pub based-later : KeptFrom (searchWords n) w w′ → Based b e c grid n w′
+    based-later q = based-still (kept-more (searchWords n) (regionAt n transit) w w′ (omega arith) q)
 
   -- ---- the list of v, where the words are those for the cell of u
-  module _ (w : List ℕ) (based : Based b e c grid n w) (u v : ℕ) (u-in : u < n) (v-in : v < n) (os : membersIn n own w ≡ accessOf b e c grid u) (body : Bytes) (l : ListedTo b e c grid n u v body) where
+  module _ (w : List ℕ) (based : Based b e c grid n w) (u v : ℕ) (u-in : u < n) (v-in : v < n) (os : membersIn n own w ≡ accessOf b e c grid u) (body : Bytes)
+      (l : ListedTo b e c grid n u v body) where
     pub list-other : sameCell (cellsIn grid b) u v ≡ false → ListedTo b e c grid n u (v + 1) body
     list-other other = record { begun = l .begun; seen = to-other (cellsIn grid b) (Placed n (listIn b e c grid) body) n u v other (l .seen) }
 
@@ -116,18 +117,20 @@ module _ (b e c : Bytes) (grid : Grid) (n : ℕ) where
       its-size = length-its v ∙ rw (os, same-nodes)
 
       pub list-room : (left : ℕ) → Sought n left w
-          → ((n ≤ maxNodes) × (v < n) × (8 * n ≤ length w) × Among n (region n own w) (region n transit w) × Sought n left w)
+          → ((n ≤ maxNodes) × (v < n) × Enough n w × Among n (region n own w) (region n transit w) × Sought n left w)
           × (Roads e c n w
-          × ((4 * v + 4 ≤ length body) × (word32 body (4 * v) + listSize left ≤ length body)))
+          × ((startSize * v + startSize ≤ length body) × (listStart body v + listSize left ≤ length body)))
       list-room left s = (
         (based .few, v-in, based .words, among b e c grid n (based .count) w u u-in (based .transits) os, s),
         (
           based .roads,
-          (start-fits n (listIn b e c grid) body (l .begun) v v-in, omega (arith, ap listSize (s .count), its-size, start-at n (listIn b e c grid) body (l .begun) v v-in, fits-at n (listIn b e c grid) body (l .begun) v v-in)),
+          (start-fits n (listIn b e c grid) body (l .begun) v v-in,
+              omega (arith, ap listSize (s .count), its-size, start-at n (listIn b e c grid) body (l .begun) v v-in, fits-at n (listIn b e c grid) body (l .begun) v v-in)),
         ),
       )
 
-      pub list-done : (new : Bytes) → new ≡ splice (word32 body (4 * v)) (listBytesOf (distanceWords (arcsIn e c) n v) (membersIn n transit w) (membersIn n own w)) body → ListedTo b e c grid n u (v + 1) new
+      pub list-done : (new : Bytes) → new ≡ splice (listStart body v) (listBytesOf (distanceWords (arcsIn e c) n v) (membersIn n transit w) (membersIn n own w)) body
+          → ListedTo b e c grid n u (v + 1) new
       list-done new s =
           let list = listIn b e c grid in
           let its : listBytesOf (distanceWords (arcsIn e c) n v) (membersIn n transit w) (membersIn n own w) ≡ list v = list-words b e c grid n (based .count) w v u (based .transits) same-nodes os in
@@ -135,7 +138,8 @@ module _ (b e c : Bytes) (grid : Grid) (n : ℕ) where
           rw is
           (record {
             begun = begun-still n list body (l .begun) v v-in;
-            seen = to-same (cellsIn grid b) (Placed n list body) (Placed n list (with-it n list body (l .begun) v v-in)) n u v (l .seen) (placed-here n list body (l .begun) v v-in) (placed-still n list body (l .begun) v v-in);
+            seen = to-same (cellsIn grid b) (Placed n list body) (Placed n list (with-it n list body (l .begun) v v-in)) n u v (l .seen)
+                (placed-here n list body (l .begun) v v-in) (placed-still n list body (l .begun) v v-in);
           })
 
   -- ---- cell by cell
@@ -162,14 +166,15 @@ pub record Working (b e c : Bytes) (grid : Grid) (n u left : ℕ) (w₀ w : List
   pub owns : membersIn n own w ≡ accessOf b e c grid u
   pub sought : Sought n left w
   pub kept : length w ≡ length w₀
-  pub others : drop (regionAt n transit) w ≡ drop (regionAt n transit) w₀
+  pub others : KeptFrom (regionAt n transit) w₀ w
 
-pub working-next : (b e c : Bytes) (grid : Grid) (n u left : ℕ) (w₀ w w′ : List ℕ) → Working b e c grid n u left w₀ w → length w′ ≡ length w → drop (3 * n) w′ ≡ drop (3 * n) w → Working b e c grid n u left w₀ w′
+pub working-next : (b e c : Bytes) (grid : Grid) (n u left : ℕ) (w₀ w w′ : List ℕ) → Working b e c grid n u left w₀ w → length w′ ≡ length w → KeptFrom (searchWords n) w w′
+    → Working b e c grid n u left w₀ w′
 working-next b e c grid n u left w₀ w w′ g k q =
     record {
       based = based-later b e c grid n w w′ (g .based) k q;
       owns = own-later n w w′ q ∙ g .owns;
       sought = sought-later n left w (g .sought) w′ q;
       kept = k ∙ g .kept;
-      others = drop-more (3 * n) (regionAt n transit) w w′ (omega arith) q ∙ g .others;
+      others = kept-more (searchWords n) (regionAt n transit) w w′ (omega arith) q ∙ g .others;
     }

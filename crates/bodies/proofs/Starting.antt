@@ -6,8 +6,9 @@ use mathlib.Core.List.{List, _++_}
 use lib.ListN.{length, getD, take, drop, length-append, length-drop}
 use lib.Seq.{length-take-le, getD-take, getD-drop, take-at}
 use Rattle.model.specs.Bytes.{Bytes}
+use Rattle.model.specs.Oracle.{startSize}
 use Rattle.grid.specs.declared.Grid.{Grid}
-use Rattle.layout.specs.Regions.{regionAt, countsIn, counts}
+use Rattle.words.specs.Regions.{regionAt, countsIn, counts}
 use Rattle.emit.specs.Parts.{Counted, startsOf, listSizes}
 use Rattle.emit.specs.PartLaws.{starts-lists}
 use Rattle.passes.specs.Building.{accessOf, listIn}
@@ -18,10 +19,12 @@ use Rattle.bodies.proofs.CellLists.{length-its}
 
 -- s are the words of region COUNTS, as the code lends them.
 module _ (n : ℕ) (work s : List ℕ) (p : s ≡ countsIn n work) where
-  pub starts-room : (body : Bytes) → 4 * n ≤ length body → Counted n (countsIn n work) → Counted n s × (length (take (4 * n) body) ≡ 4 * n)
-  starts-room body h c = (rw p c, length-take-le (4 * n) body h)
+  pub starts-room : (body : Bytes) → startSize * n ≤ length body → Counted n (countsIn n work)
+      → Counted n s × (length (take (startSize * n) body) ≡ startSize * n)
+  starts-room body h c = (rw p c, length-take-le (startSize * n) body h)
 
-  pub starts-put : (body ys : Bytes) → ys ≡ startsOf (4 * n) (listSizes n s) → ys ++ drop (4 * n) body ≡ startsOf (4 * n) (listSizes n (countsIn n work)) ++ drop (4 * n) body
+  pub starts-put : (body ys : Bytes) → ys ≡ startsOf (startSize * n) (listSizes n s)
+      → ys ++ drop (startSize * n) body ≡ startsOf (startSize * n) (listSizes n (countsIn n work)) ++ drop (startSize * n) body
   starts-put body ys e = rw (e, p)
 
 module _ (b e c : Bytes) (grid : Grid) (n : ℕ) (work : List ℕ) (based : Based b e c grid n work) (all : Counts b e c grid n work) where
@@ -35,20 +38,23 @@ module _ (b e c : Bytes) (grid : Grid) (n : ℕ) (work : List ℕ) (based : Base
     λ v h. omega (arith, count-is v h, based .few, access-few b e c grid n (based .count) v),
   )
 
-  starts-are : startsOf (4 * n) (listSizes n (countsIn n work)) ≡ front n (listIn b e c grid)
+  starts-are : startsOf (startSize * n) (listSizes n (countsIn n work)) ≡ front n (listIn b e c grid)
   starts-are = sym (starts-lists (listIn b e c grid) n (countsIn n work) (λ v h. length-its b e c grid n v ∙ rw (count-is v h)))
 
   module _ (body : Bytes) (size : length body ≡ length (whole n (listIn b e c grid))) where
-    pub starts-fit : 4 * n ≤ length body
+    pub starts-fit : startSize * n ≤ length body
     starts-fit = omega (arith, size, length-whole n (listIn b e c grid))
 
-    pub begun-first : (new : Bytes) → new ≡ startsOf (4 * n) (listSizes n (countsIn n work)) ++ drop (4 * n) body → length body < 4294967296 → Begun n (listIn b e c grid) new
+    pub begun-first : (new : Bytes) → new ≡ startsOf (startSize * n) (listSizes n (countsIn n work)) ++ drop (startSize * n) body
+        → length body < 4294967296 → Begun n (listIn b e c grid) new
     begun-first new put small =
         let list = listIn b e c grid in
-        let is : new ≡ front n list ++ drop (4 * n) body = put ∙ rw starts-are in
-        let long : 4 * n ≤ length body = starts-fit in
+        let is : new ≡ front n list ++ drop (startSize * n) body = put ∙ rw starts-are in
+        let long : startSize * n ≤ length body = starts-fit in
         record {
-          size = ap length is ∙ (length-append (front n list) (drop (4 * n) body) ∙ omega (arith, length-front n list, length-drop (4 * n) body, size));
+          size =
+              ap length is ∙
+              (length-append (front n list) (drop (startSize * n) body) ∙ omega (arith, length-front n list, length-drop (startSize * n) body, size));
           small = omega (arith, size);
-          starts = ap (take (4 * n)) is ∙ take-at (front n list) (drop (4 * n) body) (4 * n) (length-front n list);
+          starts = ap (take (startSize * n)) is ∙ take-at (front n list) (drop (startSize * n) body) (startSize * n) (length-front n list);
         }

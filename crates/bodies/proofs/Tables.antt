@@ -9,36 +9,40 @@ use lib.ListN.{length, take, drop}
 use lib.Seq.{length-take-le}
 use Rattle.model.specs.Lists.{concatMap}
 use Rattle.model.specs.Bytes.{Bytes, splice}
+use Rattle.model.specs.Oracle.{valueSize}
 use Rattle.algorithms.specs.Rounds.{distanceWords}
 use Rattle.theory.specs.ReadLaws.{length-concatMap}
 use Rattle.arcs.specs.Arcs.{arcsIn}
 use Rattle.bitset.specs.Bits.{isIn}
-use Rattle.layout.specs.Regions.{regionAt, region, transit}
-use Rattle.layout.proofs.Windows.{region-length, in-front}
-use Rattle.emit.specs.Members.{membersOf, HasBits, ifIn}
+use Rattle.words.specs.Regions.{regionAt, region, transit, searchWords}
+use Rattle.words.proofs.Windows.{region-length, in-front}
+use Rattle.emit.specs.Members.{ifIn}
+use Rattle.bitset.specs.Members.{membersOf, HasBits}
 use Rattle.emit.specs.Parts.{rowBytes}
 use Rattle.emit.specs.PartLaws.{length-row}
 use Rattle.emit.specs.Records.{Wrote}
 use Rattle.emit.proofs.Writing.{Written, written-start}
 use Rattle.emit.proofs.Turns.{membersFrom, members-all, wrote-out, wrote-in, fits-in}
 use Rattle.passes.specs.Building.{membersIn}
+use Rattle.words.specs.Frames.{Enough, KeptFrom}
 use Rattle.bodies.specs.Rows.{rowIn}
 use Rattle.bodies.proofs.Lent.{part-written, region-later}
 
 -- ---- a row, from the words: s are those of region TRANSIT, as the code lends them
-module _ (n at t : ℕ) (work : List ℕ) (out : Bytes) (long : 8 * n ≤ length work) (e : t ≡ length (membersIn n transit work)) (h : at + 4 * t ≤ length out) (some : 1 ≤ n) (s : List ℕ) (p : s ≡ region n transit work) where
-  pub row-room : HasBits n s × (n ≤ length (take n work)) × (length (midOf at (at + 4 * t - at) out) ≡ 4 * length (membersOf n s))
+module _ (n at t : ℕ) (work : List ℕ) (out : Bytes) (long : Enough n work) (e : t ≡ length (membersIn n transit work)) (h : at + valueSize * t ≤ length out) (some : 1 ≤ n)
+    (s : List ℕ) (p : s ≡ region n transit work) where
+  pub row-room : HasBits n s × (n ≤ length (take n work)) × (length (midOf at (at + valueSize * t - at) out) ≡ valueSize * length (membersOf n s))
   row-room =
-      let z : at + 4 * t - at ≡ 4 * t = omega arith in (
+      let z : at + valueSize * t - at ≡ valueSize * t = omega arith in (
         rw p (omega (arith, region-length n transit work (omega arith))),
         omega (arith, length-take-le n work (omega arith)),
-        mid-len at (at + 4 * t) out h ∙ (z ∙ rw p (ap (λ (m : ℕ). 4 * m) e)),
+        mid-len at (at + valueSize * t) out h ∙ (z ∙ rw p (ap (λ (m : ℕ). valueSize * m) e)),
       )
 
-  pub row-written : (ys : Bytes) → length ys ≡ length (midOf at (at + 4 * t - at) out) → ys ≡ rowBytes (take n work) (membersOf n s)
-      → putMid at (at + 4 * t - at) out ys ≡ splice at (rowBytes (take n work) (membersIn n transit work)) out
+  pub row-written : (ys : Bytes) → length ys ≡ length (midOf at (at + valueSize * t - at) out) → ys ≡ rowBytes (take n work) (membersOf n s)
+      → putMid at (at + valueSize * t - at) out ys ≡ splice at (rowBytes (take n work) (membersIn n transit work)) out
   row-written ys k q =
-      part-written at (at + 4 * t) out ys (omega arith) h k ∙
+      part-written at (at + valueSize * t) out ys (omega arith) h k ∙
       ap (λ (b : Bytes). splice at b out) (q ∙ ap (λ (s : List ℕ). rowBytes (take n work) (membersOf n s)) p)
 
 -- ---- the row of v, where it is a transit node
@@ -46,7 +50,7 @@ module _ (edges closed : Bytes) (n v : ℕ) (work : List ℕ) (h : v < n) where
   abbrev row : Bytes
   row = rowIn edges closed n (membersIn n transit work) v
 
-  length-its : length row ≡ 4 * length (membersIn n transit work)
+  length-its : length row ≡ valueSize * length (membersIn n transit work)
   unfolding rowIn
   length-its = length-row (distanceWords (arcsIn edges closed) n v) (membersIn n transit work)
 
@@ -58,14 +62,15 @@ module _ (edges closed : Bytes) (n v : ℕ) (work : List ℕ) (h : v < n) where
     no-row q = wrote-out (region n transit work) v out at row (inside ∙ q)
 
     module _ (q : isIn (drop (regionAt n transit) work) v ≡ true) where
-      pub row-fits : at + length (ifIn (region n transit work) v row) ≤ length out → at + 4 * t ≤ length out
+      pub row-fits : at + length (ifIn (region n transit work) v row) ≤ length out → at + valueSize * t ≤ length out
       row-fits l = omega (arith, fits-in (region n transit work) v at (length out) row (inside ∙ q) l, length-its, e)
 
-      pub one-row : (work′ : List ℕ) (new : Bytes) → take n work′ ≡ distanceWords (arcsIn edges closed) n v → drop (3 * n) work′ ≡ drop (3 * n) work
-          → new ≡ splice at (rowBytes (take n work′) (membersIn n transit work′)) out → Wrote out at (ifIn (region n transit work) v row) (at + 4 * t) new
+      pub one-row : (work′ : List ℕ) (new : Bytes) → take n work′ ≡ distanceWords (arcsIn edges closed) n v → KeptFrom (searchWords n) work work′
+          → new ≡ splice at (rowBytes (take n work′) (membersIn n transit work′)) out
+          → Wrote out at (ifIn (region n transit work) v row) (at + valueSize * t) new
       unfolding rowIn
       one-row work′ new times others s =
-          wrote-in (region n transit work) v out at row (at + 4 * t) new (inside ∙ q) (omega (arith, length-its, e))
+          wrote-in (region n transit work) v out at row (at + valueSize * t) new (inside ∙ q) (omega (arith, length-its, e))
           (s ∙ rw (times, region-later n transit work work′ (omega arith) others))
 
 -- ---- all rows
@@ -73,8 +78,9 @@ module _ (edges closed : Bytes) (n : ℕ) (work : List ℕ) where
   abbrev pub rows : ℕ → Bytes
   rows = rowIn edges closed n (membersIn n transit work)
 
-  pub rows-start : (t : ℕ) (out : Bytes) → t ≡ length (membersIn n transit work) → length out ≡ 4 * t * t
+  pub rows-start : (t : ℕ) (out : Bytes) → t ≡ length (membersIn n transit work) → length out ≡ valueSize * t * t
       → Written (concatMap rows (membersIn n transit work)) 0 out (membersFrom rows (region n transit work) n 0)
   rows-start t out e l =
       written-start (members-all rows (region n transit work) n)
-      (l ∙ rw e (sym (length-concatMap rows (4 * length (membersIn n transit work)) (λ v. unfold rowIn in length-row (distanceWords (arcsIn edges closed) n v) (membersIn n transit work)) (membersIn n transit work))))
+      (l ∙ rw e (sym (length-concatMap rows (valueSize * length (membersIn n transit work)) (λ v. unfold rowIn in
+          length-row (distanceWords (arcsIn edges closed) n v) (membersIn n transit work)) (membersIn n transit work))))

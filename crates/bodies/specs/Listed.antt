@@ -9,17 +9,18 @@ use Rattle.model.specs.Oracle.{startSize}
 use Rattle.index.specs.Index.{Roads}
 use Rattle.grid.specs.declared.Grid.{Grid}
 use Rattle.crossing.specs.Ground.{cellsIn, Ground}
-use Rattle.layout.specs.Regions.{regionAt, counts, transit}
+use Rattle.words.specs.Regions.{regionAt, counts, transit}
 use Rattle.passes.specs.Building.{accessOf, transitIn, listIn, membersIn}
 use Rattle.passes.specs.Covered.{Seen, SeenTo}
 use Rattle.passes.specs.Placed.{Placed, front, whole}
+use Rattle.words.specs.Frames.{Enough}
 
 -- What the lists are worked out by: an accepted network of n nodes with a grid, and working words with its transit nodes and the index of its edges.
 pub record Based (nodes edges closed : Bytes) (grid : Grid) (n : ℕ) (work : List ℕ) : Type 0 where
   pub ground : Ground nodes edges closed grid
   pub count : n ≡ nodeCount nodes
   pub few : n ≤ maxNodes
-  pub words : 8 * n ≤ length work
+  pub words : Enough n work
   pub some : 1 ≤ n
   pub transits : membersIn n transit work ≡ transitIn nodes edges closed grid
   pub roads : Roads edges closed n work

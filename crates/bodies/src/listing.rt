@@ -3,12 +3,14 @@ ghost use mathlib.Core.Path.{_≡_};
 ghost use Prim.Native.Nat.{_+_, _*_, _<_, _≤_};
 ghost use mathlib.Core.List.{_++_};
 ghost use lib.ListN.{length, drop};
+ghost use Rattle.model.specs.Oracle.{startSize};
 ghost use Rattle.crossing.specs.Beside.{CellSquare};
-ghost use Rattle.layout.specs.Regions.{regionAt, countsIn, transit, own};
+ghost use Rattle.words.specs.Regions.{regionAt, countsIn, transit, own, searchWords};
 ghost use Rattle.emit.specs.Parts.{Counted, startsOf, listSizes};
 ghost use Rattle.passes.specs.Building.{accessOf, listIn, membersIn};
 ghost use Rattle.passes.specs.Placed.{whole};
 ghost use Rattle.passes.specs.Sought.{Sought};
+ghost use Rattle.words.specs.Frames.{Enough, KeptFrom};
 ghost use Rattle.bodies.specs.Listed.{Based, Listed, ListedTo, Counts};
 use crate::lists::put_list;
 use codec::records::START_SIZE;
@@ -18,8 +20,8 @@ use crossing::cells::first_of_cell;
 use emit::starts::write_starts;
 use grid::Grid;
 use grid::square::Square;
-use layout::regions::COUNTS;
-use layout::regions::region_at;
+use words::regions::COUNTS;
+use words::regions::region_at;
 use passes::own::own_wanted;
 
 // Writes the list of v, if v has the cell of u, which the square is of. The cell has `left` access nodes.
@@ -40,7 +42,7 @@ fn list_beside(
     requires { ⌜ (membersIn n own (now work) ≡ accessOf (now nodes) (now edges) (now closed) grid u) × Sought n left (now work) ⌝ }
     requires { ⌜ ListedTo (now nodes) (now edges) (now closed) grid n u v (now body) ⌝ }
     ensures lists { λ _. ⌜ ListedTo (now (nodes .entry)) (now (edges .entry)) (now (closed .entry)) grid n u (v + 1) (now (body .exit)) ⌝ }
-    ensures others { λ _. ⌜ drop (3 * n) (now (work .exit)) ≡ drop (3 * n) (now (work .entry)) ⌝ }
+    ensures others { λ _. ⌜ KeptFrom (searchWords n) (now (work .entry)) (now (work .exit)) ⌝ }
 {
     if beside(nodes, square, v) {
         put_list(edges, closed, n, v, left, work, body);
@@ -60,7 +62,7 @@ fn lists_of_cell(
 )
     requires { ⌜ Based (now nodes) (now edges) (now closed) grid n (now work) × (u < n) × Listed (now nodes) (now edges) (now closed) grid n u (now body) ⌝ }
     ensures lists { λ _. ⌜ Listed (now (nodes .entry)) (now (edges .entry)) (now (closed .entry)) grid n (u + 1) (now (body .exit)) ⌝ }
-    ensures others { λ _. ⌜ drop (regionAt n transit) (now (work .exit)) ≡ drop (regionAt n transit) (now (work .entry)) ⌝ }
+    ensures others { λ _. ⌜ KeptFrom (regionAt n transit) (now (work .entry)) (now (work .exit)) ⌝ }
 {
     let left = own_wanted(nodes, edges, closed, grid, n, u, work);
     let square = cell_square(nodes, grid, u);
@@ -96,7 +98,7 @@ fn lists_at(
 )
     requires { ⌜ Based (now nodes) (now edges) (now closed) grid n (now work) × (u < n) × Listed (now nodes) (now edges) (now closed) grid n u (now body) ⌝ }
     ensures lists { λ _. ⌜ Listed (now (nodes .entry)) (now (edges .entry)) (now (closed .entry)) grid n (u + 1) (now (body .exit)) ⌝ }
-    ensures others { λ _. ⌜ drop (regionAt n transit) (now (work .exit)) ≡ drop (regionAt n transit) (now (work .entry)) ⌝ }
+    ensures others { λ _. ⌜ KeptFrom (regionAt n transit) (now (work .entry)) (now (work .exit)) ⌝ }
 {
     if first_of_cell(nodes, grid, u) {
         lists_of_cell(nodes, edges, closed, grid, n, u, work, body);
@@ -115,7 +117,7 @@ fn put_lists(
 )
     requires { ⌜ Based (now nodes) (now edges) (now closed) grid n (now work) × Listed (now nodes) (now edges) (now closed) grid n 0 (now body) ⌝ }
     ensures bytes { λ _. ⌜ now (body .exit) ≡ whole n (listIn (now (nodes .entry)) (now (edges .entry)) (now (closed .entry)) grid) ⌝ }
-    ensures others { λ _. ⌜ drop (regionAt n transit) (now (work .exit)) ≡ drop (regionAt n transit) (now (work .entry)) ⌝ }
+    ensures others { λ _. ⌜ KeptFrom (regionAt n transit) (now (work .entry)) (now (work .exit)) ⌝ }
 {
     let mut u = 0;
     while u < n {
@@ -126,8 +128,8 @@ fn put_lists(
 
 // The starts, from the numbers of entries.
 fn put_starts(n: usize, work: &[u32], body: &mut [u8])
-    requires { ⌜ (8 * n ≤ length (now work)) × (4 * n ≤ length (now body)) × Counted n (countsIn n (now work)) × (1 ≤ n) ⌝ }
-    ensures { λ _. ⌜ now (body .exit) ≡ startsOf (4 * n) (listSizes n (countsIn n (now (work .entry)))) ++ drop (4 * n) (now (body .entry)) ⌝ }
+    requires { ⌜ Enough n (now work) × (startSize * n ≤ length (now body)) × Counted n (countsIn n (now work)) × (1 ≤ n) ⌝ }
+    ensures { λ _. ⌜ now (body .exit) ≡ startsOf (startSize * n) (listSizes n (countsIn n (now (work .entry)))) ++ drop (startSize * n) (now (body .entry)) ⌝ }
 {
     let a = region_at(n, COUNTS);
     let e = a + n;
@@ -148,7 +150,7 @@ pub fn put_access(
     requires { ⌜ Based (now nodes) (now edges) (now closed) grid n (now work) × Counts (now nodes) (now edges) (now closed) grid n (now work) ⌝ }
     requires { ⌜ (length (now body) ≡ length (whole n (listIn (now nodes) (now edges) (now closed) grid))) × (length (now body) < 4294967296) ⌝ }
     ensures bytes { λ _. ⌜ now (body .exit) ≡ whole n (listIn (now (nodes .entry)) (now (edges .entry)) (now (closed .entry)) grid) ⌝ }
-    ensures others { λ _. ⌜ drop (regionAt n transit) (now (work .exit)) ≡ drop (regionAt n transit) (now (work .entry)) ⌝ }
+    ensures others { λ _. ⌜ KeptFrom (regionAt n transit) (now (work .entry)) (now (work .exit)) ⌝ }
 {
     put_starts(n, work, body);
     put_lists(nodes, edges, closed, grid, n, work, body);

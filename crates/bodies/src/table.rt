@@ -5,25 +5,26 @@ ghost use lib.ListN.{length, drop};
 ghost use Rattle.model.specs.Bytes.{splice};
 ghost use Rattle.model.specs.Lists.{concatMap};
 ghost use Rattle.model.specs.Network.{maxNodes};
+ghost use Rattle.model.specs.Oracle.{valueSize};
 ghost use Rattle.index.specs.Index.{Roads};
-ghost use Rattle.search.specs.Regions.{timesIn};
-ghost use Rattle.layout.specs.Regions.{region, transit};
+ghost use Rattle.words.specs.Regions.{region, transit, timesIn, searchWords};
 ghost use Rattle.emit.specs.Members.{ifIn};
 ghost use Rattle.emit.specs.Parts.{rowBytes};
 ghost use Rattle.emit.specs.Records.{Wrote};
 ghost use Rattle.passes.specs.Building.{membersIn};
+ghost use Rattle.words.specs.Frames.{Enough, KeptFrom};
 ghost use Rattle.bodies.specs.Rows.{rowIn};
 use bitset::bits::set_words;
 use codec::records::VALUE_SIZE;
 use emit::rows::write_row;
-use layout::regions::TRANSIT;
-use layout::regions::has;
-use layout::regions::region_at;
+use words::regions::TRANSIT;
+use words::regions::has;
+use words::regions::region_at;
 use search::front::search_front;
 
 // Writes the row of the node whose times stand in the first region, from `at` on.
 fn write_times(n: usize, t: usize, work: &[u32], out: &mut [u8], at: usize)
-    requires { ⌜ (8 * n ≤ length (now work)) × (t ≡ length (membersIn n transit (now work))) × (at + 4 * t ≤ length (now out)) × (1 ≤ n) ⌝ }
+    requires { ⌜ Enough n (now work) × (t ≡ length (membersIn n transit (now work))) × (at + valueSize * t ≤ length (now out)) × (1 ≤ n) ⌝ }
     ensures { λ _. ⌜ now (out .exit) ≡ splice at (rowBytes (timesIn n (now (work .entry))) (membersIn n transit (now (work .entry)))) (now (out .entry)) ⌝ }
 {
     let a = region_at(n, TRANSIT);
@@ -43,11 +44,11 @@ fn put_row(
     out: &mut [u8],
     at: usize,
 ) -> usize
-    requires { ⌜ (n ≤ maxNodes) × (v < n) × (8 * n ≤ length (now work)) ⌝ }
+    requires { ⌜ (n ≤ maxNodes) × (v < n) × Enough n (now work) ⌝ }
     requires { ⌜ Roads (now edges) (now closed) n (now work) ⌝ }
     requires { ⌜ (t ≡ length (membersIn n transit (now work))) × (at + length (ifIn (region n transit (now work)) v (rowIn (now edges) (now closed) n (membersIn n transit (now work)) v)) ≤ length (now out)) ⌝ }
     ensures bytes { λ r. ⌜ Wrote (now (out .entry)) at (ifIn (region n transit (now (work .entry))) v (rowIn (now (edges .entry)) (now (closed .entry)) n (membersIn n transit (now (work .entry))) v)) r (now (out .exit)) ⌝ }
-    ensures others { λ _. ⌜ drop (3 * n) (now (work .exit)) ≡ drop (3 * n) (now (work .entry)) ⌝ }
+    ensures others { λ _. ⌜ KeptFrom (searchWords n) (now (work .entry)) (now (work .exit)) ⌝ }
 {
     if !has(work, n, TRANSIT, v) {
         return at;
@@ -59,11 +60,11 @@ fn put_row(
 
 // The rows of the t transit nodes.
 pub fn put_table(edges: &[u8], closed: &[u8], n: usize, t: usize, work: &mut [u32], out: &mut [u8])
-    requires { ⌜ (n ≤ maxNodes) × (8 * n ≤ length (now work)) ⌝ }
+    requires { ⌜ (n ≤ maxNodes) × Enough n (now work) ⌝ }
     requires { ⌜ Roads (now edges) (now closed) n (now work) ⌝ }
-    requires { ⌜ (t ≡ length (membersIn n transit (now work))) × (length (now out) ≡ 4 * t * t) ⌝ }
+    requires { ⌜ (t ≡ length (membersIn n transit (now work))) × (length (now out) ≡ valueSize * t * t) ⌝ }
     ensures bytes { λ _. ⌜ now (out .exit) ≡ concatMap (rowIn (now (edges .entry)) (now (closed .entry)) n (membersIn n transit (now (work .entry)))) (membersIn n transit (now (work .entry))) ⌝ }
-    ensures others { λ _. ⌜ drop (3 * n) (now (work .exit)) ≡ drop (3 * n) (now (work .entry)) ⌝ }
+    ensures others { λ _. ⌜ KeptFrom (searchWords n) (now (work .entry)) (now (work .exit)) ⌝ }
 {
     let mut at = 0;
     let mut v = 0;

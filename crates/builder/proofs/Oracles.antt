@@ -1,29 +1,30 @@
 -- The parts that are written, joined, are the oracle. Assumes nothing.
-use Prim.Native.Nat.{ℕ, _+_, _*_, _≤_, _<_}
+use Prim.Native.Nat.{ℕ, _+_, _≤_, _<_}
 use native.Mathlib.Omega.{arith}
 use mathlib.Core.Path.{_≡_, refl, sym, _∙_, ap}
 use mathlib.Core.List.{List, [], _∷_, _++_, map, append-nil, append-assoc}
 use lib.ListN.{length, drop, length-append, length-drop}
 use lib.Seq.{drop-at}
-use Rattle.model.specs.Lists.{range, upTo, concat, concatMap}
+use Rattle.model.specs.Lists.{range, upTo, concat}
 use Rattle.model.specs.Bytes.{Bytes, bytes16, splice}
-use Rattle.model.specs.Contents.{body, file, entryAt, networkEdition, networkEntries, oracleEdition}
-use Rattle.model.specs.Distance.{Distance}
+use Rattle.model.specs.Contents.{body, file, entryAt, networkEdition, networkEntries, networkHead, oracleEdition}
 use Rattle.model.specs.Network.{network, distance}
-use Rattle.model.specs.Oracle.{oracle, transitOf, valueBytes, tableBytes}
+use Rattle.model.specs.Grid.{divisionBytes}
+use Rattle.model.specs.Oracle.{oracle, transitOf, tableBytes}
+use Rattle.model.specs.declared.Division.{Division}
 use Rattle.theory.specs.Accepted.{good}
 use Rattle.theory.specs.Joined.{whole-contents}
-use Rattle.theory.specs.ReadLaws.{length-concatMap, length-value}
+use Rattle.theory.specs.ReadLaws.{length-table}
 use Rattle.theory.specs.Whole.{AreBytes, whole-file}
 use Rattle.grid.specs.declared.Grid.{Grid}
-use Rattle.access.specs.Networks.{networkIn}
+use Rattle.access.specs.Networks.{networkIn, count-order}
 use Rattle.emit.specs.Parts.{headBytes, numbersBytes}
 use Rattle.emit.specs.PartLaws.{file-head, length-head, length-numbers}
 use Rattle.emit.specs.Records.{Wrote}
 use Rattle.passes.specs.Building.{transitIn, listIn}
-use Rattle.passes.specs.BuildingLaws.{count-order, access-body}
+use Rattle.passes.specs.BuildingLaws.{access-body}
 use Rattle.passes.specs.Placed.{whole}
-use Rattle.builder.specs.Plan.{sizesIn, wholeSize, frontBytes, backBytes}
+use Rattle.builder.specs.Plan.{backSize, sizesIn, wholeSize, frontBytes, backBytes}
 use Rattle.builder.specs.Laid.{Laid}
 use Rattle.builder.proofs.Joins.{length-front}
 
@@ -38,67 +39,67 @@ all-joined h a b c g n w t =
     ap (λ (l : Bytes). a ++ l)
     (append-assoc b c (g ++ (n ++ w ++ t)) ∙ ap (λ (l : Bytes). b ++ (c ++ (g ++ l))) (append-assoc n w t)))))
 
-length-table : (d : ℕ → ℕ → Distance) (l : List ℕ) → length (tableBytes d l) ≡ 4 * length l * length l
-unfolding tableBytes
-length-table d l = length-concatMap (λ a. concatMap (λ b. valueBytes (d a b)) l) (4 * length l) (λ a. length-concatMap (λ b. valueBytes (d a b)) 4 (λ b. length-value (d a b)) l) l
-
-module _ (f : Bytes) (g : ℕ) (b e c : Bytes) (grid : Grid) (n : ℕ) (l : Laid f g b e c grid n) where
+module _ (f : Bytes) (dv : Division) (b e c : Bytes) (grid : Grid) (n : ℕ) (l : Laid f dv b e c grid n) where
   -- ---- the bodies
   abbrev bodies : List Bytes
-  bodies = b ∷ e ∷ c ∷ bytes16 g ∷ numbersBytes (transitIn b e c grid) ∷ whole n (listIn b e c grid) ∷ tableBytes (distance (networkIn b e c)) (transitIn b e c grid) ∷ []
+  bodies = b ∷ e ∷ c ∷ divisionBytes dv ∷ numbersBytes (transitIn b e c grid) ∷ whole n (listIn b e c grid) ∷ tableBytes (distance (networkIn b e c)) (transitIn b e c grid) ∷ []
 
-  pub transits-are : transitIn b e c grid ≡ transitOf f g
+  pub transits-are : transitIn b e c grid ≡ transitOf f dv
   unfolding transitIn transitOf network
-  transits-are = rw (← l .of-nodes, ← l .of-edges, ← l .of-closed, ← l .made, count-order b e c grid n (l .count), l .count)
+  transits-are = rw (← l .of-nodes, ← l .of-edges, ← l .of-closed, ← l .made, count-order b n (l .count) e c, l .count)
 
-  built-is : oracle f g ≡ file oracleEdition bodies
+  built-is : oracle f dv ≡ file oracleEdition bodies
   unfolding oracle network transitIn numbersBytes
-  built-is = rw (← access-body b e c grid n (l .count), ← l .of-nodes, ← l .of-edges, ← l .of-closed, ← l .made, count-order b e c grid n (l .count), l .count)
+  built-is = rw (← access-body b e c grid n (l .count), ← l .of-nodes, ← l .of-edges, ← l .of-closed, ← l .made, count-order b n (l .count) e c, l .count)
 
-  pub long : 29 ≤ length f
+  pub long : networkHead ≤ length f
   unfolding entryAt
   long = whole-contents networkEdition networkEntries f (l .passed .contents)
 
   module _ (small : AreBytes f) where
     -- Bodies 1 to 3 stand behind the network's head.
-    network-bytes : drop 29 f ≡ b ++ (e ++ c)
+    network-bytes : drop networkHead f ≡ b ++ (e ++ c)
     unfolding range concat entryAt
     network-bytes =
-        let three : List Bytes = map (body f) (upTo 3) in
-        let is : f ≡ headBytes networkEdition (map length three) ++ concat three = whole-file f small networkEdition networkEntries (l .passed .contents) (l .passed .bodies) ∙ file-head networkEdition three in
-        let behind : drop 29 f ≡ concat three = ap (drop 29) is ∙ drop-at (headBytes networkEdition (map length three)) (concat three) 29 (length-head networkEdition (map length three)) in
+        let three : List Bytes = map (body f) (upTo networkEntries) in
+        let is : f ≡ headBytes networkEdition (map length three) ++ concat three = whole-file f small networkEdition networkEntries (l .passed .contents) (l .passed .bodies)
+            ∙ file-head networkEdition three in
+        let behind : drop networkHead f ≡ concat three = ap (drop networkHead) is
+            ∙ drop-at (headBytes networkEdition (map length three)) (concat three) networkHead (length-head networkEdition (map length three)) in
         behind ∙ rw (append-nil, ← l .of-nodes, ← l .of-edges, ← l .of-closed)
 
-    pub joined : 29 + length b + length e + length c ≡ length f
-    joined = omega (arith, long, length-drop 29 f, ap length network-bytes, length-append b (e ++ c), length-append e c)
+    pub joined : networkHead + length b + length e + length c ≡ length f
+    joined = omega (arith, long, length-drop networkHead f, ap length network-bytes, length-append b (e ++ c), length-append e c)
 
     module _ (t a : ℕ) (p : t ≡ length (transitIn b e c grid)) (q : a ≡ length (whole n (listIn b e c grid))) where
       sizes-are : sizesIn (length b) (length e) (length c) t a ≡ map length bodies
-      unfolding sizesIn bytes16
+      unfolding sizesIn divisionBytes bytes16
       sizes-are = rw (length-numbers (transitIn b e c grid), length-table (distance (networkIn b e c)) (transitIn b e c grid), p, q)
 
-      pub whole-is : frontBytes f g (sizesIn (length b) (length e) (length c) t a) ++ backBytes b e c grid n ≡ oracle f g
+      pub whole-is : frontBytes f dv (sizesIn (length b) (length e) (length c) t a) ++ backBytes b e c grid n ≡ oracle f dv
       unfolding frontBytes backBytes concat
       whole-is =
           rw (sizes-are, network-bytes)
-          (all-joined (headBytes oracleEdition (map length bodies)) b e c (bytes16 g) (numbersBytes (transitIn b e c grid)) (whole n (listIn b e c grid)) (tableBytes (distance (networkIn b e c)) (transitIn b e c grid)) ∙
+          (all-joined (headBytes oracleEdition (map length bodies)) b e c (divisionBytes dv) (numbersBytes (transitIn b e c grid)) (whole n (listIn b e c grid))
+              (tableBytes (distance (networkIn b e c)) (transitIn b e c grid)) ∙
           sym (built-is ∙ file-head oracleEdition bodies))
 
-      length-back : length (backBytes b e c grid n) ≡ 2 * t + a + 4 * t * t
+      length-back : length (backBytes b e c grid n) ≡ backSize t a
       unfolding backBytes
       length-back =
           let ts = transitIn b e c grid in
           length-append (numbersBytes ts ++ whole n (listIn b e c grid)) (tableBytes (distance (networkIn b e c)) ts) ∙
           rw (length-append (numbersBytes ts) (whole n (listIn b e c grid)), length-numbers ts, length-table (distance (networkIn b e c)) ts, p, q)
 
-      pub size-is : wholeSize (length f) t a ≡ length (oracle f g)
+      pub size-is : wholeSize (length f) t a ≡ length (oracle f dv)
       unfolding wholeSize sizesIn
       size-is =
           let s = sizesIn (length b) (length e) (length c) t a in
-          omega (arith, long, ap length whole-is, length-append (frontBytes f g s) (backBytes b e c grid n), length-front f g s long refl, length-back)
+          omega (arith, long, ap length whole-is, length-append (frontBytes f dv s) (backBytes b e c grid n), length-front f dv s long refl, length-back)
 
       pub size-small : wholeSize (length f) t a < 4294967296
-      size-small = omega (arith, size-is, good f g (l .passed) .small)
+      size-small = omega (arith, size-is, good f dv (l .passed) .small)
 
-      pub oracle-written : {old new : Bytes} {end : ℕ} → Wrote old 0 (frontBytes f g (sizesIn (length b) (length e) (length c) t a) ++ backBytes b e c grid n) end new → new ≡ splice 0 (oracle f g) old
+      pub oracle-written : {old new : Bytes} {end : ℕ} → Wrote old 0 (frontBytes f dv (sizesIn (length b) (length e) (length c) t a) ++ backBytes b e c grid n) end new
+          → new ≡ splice 0 (oracle f dv) old
       oracle-written {old} w = w .spliced ∙ ap (λ (bytes : Bytes). splice 0 bytes old) whole-is

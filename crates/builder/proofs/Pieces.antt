@@ -7,15 +7,16 @@ use mathlib.Core.List.{List, _++_}
 use borrow.Rule.Slice.PartMut.{midOf, putMid, mid-len}
 use lib.ListN.{length, take, drop, length-append}
 use lib.Seq.{length-take-le}
-use Rattle.model.specs.Bytes.{Bytes, splice}
-use Rattle.layout.proofs.Windows.{region-length}
-use Rattle.emit.specs.Members.{membersOf, HasBits}
+use Rattle.model.specs.Bytes.{Bytes, splice, numberSize}
+use Rattle.words.proofs.Windows.{region-length}
+use Rattle.bitset.specs.Members.{membersOf, HasBits}
 use Rattle.emit.specs.Parts.{numbersBytes}
 use Rattle.emit.specs.Records.{Wrote}
 use Rattle.emit.proofs.Writing.{splice-then}
-use Rattle.layout.specs.Regions.{region, transit}
+use Rattle.words.specs.Regions.{region, transit}
 use Rattle.passes.specs.Building.{membersIn}
 use Rattle.bodies.proofs.Lent.{part-written}
+use Rattle.words.specs.Frames.{Enough}
 
 -- One part after another is one of both.
 pub wrote-then : {old mid new x y : Bytes} {at m end : ℕ} → Wrote old at x m mid → Wrote mid m y end new → m ≤ length old → Wrote old at (x ++ y) end new
@@ -41,12 +42,13 @@ wrote-front m out ys bytes h k q =
     record { ends = omega (arith, l, ap length q); spliced = rw (← q, zero-add, l) }
 
 -- ---- the transit nodes: s are the words of region TRANSIT, as the code lends them
-module _ (n t at : ℕ) (work : List ℕ) (out : Bytes) (long : 8 * n ≤ length work) (e : t ≡ length (membersIn n transit work)) (h : at + 2 * t ≤ length out) (some : 1 ≤ n) (s : List ℕ) (p : s ≡ region n transit work) where
-  pub numbers-room : HasBits n s × (length (midOf at (at + 2 * t - at) out) ≡ 2 * length (membersOf n s))
+module _ (n t at : ℕ) (work : List ℕ) (out : Bytes) (long : Enough n work) (e : t ≡ length (membersIn n transit work)) (h : at + numberSize * t ≤ length out) (some : 1 ≤ n)
+    (s : List ℕ) (p : s ≡ region n transit work) where
+  pub numbers-room : HasBits n s × (length (midOf at (at + numberSize * t - at) out) ≡ numberSize * length (membersOf n s))
   numbers-room =
-      let z : at + 2 * t - at ≡ 2 * t = omega arith in
-      (rw p (omega (arith, region-length n transit work (omega arith))), mid-len at (at + 2 * t) out h ∙ (z ∙ rw p (ap (λ (m : ℕ). 2 * m) e)))
+      let z : at + numberSize * t - at ≡ numberSize * t = omega arith in
+      (rw p (omega (arith, region-length n transit work (omega arith))), mid-len at (at + numberSize * t) out h ∙ (z ∙ rw p (ap (λ (m : ℕ). numberSize * m) e)))
 
-  pub numbers-written : (ys : Bytes) → length ys ≡ length (midOf at (at + 2 * t - at) out) → ys ≡ numbersBytes (membersOf n s)
-      → Wrote out at (numbersBytes (membersIn n transit work)) (at + 2 * t) (putMid at (at + 2 * t - at) out ys)
-  numbers-written ys k q = wrote-part at (at + 2 * t) out ys (numbersBytes (membersIn n transit work)) (omega arith) h k (q ∙ rw p)
+  pub numbers-written : (ys : Bytes) → length ys ≡ length (midOf at (at + numberSize * t - at) out) → ys ≡ numbersBytes (membersOf n s)
+      → Wrote out at (numbersBytes (membersIn n transit work)) (at + numberSize * t) (putMid at (at + numberSize * t - at) out ys)
+  numbers-written ys k q = wrote-part at (at + numberSize * t) out ys (numbersBytes (membersIn n transit work)) (omega arith) h k (q ∙ rw p)

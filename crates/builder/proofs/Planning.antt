@@ -6,14 +6,15 @@ use mathlib.Core.List.{List}
 use lib.ListN.{length, drop}
 use Rattle.model.specs.Bytes.{Bytes}
 use Rattle.model.specs.Network.{maxNodes, nodeCount}
+use Rattle.model.specs.declared.Division.{Division}
+use Rattle.model.specs.Oracle.{startSize}
 use Rattle.theory.specs.Sound.{node-bytes}
 use Rattle.index.specs.Index.{Roads}
 use Rattle.grid.specs.declared.Grid.{Grid}
 use Rattle.grid.proofs.Cells.{over-made}
 use Rattle.crossing.specs.Ground.{Ground}
 use Rattle.crossing.specs.Sets.{ones}
-use Rattle.layout.specs.Regions.{regionAt, countsIn, regionFlags, transit}
-use Rattle.layout.proofs.Windows.{drop-more}
+use Rattle.words.specs.Regions.{regionAt, countsIn, regionFlags, transit}
 use Rattle.emit.specs.Parts.{Counted, listSizes, total}
 use Rattle.passes.specs.Building.{transitIn, listIn, membersIn}
 use Rattle.passes.specs.Placed.{length-whole}
@@ -21,16 +22,19 @@ use Rattle.passes.proofs.Listing.{count-members}
 use Rattle.bodies.specs.Listed.{Based, Counts}
 use Rattle.bodies.proofs.CellLists.{length-its}
 use Rattle.bodies.proofs.Starting.{count-is, counted-all}
+use Rattle.model.specs.Rules.{workWords}
+use Rattle.words.specs.Frames.{Enough, KeptFrom}
 use Rattle.builder.specs.Plan.{Planned}
 use Rattle.builder.specs.Laid.{Laid}
 use Rattle.builder.proofs.Sums.{length-lists}
+use Rattle.words.proofs.Stays.{kept-more}
 
-module _ (f : Bytes) (g : ℕ) (b e c : Bytes) (grid : Grid) (n : ℕ) (l : Laid f g b e c grid n) where
+module _ (f : Bytes) (dv : Division) (b e c : Bytes) (grid : Grid) (n : ℕ) (l : Laid f dv b e c grid n) where
   laid-ground : Ground b e c grid
   laid-ground =
       let s = l .passed .sound in
       record {
-        over = over-made grid b g (l .made) (rw (l .of-nodes) (s .nodes-rule)) (rw (l .of-nodes) (s .coordinates)) (l .passed .grid);
+        over = over-made grid b dv (l .made) (rw (l .of-nodes) (s .nodes-rule)) (rw (l .of-nodes) (s .coordinates)) (l .passed .grid);
         edges-rule = rw (l .of-nodes, l .of-edges) (s .some-edge);
         closed-rule = rw (l .of-edges, l .of-closed) (s .closed);
       }
@@ -39,24 +43,24 @@ module _ (f : Bytes) (g : ℕ) (b e c : Bytes) (grid : Grid) (n : ℕ) (l : Laid
   laid-some = rw (l .count, l .of-nodes) (node-bytes f (l .passed .sound) .1)
 
   -- The words of the regions are among the first 8 n.
-  pub behind-regions : (w w′ : List ℕ) → drop (regionAt n transit) w′ ≡ drop (regionAt n transit) w → drop (8 * n) w′ ≡ drop (8 * n) w
-  behind-regions w w′ d = drop-more (regionAt n transit) (8 * n) w w′ (omega (arith, laid-some)) d
+  pub behind-regions : (w w′ : List ℕ) → KeptFrom (regionAt n transit) w w′ → KeptFrom (workWords n) w w′
+  behind-regions w w′ d = kept-more (regionAt n transit) (workWords n) w w′ (omega (arith, laid-some)) d
 
   laid-few : n ≤ maxNodes
   laid-few = rw (l .count, l .of-nodes) (node-bytes f (l .passed .sound) .0)
 
-  module _ (w : List ℕ) (words : 8 * n ≤ length w) where
-    pub pass-requires : Ground b e c grid × (n ≡ nodeCount b) × (n ≤ maxNodes) × (8 * n ≤ length w) × (1 ≤ n)
+  module _ (w : List ℕ) (words : Enough n w) where
+    pub pass-requires : Ground b e c grid × (n ≡ nodeCount b) × (n ≤ maxNodes) × Enough n w × (1 ≤ n)
     pass-requires = (laid-ground, l .count, laid-few, words, laid-some)
 
     module _ (members : membersIn n transit w ≡ transitIn b e c grid) (all : Counts b e c grid n w) (roads : Roads e c n w) where
       based-first : Based b e c grid n w
       based-first = record { ground = laid-ground; count = l .count; few = laid-few; words = words; some = laid-some; transits = members; roads = roads }
 
-      pub sizes-requires : (8 * n ≤ length w) × Counted n (countsIn n w) × (1 ≤ n)
+      pub sizes-requires : Enough n w × Counted n (countsIn n w) × (1 ≤ n)
       sizes-requires = (words, counted-all b e c grid n w based-first all, laid-some)
 
-      pub planned : (t a : ℕ) → t ≡ ones (regionFlags n transit w) → a ≡ 4 * n + total (listSizes n (countsIn n w)) → Planned b e c grid n t a w
+      pub planned : (t a : ℕ) → t ≡ ones (regionFlags n transit w) → a ≡ startSize * n + total (listSizes n (countsIn n w)) → Planned b e c grid n t a w
       planned t a p q =
           let list = listIn b e c grid in
           record {

@@ -6,10 +6,11 @@ use mathlib.Core.List.{List, [], _∷_, map, map-map}
 use lib.ListN.{length, getD, length-append}
 use Rattle.model.specs.Lists.{concat, upTo}
 use Rattle.model.specs.Bytes.{Bytes}
+use Rattle.model.specs.Oracle.{startSize, listSize}
 use Rattle.theory.specs.RangeLaws.{rest, rest-all, rest-step, rest-end}
 use Rattle.theory.specs.Members.{range→}
-use Rattle.layout.specs.Regions.{countsIn}
-use Rattle.emit.specs.Parts.{Counted, listSize, listSizes, total}
+use Rattle.words.specs.Regions.{countsIn}
+use Rattle.emit.specs.Parts.{Counted, listSizes, total}
 use Rattle.emit.specs.PartLaws.{map-same}
 
 module _ (counts : List ℕ) (n : ℕ) where
@@ -29,10 +30,6 @@ module _ (counts : List ℕ) (n : ℕ) where
   unfolding total
   sum-end v h = rw (rest-end v n h)
 
-pub size-most : (k : ℕ) → k ≤ 4096 → listSize k ≤ 24578
-unfolding listSize
-size-most k h = omega arith
-
 -- ---- the lists that have these sizes
 length-concat : (ls : List Bytes) → length (concat ls) ≡ total (map length ls)
 unfolding concat total
@@ -50,5 +47,5 @@ module _ (n : ℕ) (work s : List ℕ) (p : s ≡ countsIn n work) where
   pub counted-part : Counted n (countsIn n work) → Counted n s
   counted-part c = rw p c
 
-  pub sized-part : (r : ℕ) → r ≡ total (listSizes n s) → 4 * n + r ≡ 4 * n + total (listSizes n (countsIn n work))
+  pub sized-part : (r : ℕ) → r ≡ total (listSizes n s) → startSize * n + r ≡ startSize * n + total (listSizes n (countsIn n work))
   sized-part r e = rw (e, p)

@@ -3,10 +3,12 @@ use Prim.Native.Nat.{ℕ, _+_, _-_, _*_}
 use mathlib.Core.Path.{_≡_}
 use mathlib.Core.List.{List, [], _∷_, _++_}
 use lib.ListN.{length, drop}
-use Rattle.model.specs.Bytes.{Bytes, bytes16}
-use Rattle.model.specs.Contents.{oracleEdition}
+use Rattle.model.specs.Bytes.{Bytes, numberSize}
+use Rattle.model.specs.Contents.{oracleEdition, networkHead, oracleHead}
 use Rattle.model.specs.Network.{distance}
-use Rattle.model.specs.Oracle.{tableBytes}
+use Rattle.model.specs.Grid.{divisionSize, divisionBytes}
+use Rattle.model.specs.Oracle.{tableBytes, valueSize}
+use Rattle.model.specs.declared.Division.{Division}
 use Rattle.grid.specs.declared.Grid.{Grid}
 use Rattle.access.specs.Networks.{networkIn}
 use Rattle.emit.specs.Parts.{headBytes, numbersBytes}
@@ -18,17 +20,27 @@ use Rattle.bodies.specs.Listed.{Based, Counts}
 
 -- Bodies 1 to 3 of these sizes, t transit nodes, and body 6 of the size a.
 unfoldable pub sizesIn : ℕ → ℕ → ℕ → ℕ → ℕ → List ℕ
-sizesIn nodes edges closed t a = nodes ∷ edges ∷ closed ∷ 2 ∷ (2 * t) ∷ a ∷ (4 * t * t) ∷ []
+sizesIn nodes edges closed t a = nodes ∷ edges ∷ closed ∷ divisionSize ∷ (numberSize * t) ∷ a ∷ (valueSize * t * t) ∷ []
 
--- The head of 2 + 9 × 7 bytes, the network of `size` bytes behind its own head of 2 + 9 × 3, and bodies 4 to 7.
+-- Where bodies 1 to 3 of a network of `size` bytes end in its oracle, whose head takes the place of the network's own; and where body 4 does.
+abbrev pub networkEnd : ℕ → ℕ
+networkEnd size = oracleHead + (size - networkHead)
+
+abbrev pub gridEnd : ℕ → ℕ
+gridEnd size = networkEnd size + divisionSize
+
+-- Bodies 5 to 7, and the whole oracle.
+abbrev pub backSize : ℕ → ℕ → ℕ
+backSize t a = numberSize * t + a + valueSize * t * t
+
 unfoldable pub wholeSize : ℕ → ℕ → ℕ → ℕ
-wholeSize size t a = 65 + (size - 29) + 2 + 2 * t + a + 4 * t * t
+wholeSize size t a = gridEnd size + backSize t a
 
 -- ---- bytes
 
 -- The head, bodies 1 to 3 as they stand in the network f, and body 4.
-unfoldable pub frontBytes : Bytes → ℕ → List ℕ → Bytes
-frontBytes f g sizes = headBytes oracleEdition sizes ++ drop 29 f ++ bytes16 g
+unfoldable pub frontBytes : Bytes → Division → List ℕ → Bytes
+frontBytes f dv sizes = headBytes oracleEdition sizes ++ drop networkHead f ++ divisionBytes dv
 
 -- Bodies 5 to 7.
 unfoldable pub backBytes : Bytes → Bytes → Bytes → Grid → ℕ → Bytes

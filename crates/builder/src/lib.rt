@@ -1,4 +1,4 @@
-// Building: the oracle of a network under a g, or why there is none.
+// Building: the oracle of a network under a division, or why there is none.
 pub mod calls;
 mod network;
 mod parts;

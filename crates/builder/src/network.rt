@@ -4,15 +4,21 @@ ghost use mathlib.Core.Bool.{false};
 ghost use Prim.Native.Nat.{_<_};
 ghost use Rattle.model.specs.Contents.{networkEdition, networkEntries, contentsBroken, bodiesBroken, body, nodeBody};
 ghost use Rattle.model.specs.Network.{nodeCount};
+ghost use Rattle.contents.specs.Reading.{HasBodies};
 use codec::records::NODE_SIZE;
+use contents::Contents;
 use contents::NETWORK_ENTRIES;
 use contents::body_of;
+use contents::read;
+use reader::oracle::NODES;
 
-pub const NODES: usize = 0;
-
-pub const EDGES: usize = 1;
-
-pub const CLOSED: usize = 2;
+// The contents as one record, for building, which takes all bodies.
+pub fn network_contents(f: &[u8]) -> Contents
+    requires { ⌜ (contentsBroken networkEdition networkEntries (now f) ≡ false) × (bodiesBroken networkEntries (now f) ≡ false) ⌝ }
+    ensures { λ r. ⌜ HasBodies networkEntries (now (f .entry)) r ⌝ }
+{
+    read(NETWORK_ENTRIES, f)
+}
 
 pub fn network_body(f: &[u8], k: usize) -> &[u8]
     requires { ⌜ (contentsBroken networkEdition networkEntries (now f) ≡ false) × (bodiesBroken networkEntries (now f) ≡ false) × (k < networkEntries) ⌝ }

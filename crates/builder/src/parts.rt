@@ -1,39 +1,44 @@
-// The parts of an oracle that need no search, each written at its place: the head, bodies 1 to 3, g, and the transit nodes.
+// The parts of an oracle that need no search, each written at its place: the head, bodies 1 to 4, and the transit nodes.
 ghost use mathlib.Core.Path.{_≡_};
 ghost use Prim.Native.Nat.{_+_, _*_, _<_, _≤_};
 ghost use lib.ListN.{length, drop};
-ghost use Rattle.model.specs.Bytes.{bytes16};
-ghost use Rattle.model.specs.Contents.{entryAt, oracleEdition, oracleEntries};
+ghost use Rattle.model.specs.Contents.{entryAt, oracleEdition, oracleEntries, networkHead, oracleHead};
+ghost use Rattle.model.specs.Bytes.{numberSize};
 ghost use Rattle.model.specs.Network.{maxNodes};
+ghost use Rattle.model.specs.Grid.{divisionSize, divisionBytes};
 ghost use Rattle.emit.specs.Parts.{headBytes, numbersBytes, total};
 ghost use Rattle.emit.specs.Records.{Wrote};
-ghost use Rattle.layout.specs.Regions.{transit};
+ghost use Rattle.words.specs.Regions.{transit};
 ghost use Rattle.passes.specs.Building.{membersIn};
-use crate::sizes::NETWORK_HEAD;
-use crate::sizes::ORACLE_HEAD;
+ghost use Rattle.words.specs.Frames.{Enough};
+ghost use Rattle.builder.specs.Plan.{networkEnd};
 use bitset::bits::set_words;
 use codec::bytes::write16;
+use codec::records::GRID_SIZE;
 use codec::records::NUMBER_SIZE;
+use contents::NETWORK_HEAD;
 use contents::ORACLE_EDITION;
 use contents::ORACLE_ENTRIES;
+use contents::ORACLE_HEAD;
 use emit::copy::copy;
 use emit::head::write_head;
 use emit::numbers::write_numbers;
-use layout::regions::TRANSIT;
-use layout::regions::region_at;
+use words::regions::TRANSIT;
+use words::regions::region_at;
+use model::Division;
 
 // The head, for bodies of these sizes.
 pub fn put_head(sizes: [u32; ORACLE_ENTRIES], out: &mut [u8])
-    requires { ⌜ (entryAt oracleEntries + total sizes < 4294967296) × (65 ≤ length (now out)) ⌝ }
-    ensures { λ _. ⌜ Wrote (now (out .entry)) 0 (headBytes oracleEdition sizes) 65 (now (out .exit)) ⌝ }
+    requires { ⌜ (entryAt oracleEntries + total sizes < 4294967296) × (oracleHead ≤ length (now out)) ⌝ }
+    ensures { λ _. ⌜ Wrote (now (out .entry)) 0 (headBytes oracleEdition sizes) oracleHead (now (out .exit)) ⌝ }
 {
     write_head(ORACLE_EDITION, sizes, &mut out[..ORACLE_HEAD]);
 }
 
 // Bodies 1 to 3: they stand one after the other to the end of the network. Answers where they end.
 pub fn put_network(network: &[u8], out: &mut [u8]) -> usize
-    requires { ⌜ (29 ≤ length (now network)) × (36 + length (now network) ≤ length (now out)) ⌝ }
-    ensures { λ r. ⌜ Wrote (now (out .entry)) 65 (drop 29 (now (network .entry))) r (now (out .exit)) ⌝ }
+    requires { ⌜ (networkHead ≤ length (now network)) × (networkEnd (length (now network)) ≤ length (now out)) ⌝ }
+    ensures { λ r. ⌜ Wrote (now (out .entry)) oracleHead (drop networkHead (now (network .entry))) r (now (out .exit)) ⌝ }
 {
     let end = ORACLE_HEAD + (network.len() - NETWORK_HEAD);
     copy(&network[NETWORK_HEAD..], &mut out[ORACLE_HEAD..end]);
@@ -41,17 +46,17 @@ pub fn put_network(network: &[u8], out: &mut [u8]) -> usize
 }
 
 // Body 4.
-pub fn put_grid(g: u32, out: &mut [u8], at: usize) -> usize
-    requires { ⌜ at + 2 ≤ length (now out) ⌝ }
-    ensures { λ r. ⌜ Wrote (now (out .entry)) at (bytes16 g) r (now (out .exit)) ⌝ }
+pub fn put_grid(dv: Division, out: &mut [u8], at: usize) -> usize
+    requires { ⌜ at + divisionSize ≤ length (now out) ⌝ }
+    ensures { λ r. ⌜ Wrote (now (out .entry)) at (divisionBytes dv) r (now (out .exit)) ⌝ }
 {
-    write16(out, at, g);
-    at + NUMBER_SIZE
+    write16(out, at, dv.g);
+    at + GRID_SIZE
 }
 
 // Body 5, for t transit nodes.
 pub fn put_transit(n: usize, t: usize, work: &[u32], out: &mut [u8], at: usize) -> usize
-    requires { ⌜ (n ≤ maxNodes) × (8 * n ≤ length (now work)) × (t ≡ length (membersIn n transit (now work))) × (at + 2 * t ≤ length (now out)) × (1 ≤ n) ⌝ }
+    requires { ⌜ (n ≤ maxNodes) × Enough n (now work) × (t ≡ length (membersIn n transit (now work))) × (at + numberSize * t ≤ length (now out)) × (1 ≤ n) ⌝ }
     ensures { λ r. ⌜ Wrote (now (out .entry)) at (numbersBytes (membersIn n transit (now (work .entry)))) r (now (out .exit)) ⌝ }
 {
     let a = region_at(n, TRANSIT);

@@ -2,34 +2,33 @@
 ghost use mathlib.Core.Path.{_≡_};
 ghost use Prim.Native.Nat.{_+_, _*_, _<_, _≤_};
 ghost use lib.ListN.{length};
-ghost use Rattle.layout.specs.Regions.{countsIn};
+ghost use Rattle.words.specs.Regions.{countsIn};
+ghost use Rattle.model.specs.Contents.{networkHead};
+ghost use Rattle.model.specs.Network.{maxNodes};
+ghost use Rattle.model.specs.Oracle.{startSize, listSize};
 ghost use Rattle.emit.specs.Parts.{Counted, listSizes, total};
+ghost use Rattle.words.specs.Frames.{Enough};
 ghost use Rattle.builder.specs.Plan.{sizesIn, wholeSize};
+use codec::lists::list_size;
+use codec::records::GRID_SIZE;
 use codec::records::NUMBER_SIZE;
 use codec::records::START_SIZE;
 use codec::records::VALUE_SIZE;
-use contents::ENTRY_SIZE;
-use contents::HEAD_SIZE;
-use contents::NETWORK_ENTRIES;
+use contents::NETWORK_HEAD;
 use contents::ORACLE_ENTRIES;
-use emit::starts::list_size;
-use layout::regions::COUNTS;
-use layout::regions::region_at;
-
-// Where the first body of a network stands, and that of an oracle.
-pub const NETWORK_HEAD: usize = HEAD_SIZE + ENTRY_SIZE * NETWORK_ENTRIES;
-
-pub const ORACLE_HEAD: usize = HEAD_SIZE + ENTRY_SIZE * ORACLE_ENTRIES;
+use words::regions::COUNTS;
+use words::regions::region_at;
+use contents::ORACLE_HEAD;
 
 // The size of n lists with these numbers of entries.
 fn lists_size(counts: &[u32], n: usize) -> usize
     requires { ⌜ Counted n (now counts) ⌝ }
-    ensures { λ r. ⌜ (r ≡ total (listSizes n (now (counts .entry)))) × (r ≤ 24578 * n) ⌝ }
+    ensures { λ r. ⌜ (r ≡ total (listSizes n (now (counts .entry)))) × (r ≤ listSize maxNodes * n) ⌝ }
 {
     let mut sum = 0;
     let mut v = 0;
     while v < n {
-        sum += list_size(counts, v);
+        sum += list_size(counts[v] as usize);
         v += 1;
     }
     sum
@@ -37,8 +36,8 @@ fn lists_size(counts: &[u32], n: usize) -> usize
 
 // The size of body 6, its starts included.
 pub fn access_size(n: usize, work: &[u32]) -> usize
-    requires { ⌜ (8 * n ≤ length (now work)) × Counted n (countsIn n (now work)) × (1 ≤ n) ⌝ }
-    ensures { λ r. ⌜ r ≡ 4 * n + total (listSizes n (countsIn n (now (work .entry)))) ⌝ }
+    requires { ⌜ Enough n (now work) × Counted n (countsIn n (now work)) × (1 ≤ n) ⌝ }
+    ensures { λ r. ⌜ r ≡ startSize * n + total (listSizes n (countsIn n (now (work .entry)))) ⌝ }
 {
     let a = region_at(n, COUNTS);
     let e = a + n;
@@ -48,10 +47,10 @@ pub fn access_size(n: usize, work: &[u32]) -> usize
 
 // The size of the oracle of a network of `size` bytes, with t transit nodes and this size of body 6.
 pub fn whole_size(size: usize, t: usize, access: usize) -> usize
-    requires { ⌜ (29 ≤ size) × (wholeSize size t access < 4294967296) ⌝ }
+    requires { ⌜ (networkHead ≤ size) × (wholeSize size t access < 4294967296) ⌝ }
     ensures { λ r. ⌜ r ≡ wholeSize size t access ⌝ }
 {
-    let front = ORACLE_HEAD + (size - NETWORK_HEAD) + NUMBER_SIZE;
+    let front = ORACLE_HEAD + (size - NETWORK_HEAD) + GRID_SIZE;
     front + NUMBER_SIZE * t + access + VALUE_SIZE * t * t
 }
 
@@ -70,7 +69,7 @@ pub fn head_sizes(
         nodes as u32,
         edges as u32,
         closed as u32,
-        NUMBER_SIZE as u32,
+        GRID_SIZE as u32,
         (NUMBER_SIZE * t) as u32,
         access as u32,
         (VALUE_SIZE * t * t) as u32,

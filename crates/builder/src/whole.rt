@@ -3,18 +3,20 @@ ghost use mathlib.Core.Path.{_≡_};
 ghost use mathlib.Core.List.{_++_};
 ghost use Prim.Native.Nat.{_+_, _*_, _<_, _≤_};
 ghost use lib.ListN.{length, drop};
-ghost use Rattle.model.specs.Contents.{entryAt, oracleEntries};
+ghost use Rattle.model.specs.Contents.{entryAt, networkHead, oracleEntries};
 ghost use Rattle.model.specs.Lists.{concatMap};
 ghost use Rattle.model.specs.Network.{maxNodes};
+ghost use Rattle.model.specs.Oracle.{valueSize};
 ghost use Rattle.index.specs.Index.{Roads};
 ghost use Rattle.emit.specs.Parts.{total};
 ghost use Rattle.emit.specs.Records.{Wrote};
-ghost use Rattle.layout.specs.Regions.{regionAt, transit};
+ghost use Rattle.words.specs.Regions.{regionAt, transit, searchWords};
 ghost use Rattle.passes.specs.Building.{listIn, membersIn};
 ghost use Rattle.passes.specs.Placed.{whole};
 ghost use Rattle.bodies.specs.Listed.{Based, Counts};
 ghost use Rattle.bodies.specs.Rows.{rowIn};
-ghost use Rattle.builder.specs.Plan.{sizesIn, wholeSize, frontBytes, backBytes, Planned};
+ghost use Rattle.words.specs.Frames.{Enough, KeptFrom};
+ghost use Rattle.builder.specs.Plan.{gridEnd, backSize, sizesIn, wholeSize, frontBytes, backBytes, Planned};
 use crate::parts::put_grid;
 use crate::parts::put_head;
 use crate::parts::put_network;
@@ -25,15 +27,16 @@ use bodies::table::put_table;
 use codec::records::VALUE_SIZE;
 use contents::ORACLE_ENTRIES;
 use grid::Grid;
+use model::Division;
 
 // The head, bodies 1 to 3 and body 4. Answers where they end.
-fn put_front(network: &[u8], g: u32, sizes: [u32; ORACLE_ENTRIES], out: &mut [u8]) -> usize
-    requires { ⌜ (29 ≤ length (now network)) × (38 + length (now network) ≤ length (now out)) × (entryAt oracleEntries + total sizes < 4294967296) ⌝ }
-    ensures { λ r. ⌜ Wrote (now (out .entry)) 0 (frontBytes (now (network .entry)) g sizes) r (now (out .exit)) ⌝ }
+fn put_front(network: &[u8], dv: Division, sizes: [u32; ORACLE_ENTRIES], out: &mut [u8]) -> usize
+    requires { ⌜ (networkHead ≤ length (now network)) × (gridEnd (length (now network)) ≤ length (now out)) × (entryAt oracleEntries + total sizes < 4294967296) ⌝ }
+    ensures { λ r. ⌜ Wrote (now (out .entry)) 0 (frontBytes (now (network .entry)) dv sizes) r (now (out .exit)) ⌝ }
 {
     put_head(sizes, out);
     let at = put_network(network, out);
-    put_grid(g, out, at)
+    put_grid(dv, out, at)
 }
 
 // Body 6, of the size a.
@@ -51,7 +54,7 @@ fn access_part(
     requires { ⌜ Based (now nodes) (now edges) (now closed) grid n (now work) × Counts (now nodes) (now edges) (now closed) grid n (now work) ⌝ }
     requires { ⌜ (a ≡ length (whole n (listIn (now nodes) (now edges) (now closed) grid))) × (a < 4294967296) × (at + a ≤ length (now out)) ⌝ }
     ensures bytes { λ r. ⌜ Wrote (now (out .entry)) at (whole n (listIn (now (nodes .entry)) (now (edges .entry)) (now (closed .entry)) grid)) r (now (out .exit)) ⌝ }
-    ensures others { λ _. ⌜ drop (regionAt n transit) (now (work .exit)) ≡ drop (regionAt n transit) (now (work .entry)) ⌝ }
+    ensures others { λ _. ⌜ KeptFrom (regionAt n transit) (now (work .entry)) (now (work .exit)) ⌝ }
 {
     let end = at + a;
     put_access(nodes, edges, closed, grid, n, work, &mut out[at..end]);
@@ -68,10 +71,10 @@ fn table_part(
     out: &mut [u8],
     at: usize,
 ) -> usize
-    requires { ⌜ (n ≤ maxNodes) × (8 * n ≤ length (now work)) × (t ≡ length (membersIn n transit (now work))) × (at + 4 * t * t ≤ length (now out)) × (t ≤ maxNodes) ⌝ }
+    requires { ⌜ (n ≤ maxNodes) × Enough n (now work) × (t ≡ length (membersIn n transit (now work))) × (at + valueSize * t * t ≤ length (now out)) × (t ≤ maxNodes) ⌝ }
     requires { ⌜ Roads (now edges) (now closed) n (now work) ⌝ }
     ensures bytes { λ r. ⌜ Wrote (now (out .entry)) at (concatMap (rowIn (now (edges .entry)) (now (closed .entry)) n (membersIn n transit (now (work .entry)))) (membersIn n transit (now (work .entry)))) r (now (out .exit)) ⌝ }
-    ensures others { λ _. ⌜ drop (3 * n) (now (work .exit)) ≡ drop (3 * n) (now (work .entry)) ⌝ }
+    ensures others { λ _. ⌜ KeptFrom (searchWords n) (now (work .entry)) (now (work .exit)) ⌝ }
 {
     let end = at + VALUE_SIZE * t * t;
     put_table(edges, closed, n, t, work, &mut out[at..end]);
@@ -91,9 +94,9 @@ fn put_back(
     out: &mut [u8],
     at: usize,
 ) -> usize
-    requires { ⌜ Planned (now nodes) (now edges) (now closed) grid n t a (now work) × (at + 2 * t + a + 4 * t * t ≤ length (now out)) × (a < 4294967296) ⌝ }
+    requires { ⌜ Planned (now nodes) (now edges) (now closed) grid n t a (now work) × (at + backSize t a ≤ length (now out)) × (a < 4294967296) ⌝ }
     ensures bytes { λ r. ⌜ Wrote (now (out .entry)) at (backBytes (now (nodes .entry)) (now (edges .entry)) (now (closed .entry)) grid n) r (now (out .exit)) ⌝ }
-    ensures others { λ _. ⌜ drop (regionAt n transit) (now (work .exit)) ≡ drop (regionAt n transit) (now (work .entry)) ⌝ }
+    ensures others { λ _. ⌜ KeptFrom (regionAt n transit) (now (work .entry)) (now (work .exit)) ⌝ }
 {
     let lists = put_transit(n, t, work, out, at);
     let table = access_part(nodes, edges, closed, grid, n, a, work, out, lists);
@@ -107,19 +110,19 @@ pub fn write_oracle(
     edges: &[u8],
     closed: &[u8],
     grid: Grid,
-    g: u32,
+    dv: Division,
     n: usize,
     t: usize,
     a: usize,
     work: &mut [u32],
     out: &mut [u8],
 ) -> usize
-    requires { ⌜ Planned (now nodes) (now edges) (now closed) grid n t a (now work) × (29 + length (now nodes) + length (now edges) + length (now closed) ≡ length (now network)) ⌝ }
+    requires { ⌜ Planned (now nodes) (now edges) (now closed) grid n t a (now work) × (networkHead + length (now nodes) + length (now edges) + length (now closed) ≡ length (now network)) ⌝ }
     requires { ⌜ (wholeSize (length (now network)) t a ≤ length (now out)) × (wholeSize (length (now network)) t a < 4294967296) ⌝ }
-    ensures bytes { λ r. ⌜ Wrote (now (out .entry)) 0 (frontBytes (now (network .entry)) g (sizesIn (length (now (nodes .entry))) (length (now (edges .entry))) (length (now (closed .entry))) t a) ++ backBytes (now (nodes .entry)) (now (edges .entry)) (now (closed .entry)) grid n) r (now (out .exit)) ⌝ }
-    ensures others { λ _. ⌜ drop (regionAt n transit) (now (work .exit)) ≡ drop (regionAt n transit) (now (work .entry)) ⌝ }
+    ensures bytes { λ r. ⌜ Wrote (now (out .entry)) 0 (frontBytes (now (network .entry)) dv (sizesIn (length (now (nodes .entry))) (length (now (edges .entry))) (length (now (closed .entry))) t a) ++ backBytes (now (nodes .entry)) (now (edges .entry)) (now (closed .entry)) grid n) r (now (out .exit)) ⌝ }
+    ensures others { λ _. ⌜ KeptFrom (regionAt n transit) (now (work .entry)) (now (work .exit)) ⌝ }
 {
     let sizes = head_sizes(nodes.len(), edges.len(), closed.len(), t, a);
-    let at = put_front(network, g, sizes, out);
+    let at = put_front(network, dv, sizes, out);
     put_back(nodes, edges, closed, grid, n, t, a, work, out, at)
 }

@@ -1,27 +1,22 @@
 -- Where a list stands in a well-shaped oracle. Assumes nothing.
-use Prim.Native.Nat.{ℕ, _+_, _*_, _≤_, _<_}
-use native.Mathlib.Nat.{zero-add}
+use Prim.Native.Nat.{ℕ, _+_, _≤_, _<_}
 use native.Mathlib.Omega.{arith}
 use mathlib.Core.Path.{_≡_, _∙_, ap}
-use mathlib.Core.Bool.{not}
-use mathlib.Core.List.{map}
-use lib.ListN.{length, getD, drop, length-map, length-drop}
+use lib.ListN.{length, drop, length-drop}
 use lib.Seq.{length-take-le}
 use borrow.Author.Tests.{ne-eqb}
-use Rattle.model.specs.Lists.{any, gapless, upTo}
 use Rattle.model.specs.Bytes.{Bytes, word32, cut}
-use Rattle.model.specs.Contents.{nodeBody, transitBody, accessBody, entryAt, entry, bodyPart, oracleEdition, oracleEntries}
+use Rattle.model.specs.Contents.{nodeBody, transitBody, accessBody, entryAt, entry, bodyPart, oracleEdition, oracleEntries, oracleHead}
 use Rattle.model.specs.Network.{nodeCount}
-use Rattle.model.specs.Oracle.{startSize, listStart, listPart, listBroken, accessBroken, transitCount}
+use Rattle.model.specs.Oracle.{listStart, listPart, transitCount}
 use Rattle.model.specs.Query.{listPlace}
-use Rattle.theory.specs.Passed.{Shaped, or-false, not-false}
-use Rattle.theory.specs.Joined.{whole-contents, gapless-within}
-use Rattle.theory.specs.RangeLaws.{length-range, getD-map-range}
+use Rattle.theory.specs.Passed.{Shaped}
+use Rattle.theory.specs.Joined.{whole-contents, list-within}
 use Rattle.capi.specs.Replies.{placed, listPlaced}
 use Rattle.capi.specs.declared.oracles.Part as crossing
 
 module _ (o : Bytes) (shaped : Shaped o) where
-  pub long : 65 ≤ length o
+  pub long : oracleHead ≤ length o
   unfolding entryAt
   long = whole-contents oracleEdition oracleEntries o (shaped .contents)
 
@@ -32,15 +27,9 @@ module _ (o : Bytes) (shaped : Shaped o) where
     abbrev n : ℕ
     n = nodeCount (nodeBody o)
 
-    part-at : getD (map (listPart b) (upTo n)) u (record { start = 0; size = 0 }) ≡ listPart b u
-    part-at = getD-map-range (listPart b) (record { start = 0; size = 0 }) 0 n u h ∙ rw zero-add
-
     within : listPart b u .start + listPart b u .size ≤ length b
-    unfolding accessBroken
-    within =
-        let g = not-false (or-false (not (gapless (startSize * n) (map (listPart b) (upTo n)) (length b))) (any (listBroken (transitCount (transitBody o)) b) (upTo n)) (shaped .access) .0) in
-        let w = gapless-within (startSize * n) (length b) (map (listPart b) (upTo n)) u (record { start = 0; size = 0 }) g (rw (length-map (upTo n) (listPart b), length-range 0 n) h) in
-        rw part-at at w
+    unfolding listPart
+    within = list-within n (transitCount (transitBody o)) b u (shaped .access) h
 
     -- `a` is the access body as it was lent, and `start` the start read in it.
     module _ (a : Bytes) (is : a ≡ b) (start : ℕ) (read : start ≡ listStart a u) where

@@ -3,12 +3,13 @@ ghost use Rattle.model.specs.Calls.{Build, Audit};
 use auditor::calls::audit;
 use builder::calls::build;
 use model::Built;
+use model::Division;
 
 #[no_mangle]
 pub extern "C" fn jukesogbi_build(network: &[u8], g: u32, work: &mut [u32], out: &mut [u8]) -> Built
-    ensures { λ r. ⌜ Build (now (network .entry)) g (now (work .entry)) (now (out .entry)) r (now (work .exit)) (now (out .exit)) ⌝ }
+    ensures { λ r. ⌜ Build (now (network .entry)) (record { g = g }) (now (work .entry)) (now (out .entry)) r (now (work .exit)) (now (out .exit)) ⌝ }
 {
-    build(network, g, work, out)
+    build(network, Division { g }, work, out)
 }
 
 #[no_mangle]

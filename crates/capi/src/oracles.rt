@@ -12,6 +12,7 @@ use block::Block;
 use block::calls as blocks;
 use codec::bytes::read32;
 use codec::records::NO_WALK;
+use contents::OFFSET_AT;
 use contents::entry_at;
 use model::Answer;
 use model::Kind;
@@ -106,7 +107,7 @@ fn list_place(o: &[u8], u: usize) -> Part
 {
     let access = oracle_body(o, ACCESS);
     let size = list_part(access, u).len();
-    let start = read32(o, entry_at(ACCESS) + 1) as usize + list_start(access, u);
+    let start = read32(o, entry_at(ACCESS) + OFFSET_AT) as usize + list_start(access, u);
     Part { start, size }
 }
 

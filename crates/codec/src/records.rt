@@ -2,16 +2,30 @@
 ghost use mathlib.Core.Path.{_≡_};
 ghost use Prim.Native.Nat.{_+_, _*_, _<_, _≤_};
 ghost use lib.ListN.{length};
-ghost use Rattle.model.specs.Bytes.{word16};
+ghost use Rattle.model.specs.Bytes.{word16, numberSize};
 ghost use Rattle.model.specs.Network.{coordinate, node, nodeSize, edge, edgeSize};
 use crate::bytes::read16;
 use crate::bytes::read32;
 
-pub const NODE_SIZE: usize = 8;
+// A node: "x and y", each a number of 32 bits.
+const COORDINATE_SIZE: usize = 4;
 
-pub const EDGE_SIZE: usize = 8;
+pub const NODE_SIZE: usize = COORDINATE_SIZE + COORDINATE_SIZE;
 
+// An edge: "two 16-bit ends and 32-bit seconds".
+const END_SIZE: usize = 2;
+
+const SECONDS_SIZE: usize = 4;
+
+const SECONDS_AT: usize = END_SIZE + END_SIZE;
+
+pub const EDGE_SIZE: usize = SECONDS_AT + SECONDS_SIZE;
+
+// A number of a list of them: an edge in body 3, a node in body 5.
 pub const NUMBER_SIZE: usize = 2;
+
+// Body 4, which is g.
+pub const GRID_SIZE: usize = 2;
 
 // A distance in the lists and in the table: its size, the value that means 'no walk', and the greatest of the others.
 pub const VALUE_SIZE: usize = 4;
@@ -20,7 +34,7 @@ pub const NO_WALK: u32 = 4294967295;
 
 pub const MAX_VALUE: u32 = 409500000;
 
-// Where a list starts, its count, and an entry of it: an index and a distance.
+// Where a list starts, its count, and an entry of it: an index into body 5 and a distance.
 pub const START_SIZE: usize = 4;
 
 pub const COUNT_SIZE: usize = 2;
@@ -48,7 +62,7 @@ pub fn node_y(b: &[u8], i: usize) -> u32
     requires { ⌜ nodeSize * i + nodeSize ≤ length (now b) ⌝ }
     ensures { λ r. ⌜ r ≡ node (now (b .entry)) i .y ⌝ }
 {
-    shifted(read32(b, NODE_SIZE * i + 4))
+    shifted(read32(b, NODE_SIZE * i + COORDINATE_SIZE))
 }
 
 pub fn edge_first(b: &[u8], i: usize) -> usize
@@ -62,20 +76,20 @@ pub fn edge_second(b: &[u8], i: usize) -> usize
     requires { ⌜ edgeSize * i + edgeSize ≤ length (now b) ⌝ }
     ensures { λ r. ⌜ (r ≡ edge (now (b .entry)) i .second) × (r < 65536) ⌝ }
 {
-    read16(b, EDGE_SIZE * i + 2) as usize
+    read16(b, EDGE_SIZE * i + END_SIZE) as usize
 }
 
 pub fn edge_seconds(b: &[u8], i: usize) -> u32
     requires { ⌜ edgeSize * i + edgeSize ≤ length (now b) ⌝ }
     ensures { λ r. ⌜ r ≡ edge (now (b .entry)) i .seconds ⌝ }
 {
-    read32(b, EDGE_SIZE * i + 4)
+    read32(b, EDGE_SIZE * i + SECONDS_AT)
 }
 
 // Number i of a list of 16-bit numbers.
 pub fn number(b: &[u8], i: usize) -> usize
-    requires { ⌜ 2 * i + 2 ≤ length (now b) ⌝ }
-    ensures { λ r. ⌜ (r ≡ word16 (now (b .entry)) (2 * i)) × (r < 65536) ⌝ }
+    requires { ⌜ numberSize * i + numberSize ≤ length (now b) ⌝ }
+    ensures { λ r. ⌜ (r ≡ word16 (now (b .entry)) (numberSize * i)) × (r < 65536) ⌝ }
 {
     read16(b, NUMBER_SIZE * i) as usize
 }

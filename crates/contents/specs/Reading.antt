@@ -50,3 +50,7 @@ pub record HasBody (f : Bytes) (c : Contents) (k : ℕ) : Type 0 where
   pub below : k < entries
   pub read : c ≡ contentsOf entries f
   pub joined : bodiesBroken entries f ≡ false
+
+-- It has every body of a file with this number of entries.
+abbrev pub HasBodies : ℕ → Bytes → Contents → Type 0
+HasBodies entries f c = (k : ℕ) → k < entries → HasBody f c k

@@ -16,12 +16,28 @@ pub const ORACLE_EDITION: u32 = 1;
 
 pub const ORACLE_ENTRIES: usize = 7;
 
-// The edition and the number of entries stand before the entries.
-pub const HEAD_SIZE: usize = 2;
-
-pub const ENTRY_SIZE: usize = 9;
+// The entries stand behind the edition and their number, a byte each.
+const ENTRIES_AT: usize = 2;
 
 // "Kind (1 byte), offset from the file's start (4), length (4)."
+const KIND_SIZE: usize = 1;
+
+const OFFSET_SIZE: usize = 4;
+
+const LENGTH_SIZE: usize = 4;
+
+pub const OFFSET_AT: usize = KIND_SIZE;
+
+pub const SIZE_AT: usize = OFFSET_AT + OFFSET_SIZE;
+
+const ENTRY_SIZE: usize = SIZE_AT + LENGTH_SIZE;
+
+// Where the first body of a network stands, and that of an oracle.
+pub const NETWORK_HEAD: usize = ENTRIES_AT + ENTRY_SIZE * NETWORK_ENTRIES;
+
+pub const ORACLE_HEAD: usize = ENTRIES_AT + ENTRY_SIZE * ORACLE_ENTRIES;
+
+// An entry of the contents.
 pub struct Entry {
     pub kind: u8,
     pub offset: u32,
@@ -40,7 +56,7 @@ pub fn entry_at(k: usize) -> usize
     requires { ⌜ k ≤ oracleEntries ⌝ }
     ensures { λ r. ⌜ r ≡ entryAt k ⌝ }
 {
-    HEAD_SIZE + ENTRY_SIZE * k
+    ENTRIES_AT + ENTRY_SIZE * k
 }
 
 fn read_entry(f: &[u8], k: usize) -> Entry
@@ -48,8 +64,8 @@ fn read_entry(f: &[u8], k: usize) -> Entry
     ensures { λ r. ⌜ r ≡ held (now (f .entry)) k ⌝ }
 {
     let at = entry_at(k);
-    let offset = read32(f, at + 1);
-    let size = read32(f, at + 5);
+    let offset = read32(f, at + OFFSET_AT);
+    let size = read32(f, at + SIZE_AT);
     Entry {
         kind: f[at],
         offset,
@@ -62,7 +78,7 @@ pub fn contents_broken(edition: u32, entries: usize, f: &[u8]) -> bool
     requires { ⌜ entries ≤ oracleEntries ⌝ }
     ensures { λ r. ⌜ r ≡ contentsBroken edition entries (now (f .entry)) ⌝ }
 {
-    if f.len() < HEAD_SIZE {
+    if f.len() < ENTRIES_AT {
         return true;
     }
     if byte(f, 0) != edition {

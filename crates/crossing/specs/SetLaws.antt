@@ -5,17 +5,18 @@ use native.Mathlib.Decide.{decLt}
 use native.Mathlib.Omega.{arith}
 use mathlib.Core.Path.{_≡_, refl, sym, _∙_, ap}
 use mathlib.Core.Logic.{_↔_}
-use mathlib.Core.Bool.{Bool, true, false, _&&_, _||_, cond, or-assoc, and-true}
-use mathlib.Core.List.{List, [], _∷_, _++_, map, zipWith}
-use lib.Dec.{eqb}
+use mathlib.Core.Bool.{Bool, true, false, _&&_, _||_, cond, and-true}
+use mathlib.Core.List.{List, [], _∷_, map, zipWith}
 use lib.ListN.{length, getD, replicate, length-map, length-replicate, getD-replicate, List·getD-eq-default}
 use lib.Seq.{ext-getD}
 use Rattle.model.specs.Lists.{upTo, filter, member}
 use Rattle.theory.specs.Tests.{and, same-test}
 use Rattle.theory.specs.Tests as tests
-use Rattle.theory.specs.Members.{filter→, →filter, length-filter, member→, →member, →upTo}
+use Rattle.theory.specs.Members.{filter→, →filter, member→, →member, →upTo}
 use Rattle.theory.specs.RangeLaws.{length-range, getD-map-range}
 use Rattle.bitset.specs.Bits.{isIn, flag, flags}
+use Rattle.bitset.specs.Members.{membersOf}
+use Rattle.bitset.proofs.Ranks.{members-most}
 use Rattle.crossing.specs.Sets.{testFlags, memberFlags, either, both, ones}
 
 -- The flags of the bits of words are those of the test whether a bit is set.
@@ -88,7 +89,7 @@ module _ (n : ℕ) (s a b : List ℕ) where
   pub flags-both : ((v : ℕ) → v < n → isIn s v ≡ isIn a v && isIn b v) → flags n s ≡ both (flags n a) (flags n b)
   flags-both h = rw (flags-test n s, flags-test n a, flags-test n b, both-test (isIn a) (isIn b) n) (test-flags-same _ _ n h)
 
--- How many pass a test.
+-- How many pass a test, and so the members: the ones among the flags of words are as many.
 ones-map : (p : ℕ → Bool) (l : List ℕ) → ones (map (λ v. cond (p v) 1 0) l) ≡ length (filter p l)
 unfolding ones filter
 ones-map p [] = refl
@@ -98,19 +99,14 @@ ones-map p (v ∷ l) = step (p v) (ones-map p l)
     step true e = ap suc e
     step false e = e
 
-pub ones-test : (p : ℕ → Bool) (n : ℕ) → ones (testFlags p n) ≡ length (filter p (upTo n))
-unfolding testFlags
-ones-test p n = ones-map p (upTo n)
+pub ones-members : (n : ℕ) (s : List ℕ) → ones (flags n s) ≡ length (membersOf n s)
+unfolding membersOf testFlags
+ones-members n s = ap ones (flags-test n s) ∙ ones-map (isIn s) (upTo n)
 
 pub ones-most : (n : ℕ) (s : List ℕ) → ones (flags n s) ≤ n
-ones-most n s = omega (arith, ap ones (flags-test n s), ones-test (isIn s) n, length-filter (isIn s) (upTo n), length-range 0 n)
+ones-most n s = omega (arith, ones-members n s, members-most s n)
 
 -- ---- the members of lists
-
-pub member-append : (v : ℕ) (l m : List ℕ) → member v (l ++ m) ≡ member v l || member v m
-unfolding member
-member-append v [] m = refl
-member-append v (x ∷ l) m = rw (member-append v l m) (sym (or-assoc (eqb v x) (member v l) (member v m)))
 
 pub member-filter : (p : ℕ → Bool) (l : List ℕ) (v : ℕ) → member v (filter p l) ≡ p v && member v l
 member-filter p l v = same-test
@@ -122,10 +118,6 @@ module _ (n : ℕ) where
   unfolding memberFlags member
   no-members = ext-getD 0 (testFlags (λ v. false) n) (replicate n 0) (length-test-flags (λ v. false) n ∙ sym (length-replicate n 0))
       (λ v l. let k : v < n = omega (arith, length-test-flags (λ v. false) n) in test-flag-at (λ v. false) n v k ∙ sym (getD-replicate {A = ℕ} n v 0 0 k))
-
-  pub either-members : (l m : List ℕ) → either (memberFlags n l) (memberFlags n m) ≡ memberFlags n (l ++ m)
-  unfolding memberFlags
-  either-members l m = either-test (λ v. member v l) (λ v. member v m) n ∙ test-flags-same _ _ n (λ v k. sym (member-append v l m))
 
   -- Those of the numbers below n that pass a test: as a list, and how many.
   pub filter-flags : (p : ℕ → Bool) → memberFlags n (filter p (upTo n)) ≡ testFlags p n

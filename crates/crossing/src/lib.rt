@@ -1,4 +1,3 @@
-// The crossing nodes of a square, and sets of nodes as flags.
+// The crossing nodes of a square, and the nodes of a cell.
 pub mod cells;
-pub mod sets;
 pub mod square;

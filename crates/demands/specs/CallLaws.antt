@@ -15,18 +15,19 @@ use Rattle.model.specs.Bytes.{Bytes}
 use Rattle.model.specs.Grid.{Cell}
 use Rattle.model.specs.Network.{network, order, distance}
 use Rattle.model.specs.Access.{accessNodes, transitNodes}
-use Rattle.model.specs.Distance.{Distance, unreachable, finite}
 use Rattle.model.specs.Oracle.{oracle, transitOf}
-use Rattle.model.specs.Query.{ruleOf, answer, kindBetween, answerOf, timeAnswer, farAnswer, localAnswer}
+use Rattle.model.specs.Query.{ruleOf, kindBetween, answerOf, timeAnswer, farAnswer, localAnswer}
 use Rattle.model.specs.Rules.{Rule, rule, firstBroken, acceptRules, buildRules, accepted, wordsNeeded, workTooSmall, outputTooSmall, networkRules}
 use Rattle.model.specs.Calls.{clears, cleared, workAfter, outputAfter, answerAfter, buildRefusal, builtAfter, routeAfter}
+use Rattle.model.specs.declared.Division.{Division}
 use Rattle.model.specs.declared.Kind.{Kind}
 use Rattle.model.specs.declared.Kind.the-variants.{Far, Local}
 use Rattle.model.specs.declared.Answer.the-variants.{Refused}
 use Rattle.model.specs.declared.Built.{Built}
 use Rattle.model.specs.declared.Route.{Route}
 use Rattle.theory.specs.Members.{filter→, →filter, any→, →any, map→, →map, member→, →member, →upTo, range→}
-use Rattle.theory.specs.Built.{cells-of, count-cells}
+use Rattle.theory.specs.Built.{grid-of, cells-of, count-cells}
+use Rattle.theory.specs.Given.{rule-of}
 use Rattle.theory.specs.Firsts.{counted, first-append, first-stays, goes, none}
 use Rattle.demands.specs.Outcomes.{FirstOf, Refuses}
 use Rattle.demands.specs.Outcomes as outcomes
@@ -76,30 +77,25 @@ after {A} k number x y p q = step (eqb k 0) refl
     step true e = p ∙ sym (eqb-true k 0 e)
     step false e = q
 
-pub built-rule : (k : ℕ) (f : Bytes) (g : ℕ) → builtAfter k f g .rule ≡ k
+pub built-rule : (k : ℕ) (f : Bytes) (dv : Division) → builtAfter k f dv .rule ≡ k
 unfolding builtAfter
-built-rule k f g = after k (λ (b : Built). b .rule) (record { rule = 0; size = length (oracle f g); transit = length (transitOf f g) }) (record { rule = k; size = 0; transit = 0 }) refl refl
+built-rule k f dv = after k (λ (b : Built). b .rule) (record { rule = 0; size = length (oracle f dv); transit = length (transitOf f dv) }) (record { rule = k; size = 0; transit = 0 }) refl refl
 
 pub route-rule : (k : ℕ) (nodes : List ℕ) → routeAfter k nodes .rule ≡ k
 unfolding routeAfter
 route-rule k nodes = after k (λ (r : Route). r .rule) (record { rule = 0; nodes = length nodes }) (record { rule = k; nodes = 0 }) refl refl
-
-no-refusal : (kind : Kind) (pairs : ℕ) (d : Distance) → ruleOf (answer kind pairs d) ≡ 0
-unfolding ruleOf answer
-no-refusal kind pairs unreachable = refl
-no-refusal kind pairs (finite n) = refl
 
 pub time-rule : (k : ℕ) (o : Bytes) (s t : ℕ) → ruleOf (answerAfter k (timeAnswer o s t)) ≡ k
 unfolding answerAfter timeAnswer
 time-rule k o s t = after k ruleOf (answerOf (kindBetween o s t) o s t) (Refused k) (by-kind (kindBetween o s t)) (unfold ruleOf in refl)
   where
     by-kind : (kind : Kind) → ruleOf (answerOf kind o s t) ≡ 0
-    by-kind Far = unfold answerOf farAnswer in no-refusal Far _ _
-    by-kind Local = unfold answerOf localAnswer in no-refusal Local _ _
+    by-kind Far = unfold answerOf farAnswer in rule-of Far _ _
+    by-kind Local = unfold answerOf localAnswer in rule-of Local _ _
 
 pub far-rule : (k : ℕ) (o : Bytes) (s t : ℕ) → ruleOf (answerAfter k (farAnswer o s t)) ≡ k
 unfolding answerAfter
-far-rule k o s t = after k ruleOf (farAnswer o s t) (Refused k) (unfold farAnswer in no-refusal Far _ _) (unfold ruleOf in refl)
+far-rule k o s t = after k ruleOf (farAnswer o s t) (Refused k) (unfold farAnswer in rule-of Far _ _) (unfold ruleOf in refl)
 
 -- ---- what a call with no rule broken leaves
 pub words-done : (f : Bytes) (work : List ℕ) → workAfter 0 f work ≡ cleared (wordsNeeded f) work
@@ -111,27 +107,27 @@ unfolding outputAfter
 bytes-done result out = refl
 
 -- ---- building
-accept-counted : (f : Bytes) (g : ℕ) → counted (acceptRules f g) ≡ true
+accept-counted : (f : Bytes) (dv : Division) → counted (acceptRules f dv) ≡ true
 unfolding acceptRules counted networkRules
-accept-counted f g = refl
+accept-counted f dv = refl
 
-module _ (f : Bytes) (g : ℕ) (work : List ℕ) (out : Bytes) where
+module _ (f : Bytes) (dv : Division) (work : List ℕ) (out : Bytes) where
   abbrev two : List Rule
-  two = rule 14 (workTooSmall f (length work)) ∷ rule 15 (outputTooSmall (length (oracle f g)) (length out)) ∷ []
+  two = rule 14 (workTooSmall f (length work)) ∷ rule 15 (outputTooSmall (length (oracle f dv)) (length out)) ∷ []
 
-  pub build-kept : accepted f g ≡ true → wordsNeeded f ≤ length work → length (oracle f g) ≤ length out → buildRefusal f g work out ≡ 0
+  pub build-kept : accepted f dv ≡ true → wordsNeeded f ≤ length work → length (oracle f dv) ≤ length out → buildRefusal f dv work out ≡ 0
   unfolding buildRefusal buildRules accepted
   build-kept ok enough room =
-      first-append (acceptRules f g) two (accept-counted f g) (eqb-true _ _ ok) ∙
-      sym (goes 14 _ (unfold workTooSmall in le-ltb (length work) (wordsNeeded f) enough) (goes 15 [] (unfold outputTooSmall in le-ltb (length out) (length (oracle f g)) room) none))
+      first-append (acceptRules f dv) two (accept-counted f dv) (eqb-true _ _ ok) ∙
+      sym (goes 14 _ (unfold workTooSmall in le-ltb (length work) (wordsNeeded f) enough) (goes 15 [] (unfold outputTooSmall in le-ltb (length out) (length (oracle f dv)) room) none))
 
-  pub build-accepted : buildRefusal f g work out ≡ 0 → accepted f g ≡ true
+  pub build-accepted : buildRefusal f dv work out ≡ 0 → accepted f dv ≡ true
   unfolding buildRefusal buildRules accepted
-  build-accepted e = eq-eqb (firstBroken (acceptRules f g)) 0 (pick (ℕ-discrete (firstBroken (acceptRules f g)) 0))
+  build-accepted e = eq-eqb (firstBroken (acceptRules f dv)) 0 (pick (ℕ-discrete (firstBroken (acceptRules f dv)) 0))
     where
-      pick : Dec (firstBroken (acceptRules f g) ≡ 0) → firstBroken (acceptRules f g) ≡ 0
+      pick : Dec (firstBroken (acceptRules f dv) ≡ 0) → firstBroken (acceptRules f dv) ≡ 0
       pick (yes q) = q
-      pick (no d) = absurd (d (sym (first-stays (acceptRules f g) two d) ∙ e))
+      pick (no d) = absurd (d (sym (first-stays (acceptRules f dv) two d) ∙ e))
 
 -- What stands at the front of the output, and what stays behind it.
 pub front-done : (result out : Bytes) → take (length result) (outputAfter 0 result out) ≡ result
@@ -143,9 +139,9 @@ unfolding outputAfter
 rest-done result out = drop-append-seam result (drop (length result) out)
 
 -- ---- the access nodes and the transit nodes
-pub access-below : (f : Bytes) (g : ℕ) (c : Cell) (a : ℕ) → List·Memᴰ a (accessNodes (distance (network f)) (cells-of f g) (network f .edges) c) → a < order (network f)
+pub access-below : (f : Bytes) (dv : Division) (c : Cell) (a : ℕ) → List·Memᴰ a (accessNodes (distance (network f)) (grid-of f dv) (cells-of f dv) (network f .edges) c) → a < order (network f)
 unfolding accessNodes
-access-below f g c a m = omega (arith, count-cells f g, range→ 0 (length (cells-of f g)) a (filter→ _ (upTo (length (cells-of f g))) m .0))
+access-below f dv c a m = omega (arith, count-cells f dv, range→ 0 (length (cells-of f dv)) a (filter→ _ (upTo (length (cells-of f dv))) m .0))
 
 pub transit-member : (n : ℕ) (lists : Cell → List ℕ) (all : List Cell) → ((c : Cell) (a : ℕ) → List·Memᴰ a (lists c) → a < n)
     → (a : ℕ) → List·Memᴰ a (transitNodes n (map lists all)) ↔ ((c : Cell) × List·Memᴰ c all × List·Memᴰ a (lists c))

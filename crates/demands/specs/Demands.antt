@@ -1,24 +1,25 @@
--- The demands over the calls: what any outcome that keeps the calls' contracts gives. `Build`, `Audit`, `TimeCall` and `WayCall` are the contracts of
--- `build`, `audit`, `time` and `way`; `farResult`, `listResult` and `listRefusal` are what `far`, `list` and `list_rule` return. Assumes nothing.
+-- The three demands over the calls: each statement is about any outcome that keeps the calls' contracts. `Build`, `Audit`, `TimeCall`, `FarCall` and
+-- `WayCall` are the contracts of `build`, `audit`, `time`, `far` and `way`; `listResult` and `listRefusal` are what `list` and `list_rule` return.
+-- The words used here are defined in `Outcomes`; the proofs are in `DemandLaws`. Assumes nothing.
 use Prim.Native.Nat.{ℕ, _*_, _≤_, _<_}
-use mathlib.Core.Path.{_≡_, sym, _∙_, ap}
+use mathlib.Core.Path.{_≡_}
 use mathlib.Core.Logic.{_↔_}
 use mathlib.Core.Bool.{true}
-use mathlib.Core.List.{List, [], _++_, map, List·Memᴰ}
-use lib.ListN.{length, getD, take, drop}
-use borrow.Author.Tests.{ne-eqb}
-use Rattle.model.specs.Lists.{concatMap}
-use Rattle.model.specs.Bytes.{Bytes, bytes16, words16}
+use mathlib.Core.List.{List, [], map, List·Memᴰ}
+use lib.ListN.{length, getD, drop}
+use Rattle.model.specs.Bytes.{Bytes, words16}
 use Rattle.model.specs.Contents.{nodeBody, edgeBody, closedBody, gridBody, transitBody, accessBody, tableBody}
-use Rattle.model.specs.Walk.{Walk, Least}
+use Rattle.model.specs.Walk.{Walk}
 use Rattle.model.specs.Distance.{IsLeast}
-use Rattle.model.specs.Network.{network, nodeCount, order, arcs, distance}
-use Rattle.model.specs.Grid.{Cell, gridOver, gridNumber, cells, cellAt}
+use Rattle.model.specs.Network.{network, nodeCount, arcs, distance}
+use Rattle.model.specs.Grid.{Grid, Cell, gridOver, division, cells}
 use Rattle.model.specs.Access.{accessNodes}
-use Rattle.model.specs.Oracle.{oracle, transitOf, transitCount, accessList, tableEntry}
-use Rattle.model.specs.Query.{kindBetween, ruleOf, distanceOf, pairsOf, answerOf, timeAnswer, farAnswer, way}
-use Rattle.model.specs.Rules.{accepted, wellShaped, wordsNeeded, firstBroken, buildRules, auditRules, timeRules, farRules, listRules, wayRules}
-use Rattle.model.specs.Calls.{cleared, workAfter, outputAfter, answerAfter, buildRefusal, builtAfter, Build, auditRefusal, Audit, timeRefusal, timeResult, TimeCall, farResult, listRefusal, listResult, wayRefusal, routeAfter, WayCall}
+use Rattle.model.specs.Oracle.{AccessEntry, oracle, transitOf, transitCount, accessList, tableEntry}
+use Rattle.model.specs.Query.{ruleOf, kindBetween, way}
+use Rattle.model.specs.Rules.{accepted, wellShaped, wordsNeeded, buildRules, auditRules, timeRules, farRules, listRules, wayRules}
+use Rattle.model.specs.Calls.{cleared, Build, Audit, TimeCall, FarCall, listRefusal, listResult, WayCall}
+use Rattle.model.specs.declared.Division.{Division}
+use Rattle.model.specs.declared.Kind.{Kind}
 use Rattle.model.specs.declared.Kind.the-variants.{Far, Local}
 use Rattle.model.specs.declared.Answer.{Answer}
 use Rattle.model.specs.declared.Answer.the-variants.{Time}
@@ -27,250 +28,211 @@ use Rattle.model.specs.declared.Route.{Route}
 use Rattle.theory.specs.ReadLaws.{entryOf}
 use Rattle.theory.specs.AccessLaws.{AccessNode}
 use Rattle.theory.specs.Transit.{allCells}
-use Rattle.theory.specs.Passed.{Sound, all-passed}
-use Rattle.theory.specs.Sound.{count-nodes}
-use Rattle.theory.specs.Ways.{way-built}
-use Rattle.theory.specs.FarBodies.{Agree}
-use Rattle.theory.specs.FarSums.{FarSum}
-use Rattle.theory.specs.BuiltCalls.{far-kept, time-given}
-use Rattle.theory.specs.Ways as ways
-use Rattle.theory.specs.Theorems as theorems
-use Rattle.demands.specs.Outcomes.{FirstOf, Refuses, WayWritten}
-use Rattle.demands.specs.CallLaws as laws
+use Rattle.demands.specs.Outcomes.{FirstOf, Refuses, handed, FarCells, cellIn, pairsTried, Answers, FarSum, Agree, WayWritten}
+use Rattle.demands.specs.DemandLaws as laws
 
 -- ==== Demand 1: "A call that meets broken bytes, numbers or memory hands back the number of the first rule broken and writes nothing
 -- (rules 15 and 16 zero the working words they used)." That every call ends and stays inside what it was lent is proved of all code.
 
-pub build-refuses : {f : Bytes} {g : ℕ} {work work′ : List ℕ} {out out′ : Bytes} {r : Built} → Build f g work out r work′ out′
-    → Refuses (buildRules f g (length work) (length out)) (r .rule) f work work′ out out′
-unfolding buildRefusal
-build-refuses {f} {g} {work} {work′} {out} {out′} {r} call =
-    let k : ℕ = firstBroken (buildRules f g (length work) (length out)) in
-    let e : r .rule ≡ k = ap (λ (b : Built). b .rule) (call .result) ∙ laws.built-rule k f g in
-    rw (e, call .words, call .bytes) (laws.refuses (buildRules f g (length work) (length out)) f work (oracle f g) out)
+pub build-refuses : {f : Bytes} {dv : Division} {work work′ : List ℕ} {out out′ : Bytes} {r : Built} → Build f dv work out r work′ out′
+    → Refuses (buildRules f dv (length work) (length out)) (r .rule) f work work′ out out′
+build-refuses = laws.build-refuses
 
 pub audit-refuses : {o : Bytes} {work work′ : List ℕ} {r : ℕ} → Audit o work r work′ → Refuses (auditRules o (length work)) r o work work′ [] []
-unfolding auditRefusal
-audit-refuses {o} {work} call = rw (call .result, call .words) (laws.without-output (auditRules o (length work)) o work)
+audit-refuses = laws.audit-refuses
 
-pub time-refuses : {o : Bytes} {s t : ℕ} {work work′ : List ℕ} {r : Answer} → TimeCall o s t work r work′
-    → Refuses (timeRules o s t (length work)) (ruleOf r) o work work′ [] []
-unfolding timeRefusal timeResult
-time-refuses {o} {s} {t} {work} {work′} {r} call =
-    let k : ℕ = firstBroken (timeRules o s t (length work)) in
-    let e : ruleOf r ≡ k = ap ruleOf (call .result) ∙ laws.time-rule k o s t in
-    rw (e, call .words) (laws.without-output (timeRules o s t (length work)) o work)
+pub time-refuses : {o : Bytes} {s t : ℕ} {work work′ : List ℕ} {a : Answer} → TimeCall o s t work a work′
+    → Refuses (timeRules o s t (length work)) (ruleOf a) o work work′ [] []
+time-refuses = laws.time-refuses
 
-pub far-refuses : (o : Bytes) (s t : ℕ) → FirstOf (farRules o s t) (ruleOf (farResult o s t))
-unfolding farResult
-far-refuses o s t = rw (laws.far-rule (firstBroken (farRules o s t)) o s t) (laws.first-of (farRules o s t))
+pub far-refuses : {o : Bytes} {s t : ℕ} {a : Answer} → FarCall o s t a → FirstOf (farRules o s t) (ruleOf a)
+far-refuses = laws.far-refuses
 
 pub list-refuses : (o : Bytes) (u : ℕ) → FirstOf (listRules o u) (listRefusal o u) × ((listRefusal o u ≡ 0 → ⊥) → listResult o u ≡ [])
-unfolding listRefusal listResult
-list-refuses o u = (laws.first-of (listRules o u), λ h. rw (ne-eqb (firstBroken (listRules o u)) 0 h))
+list-refuses = laws.list-refuses
+
+-- "Refused, the part is empty, which no list is."
+pub list-not-empty : (o : Bytes) (u : ℕ) → listRefusal o u ≡ 0 → listResult o u ≡ [] → ⊥
+list-not-empty = laws.list-not-empty
 
 pub way-refuses : {o : Bytes} {s t : ℕ} {work work′ : List ℕ} {out out′ : Bytes} {r : Route} → WayCall o s t work out r work′ out′
     → Refuses (wayRules o s t (length work) (length out)) (r .rule) o work work′ out out′
-unfolding wayRefusal
-way-refuses {o} {s} {t} {work} {work′} {out} {out′} {r} call =
-    let k : ℕ = firstBroken (wayRules o s t (length work) (length out)) in
-    let e : r .rule ≡ k = ap (λ (x : Route). x .rule) (call .result) ∙ laws.route-rule k (way (network o) s t) in
-    rw (e, call .words, call .bytes) (laws.refuses (wayRules o s t (length work) (length out)) o work (concatMap bytes16 (way (network o) s t)) out)
+way-refuses = laws.way-refuses
 
 -- ==== Demand 2: "Building gives exactly the access and transit places of the published grid method, every equally quick way counted, with exact times."
 
 -- "The audit accepts a well-shaped oracle just when it is the one building gives", both ways, for any oracle and enough memory.
-pub audit-just-built : {o : Bytes} {work work′ : List ℕ} {r : ℕ} → Audit o work r work′ → wellShaped o ≡ true → wordsNeeded o ≤ length work
-    → (r ≡ 0) ↔ ((f : Bytes) × (g : ℕ) × (accepted f g ≡ true) × (o ≡ oracle f g))
-audit-just-built {o} {work} call shaped enough = rw (call .result) (theorems.audit-just-built o shaped work enough)
+pub audit-just-built : (o : Bytes) → wellShaped o ≡ true → {work work′ : List ℕ} {r : ℕ} → Audit o work r work′ → wordsNeeded o ≤ length work
+    → (r ≡ 0) ↔ ((f : Bytes) × (dv : Division) × (accepted f dv ≡ true) × (o ≡ oracle f dv))
+audit-just-built o shaped = laws.audit-just-built o shaped
 
 -- Where the network is accepted and memory and output suffice, building refuses nothing ..
-pub build-succeeds : {f : Bytes} {g : ℕ} {work work′ : List ℕ} {out out′ : Bytes} {r : Built} → Build f g work out r work′ out′
-    → accepted f g ≡ true → wordsNeeded f ≤ length work → length (oracle f g) ≤ length out → r .rule ≡ 0
-build-succeeds {f} {g} {work} {work′} {out} call ok enough room =
-    ap (λ (b : Built). b .rule) (call .result) ∙ (laws.built-rule (buildRefusal f g work out) f g ∙ laws.build-kept f g work out ok enough room)
+pub build-succeeds : {f : Bytes} {dv : Division} {work work′ : List ℕ} {out out′ : Bytes} {r : Built} → Build f dv work out r work′ out′
+    → accepted f dv ≡ true → wordsNeeded f ≤ length work → length (oracle f dv) ≤ length out → r .rule ≡ 0
+build-succeeds = laws.build-succeeds
 
--- .. and then the first bytes of the output, as many as it says, are the oracle.
-module _ {f : Bytes} {g : ℕ} {work work′ : List ℕ} {out out′ : Bytes} {r : Built} (call : Build f g work out r work′ out′) (done : r .rule ≡ 0) where
-  abbrev pub handed : Bytes
-  handed = take (r .size) out′
-
-  refused : buildRefusal f g work out ≡ 0
-  refused = sym (laws.built-rule (buildRefusal f g work out) f g) ∙ (ap (λ (b : Built). b .rule) (sym (call .result)) ∙ done)
-
-  pub built-accepted : accepted f g ≡ true
-  built-accepted = laws.build-accepted f g work out refused
-
-  built-result : r ≡ builtAfter 0 f g
-  built-result = call .result ∙ ap (λ (k : ℕ). builtAfter k f g) refused
-
-  pub built-size : r .size ≡ length (oracle f g)
-  unfolding builtAfter
-  built-size = ap (λ (b : Built). b .size) built-result
-
-  pub built-transit : r .transit ≡ length (transitOf f g)
-  unfolding builtAfter
-  built-transit = ap (λ (b : Built). b .transit) built-result
-
-  bytes-after : out′ ≡ outputAfter 0 (oracle f g) out
-  bytes-after = call .bytes ∙ ap (λ (k : ℕ). outputAfter k (oracle f g) out) refused
-
-  pub handed-is : handed ≡ oracle f g
-  handed-is = rw (built-size, bytes-after) (laws.front-done (oracle f g) out)
-
-  -- Nothing is touched past it, and the first 8 × N working words are zero.
-  pub rest-kept : drop (r .size) out′ ≡ drop (r .size) out
-  rest-kept = rw (built-size, bytes-after) (laws.rest-done (oracle f g) out)
-
-  pub words-zero : work′ ≡ cleared (wordsNeeded f) work
-  words-zero = call .words ∙ (ap (λ (k : ℕ). workAfter k f work) refused ∙ laws.words-done f work)
-
-  abbrev ok : accepted f g ≡ true
-  ok = built-accepted
-
-  -- The nodes' cells.
-  abbrev cs : List Cell
-  cs = cells (gridOver g (network f .nodes)) (network f .nodes)
-
-  -- The access nodes of a cell are exactly those on a least walk, any one, from a crossing node of the cell to one of outer ..
-  pub built-access : (c : Cell) (a : ℕ) → List·Memᴰ a (accessNodes (distance (network f)) cs (network f .edges) c) ↔ AccessNode (network f) cs c a
-  built-access = theorems.access-nodes f g ok
-
-  -- .. "transit places are all access places of all cells", of all g × g ..
-  pub built-transit-nodes : (a : ℕ) → List·Memᴰ a (words16 (transitBody handed)) ↔ ((c : Cell) × List·Memᴰ c (allCells g) × AccessNode (network f) cs c a)
-  built-transit-nodes a =
-      let (there, back) = laws.transit-member (order (network f)) (accessNodes (distance (network f)) cs (network f .edges)) (allCells g) (λ c a m. laws.access-below f g c a m) a in
-      rw (handed-is, theorems.transit-nodes f g ok)
-      (λ m. let (c, i, x) = there m in (c, i, built-access c a .0 x), λ (c, i, x). back (c, i, built-access c a .1 x))
-
-  -- .. "a place has the access list of its cell, each entry with d from that place" ..
-  pub built-list : (u : ℕ) → u < nodeCount (nodeBody f)
-      → accessList (accessBody handed) u ≡ map (entryOf (distance (network f)) (transitOf f g) u) (accessNodes (distance (network f)) cs (network f .edges) (cellAt cs u))
-  built-list u h = rw handed-is (theorems.access-list f g ok u h)
-
-  -- .. "the table holds d between transit places, table(a, b) in the row of a and the column of b" ..
-  pub built-table : (i j : ℕ) → i < length (transitOf f g) → j < length (transitOf f g)
-      → tableEntry (tableBody handed) (transitCount (transitBody handed)) i j ≡ distance (network f) (getD (transitOf f g) i 0) (getD (transitOf f g) j 0)
-  built-table i j p q = rw handed-is (theorems.table-entry f g ok i j p q)
-
-  -- .. and "its bodies 1 to 3 are the network's own bytes".
-  pub built-own : (nodeBody handed ≡ nodeBody f) × (edgeBody handed ≡ edgeBody f) × (closedBody handed ≡ closedBody f) × (gridNumber (gridBody handed) ≡ g)
-  built-own = rw handed-is (theorems.own-nodes f g ok, theorems.own-edges f g ok, theorems.own-closed f g ok, theorems.own-grid f g ok)
-
-  -- ==== Demand 3, for every pair of nodes, one node twice included: "the least total wherever there is a walk, 'none' exactly where there is none" ..
+-- .. and then the first bytes of the output, as many as it says, are the oracle that it hands over.
+module _ {f : Bytes} {dv : Division} {work work′ : List ℕ} {out out′ : Bytes} {r : Built} (call : Build f dv work out r work′ out′) (done : r .rule ≡ 0) where
+  abbrev o : Bytes
+  o = handed r out′
 
   abbrev N : ℕ
   N = nodeCount (nodeBody f)
 
-  handed-shape : wellShaped handed ≡ true
-  handed-shape = rw handed-is (theorems.built-shape f g ok)
+  -- The grid, the nodes' cells, and the access nodes of a cell.
+  abbrev grid : Grid
+  grid = gridOver dv (network f .nodes)
 
-  handed-count : nodeCount (nodeBody handed) ≡ N
-  handed-count = ap nodeCount (built-own .0)
+  abbrev cs : List Cell
+  cs = cells grid (network f .nodes)
 
-  handed-words : wordsNeeded handed ≡ wordsNeeded f
-  unfolding wordsNeeded
-  handed-words = ap (λ (n : ℕ). 8 * n) handed-count
+  abbrev accessIn : Cell → List ℕ
+  accessIn c = accessNodes (distance (network f)) grid cs (network f .edges) c
 
-  -- One node twice.
-  pub time-itself : (s : ℕ) → s < N → {words words′ : List ℕ} {a : Answer} → TimeCall handed s s words a words′ → wordsNeeded f ≤ length words → a ≡ Time 0 Local 0
-  time-itself s hs {words} query enough = query .result ∙ rw handed-is (time-given f g ok s s hs hs words enough ∙ theorems.time-itself f g ok s hs)
+  pub built-accepted : accepted f dv ≡ true
+  built-accepted = laws.built-accepted call done
 
-  -- A list is refused for no node, and the audit accepts.
-  pub list-succeeds : (u : ℕ) → u < N → listRefusal handed u ≡ 0
-  list-succeeds u h = theorems.list-kept handed handed-shape u (rw handed-count h)
+  pub built-size : r .size ≡ length (oracle f dv)
+  built-size = laws.built-size call done
 
-  pub audit-accepts : {words words′ : List ℕ} {k : ℕ} → Audit handed words k words′ → wordsNeeded f ≤ length words → k ≡ 0
-  audit-accepts {words} query enough = audit-just-built query handed-shape (rw handed-words enough) .1 (f, g, ok, handed-is)
+  pub built-transit : r .transit ≡ length (transitOf f dv)
+  built-transit = laws.built-transit call done
 
-  sound : Sound f
-  sound = all-passed f g ok .sound
+  pub handed-is : o ≡ oracle f dv
+  handed-is = laws.handed-is call done
 
+  -- It breaks none of rules 1 to 11.
+  pub handed-shape : wellShaped o ≡ true
+  handed-shape = laws.handed-shape call done
+
+  -- Nothing is touched past it, and the first 8 × N working words are zero.
+  pub rest-kept : drop (r .size) out′ ≡ drop (r .size) out
+  rest-kept = laws.rest-kept call done
+
+  pub words-zero : work′ ≡ cleared (wordsNeeded f) work
+  words-zero = laws.words-zero call done
+
+  -- "d(u, t) for the least total of seconds over all walks from u to t; it is finite exactly when there is one."
+  pub built-distance : (u t : ℕ) → u < N → IsLeast (Walk (arcs (network f)) u t) (distance (network f) u t)
+  built-distance = laws.built-distance call done
+
+  -- The access nodes of a cell are exactly those on a least walk, any one, from a crossing node of the cell to one of outer ..
+  pub built-access : (c : Cell) (a : ℕ) → List·Memᴰ a (accessIn c) ↔ AccessNode (network f) grid cs c a
+  built-access = laws.built-access call done
+
+  -- .. "transit places are all access places of all cells", of all g × g, and body 5 has just their numbers ..
+  pub built-transit-nodes : (a : ℕ) → List·Memᴰ a (words16 (transitBody o)) ↔ ((c : Cell) × List·Memᴰ c (allCells (dv .g)) × AccessNode (network f) grid cs c a)
+  built-transit-nodes = laws.built-transit-nodes call done
+
+  pub built-numbers : words16 (transitBody o) ≡ transitOf f dv
+  built-numbers = laws.built-numbers call done
+
+  -- .. "a place has the access list of its cell, each entry with d from that place": in the order of the access nodes, and the index of an entry
+  -- names the node in body 5 that the entry is for ..
+  pub built-list : (u : ℕ) → u < N → accessList (accessBody o) u ≡ map (entryOf (distance (network f)) (transitOf f dv) u) (accessIn (cellIn f dv u))
+  built-list = laws.built-list call done
+
+  pub built-entry : (u : ℕ) → u < N → (e : AccessEntry) → List·Memᴰ e (accessList (accessBody o) u)
+      → let a : ℕ = getD (words16 (transitBody o)) (e .index) 0 in List·Memᴰ a (accessIn (cellIn f dv u)) × (e .distance ≡ distance (network f) u a)
+  built-entry = laws.built-entry call done
+
+  -- .. "the table holds d between transit places, table(a, b) in the row of a and the column of b" ..
+  pub built-table : (i j : ℕ) → i < length (transitOf f dv) → j < length (transitOf f dv)
+      → tableEntry (tableBody o) (transitCount (transitBody o)) i j ≡ distance (network f) (getD (transitOf f dv) i 0) (getD (transitOf f dv) j 0)
+  built-table = laws.built-table call done
+
+  -- .. and "its bodies 1 to 3 are the network's own bytes".
+  pub built-own : (nodeBody o ≡ nodeBody f) × (edgeBody o ≡ edgeBody f) × (closedBody o ≡ closedBody f) × (division (gridBody o) ≡ dv)
+  built-own = laws.built-own call done
+
+  -- A list of it is refused for no node, and the audit accepts it.
+  pub list-succeeds : (u : ℕ) → u < N → listRefusal o u ≡ 0
+  list-succeeds = laws.list-succeeds call done
+
+  pub audit-accepts : {words words′ : List ℕ} {k : ℕ} → Audit o words k words′ → wordsNeeded f ≤ length words → k ≡ 0
+  audit-accepts = laws.audit-accepts call done
+
+-- ==== Demand 3
+
+-- "However the places lie, under whichever grid from 1 to 64, for every accepted network with any number of equally quick ways, and for every pair of
+-- places, one place twice included, the built oracle, given enough working memory, answers the least total wherever there is a walk on open roads from
+-- the first to the second: some such walk has it, and every other has at least as many seconds. It answers 'none' exactly when there is no walk."
   module _ (s t : ℕ) (hs : s < N) (ht : t < N) where
-    -- Nothing is refused where memory suffices.
-    pub time-succeeds : {words words′ : List ℕ} {a : Answer} → TimeCall handed s t words a words′ → wordsNeeded f ≤ length words → ruleOf a ≡ 0
-    unfolding timeResult
-    time-succeeds {words} query enough =
-        ap ruleOf (query .result) ∙ (laws.time-rule (timeRefusal handed s t words) handed s t ∙
-        theorems.time-kept handed handed-shape s t (rw handed-count hs) (rw handed-count ht) words (rw handed-words enough))
+    pub time-built : {words words′ : List ℕ} {a : Answer} → TimeCall o s t words a words′ → wordsNeeded f ≤ length words
+        → Answers (Walk (arcs (network f)) s t) (kindBetween o s t) (pairsTried (kindBetween o s t) o s t) a
+    time-built = laws.time-built call done s t hs ht
 
-    pub time-least : {words words′ : List ℕ} {a : Answer} → TimeCall handed s t words a words′ → wordsNeeded f ≤ length words → IsLeast (Walk (arcs (network f)) s t) (distanceOf a)
-    time-least {words} query enough = rw (query .result, handed-is) (theorems.time-call f g ok s t hs ht words enough)
-
-    -- .. "far answers come from the lists and the table alone": the far question has no roads to go by, and gives the same least total ..
-    pub far-least : kindBetween handed s t ≡ Far → IsLeast (Walk (arcs (network f)) s t) (distanceOf (farResult handed s t))
-    far-least e = rw handed-is (theorems.far-call f g ok s t hs ht (rw (← handed-is) e))
-
-    pub far-succeeds : kindBetween handed s t ≡ Far → ruleOf (farResult handed s t) ≡ 0
-    unfolding farResult
-    far-succeeds e =
-        laws.far-rule (firstBroken (farRules handed s t)) handed s t ∙
-        far-kept handed handed-shape s t (rw handed-count hs) (rw handed-count ht) e
-
-    -- .. "the way is the first least walk by place numbers".
-    module _ {words words′ : List ℕ} {room room′ : Bytes} {route : Route} (query : WayCall handed s t words room route words′ room′) (enough : wordsNeeded f ≤ length words) (fits : 2 * length (way (network handed) s t) ≤ length room) where
-      kept : wayRefusal handed s t words room ≡ 0
-      kept = theorems.way-kept handed handed-shape s t (rw handed-count hs) (rw handed-count ht) words room (rw handed-words enough) fits
-
-      way-is : way (network handed) s t ≡ way (network f) s t
-      way-is = rw handed-is (way-built f g ok s t)
-
-      result : route ≡ routeAfter 0 (way (network f) s t)
-      result = query .result ∙ rw (kept, way-is)
-
-      written : room′ ≡ concatMap bytes16 (way (network f) s t) ++ drop (length (concatMap bytes16 (way (network f) s t))) room
-      written = query .bytes ∙ rw (kept, way-is) (laws.bytes-done (concatMap bytes16 (way (network f) s t)) room)
-
-      pub way-succeeds : route .rule ≡ 0
-      way-succeeds = ap (λ (r : Route). r .rule) result ∙ laws.route-rule 0 (way (network f) s t)
-
-      -- Output begins with the nodes of a least walk, and every least walk with other nodes comes after it.
-      pub way-least : (n : ℕ) → Least (arcs (network f)) s t n → WayWritten (arcs (network f)) s t n room route room′
-      way-least n l =
-          let (w, e) = ways.way-least f sound t (rw (count-nodes f) ht) l in
-          record {
-            walk = w;
-            nodes = ap (λ (r : Route). r .nodes) result ∙ (unfold routeAfter in ap length (sym e));
-            bytes = rw e written;
-            first = λ v. rw e (ways.way-earliest f sound t (rw (count-nodes f) ht) l v);
-          }
-
-      -- "Where there is no walk it writes no place."
-      pub way-none : ((n : ℕ) → Walk (arcs (network f)) s t n → ⊥) → (route .nodes ≡ 0) × (room′ ≡ room)
-      way-none h =
-          let e = ways.way-empty f sound t (rw (count-nodes f) ht) h in
-          (ap (λ (r : Route). r .nodes) result ∙ (unfold routeAfter in ap length e), written ∙ (unfold concatMap in rw e))
-
--- ==== On any well-shaped oracle, built or not
-
-module _ (o : Bytes) (shaped : wellShaped o ≡ true) (s t : ℕ) (hs : s < nodeCount (nodeBody o)) (ht : t < nodeCount (nodeBody o)) where
-  -- "The far answer is the least of d(s, a) + table(a, b) + d(b, t) .., leaving out sums with a 'no walk' part. Its pairs tried is the product."
-  module _ (far : kindBetween o s t ≡ Far) where
-    given : farResult o s t ≡ farAnswer o s t
-    unfolding farResult answerAfter
-    given = rw (far-kept o shaped s t hs ht far)
-
-    pub far-sums : IsLeast (FarSum o s t) (distanceOf (farResult o s t))
-    far-sums = rw given (theorems.far-sums o shaped s t)
-
-    pub far-tried : pairsOf (farResult o s t) ≡ length (accessList (accessBody o) s) * length (accessList (accessBody o) t)
-    far-tried = rw given (theorems.far-tried o shaped s t)
-
-  module _ {words words′ : List ℕ} {a : Answer} (query : TimeCall o s t words a words′) (enough : wordsNeeded o ≤ length words) where
-    answered : a ≡ timeAnswer o s t
-    unfolding timeResult answerAfter
-    answered = query .result ∙ rw (theorems.time-kept o shaped s t hs ht words enough)
+    -- The kind: "two places are far when their columns or their rows differ by 5 or more .., else local".
+    pub kind-built : (kindBetween o s t ≡ Far) ↔ FarCells (cellIn f dv s) (cellIn f dv t)
+    kind-built = laws.kind-built call done s t hs ht
 
     -- "Both the time and the far question give this answer for a far pair."
-    pub time-far : kindBetween o s t ≡ Far → a ≡ farResult o s t
-    unfolding timeAnswer answerOf
-    time-far far = answered ∙ rw (far, given far)
+    pub far-built : {a : Answer} → FarCall o s t a → kindBetween o s t ≡ Far → Answers (Walk (arcs (network f)) s t) Far (pairsTried Far o s t) a
+    far-built = laws.far-built call done s t hs ht
 
-    -- "A local answer is the least total over walks on the open roads .. its pairs tried is 0."
-    pub time-local : kindBetween o s t ≡ Local → IsLeast (Walk (arcs (network o)) s t) (distanceOf a)
-    unfolding timeAnswer answerOf
-    time-local near = rw (answered, near) (theorems.local-least o shaped s t hs)
+  pub time-itself : (s : ℕ) → s < N → {words words′ : List ℕ} {a : Answer} → TimeCall o s s words a words′ → wordsNeeded f ≤ length words → a ≡ Time 0 Local 0
+  time-itself = laws.time-itself call done
 
--- "Two oracles that pass 1 to 11 and agree in bodies 1 and 4 to 7 must give one far answer", pairs tried and refusals included.
-pub far-alike : (o p : Bytes) → wellShaped o ≡ true → wellShaped p ≡ true → Agree o p → (s t : ℕ) → farResult o s t ≡ farResult p s t
-far-alike = theorems.far-answer-alike
+-- "On any well-shaped oracle a far answer is the least sum from the lists and the table, or 'none' where no sum is left, without the roads":
+-- of the far question and of the time, with the pairs tried.
+module _ (o : Bytes) (shaped : wellShaped o ≡ true) (s t : ℕ) (hs : s < nodeCount (nodeBody o)) (ht : t < nodeCount (nodeBody o)) where
+  pub far-sums : {a : Answer} → FarCall o s t a → kindBetween o s t ≡ Far → Answers (FarSum o s t) Far (pairsTried Far o s t) a
+  far-sums = laws.far-sums o shaped s t hs ht
+
+  pub time-sums : {words words′ : List ℕ} {a : Answer} → TimeCall o s t words a words′ → wordsNeeded o ≤ length words → kindBetween o s t ≡ Far
+      → Answers (FarSum o s t) Far (pairsTried Far o s t) a
+  time-sums = laws.time-sums o shaped s t hs ht
+
+  -- "A local answer is the least total over walks on the open roads .. its pairs tried is 0": over the oracle's own roads.
+  pub time-local : {words words′ : List ℕ} {a : Answer} → TimeCall o s t words a words′ → wordsNeeded o ≤ length words → kindBetween o s t ≡ Local
+      → Answers (Walk (arcs (network o)) s t) Local 0 a
+  time-local = laws.time-local o shaped s t hs ht
+
+  -- The kind, by the oracle's own nodes and grid.
+  pub kind-cells : (kindBetween o s t ≡ Far) ↔ FarCells (cellIn o (division (gridBody o)) s) (cellIn o (division (gridBody o)) t)
+  kind-cells = laws.kind-cells o shaped s t
+
+-- "Two such oracles alike in places, grid, transit places, lists and table, both given enough working memory, give every far pair the same answer,
+-- pairs tried included." (By the far question also the same refusals, of any pair.)
+module _ {o p : Bytes} (ho : wellShaped o ≡ true) (hp : wellShaped p ≡ true) (agree : Agree o p) (s t : ℕ) where
+  pub time-alike : s < nodeCount (nodeBody o) → t < nodeCount (nodeBody o) → kindBetween o s t ≡ Far
+      → {words words′ others others′ : List ℕ} {a b : Answer} → TimeCall o s t words a words′ → wordsNeeded o ≤ length words
+      → TimeCall p s t others b others′ → wordsNeeded p ≤ length others → a ≡ b
+  time-alike = laws.time-alike ho hp agree s t
+
+  pub far-alike : {a b : Answer} → FarCall o s t a → FarCall p s t b → a ≡ b
+  far-alike = laws.far-alike ho hp agree s t
+
+-- "Where there is a walk, the reported way is the places of a least walk, and no other least walk's places come before them by place numbers; where
+-- there is no walk it has no place." Of any well-shaped oracle, over its own roads.
+module _ (o : Bytes) (shaped : wellShaped o ≡ true) (s t : ℕ) (hs : s < nodeCount (nodeBody o)) (ht : t < nodeCount (nodeBody o))
+    {words words′ : List ℕ} {room room′ : Bytes} {route : Route} (query : WayCall o s t words room route words′ room′)
+    (enough : wordsNeeded o ≤ length words) (fits : 2 * length (way (network o) s t) ≤ length room) where
+  pub way-succeeds : route .rule ≡ 0
+  way-succeeds = laws.way-succeeds o shaped s t hs ht query enough fits
+
+  pub way-first : {m : ℕ} → Walk (arcs (network o)) s t m → (n : ℕ) × WayWritten (arcs (network o)) s t n room route room′
+  way-first = laws.way-first o shaped s t hs ht query enough fits
+
+  pub way-none : ((n : ℕ) → Walk (arcs (network o)) s t n → ⊥) → (route .nodes ≡ 0) × (room′ ≡ room)
+  way-none = laws.way-none o shaped s t hs ht query enough fits
+
+  -- Its total is the time of a local answer.
+  pub way-local : {others others′ : List ℕ} {a : Answer} → TimeCall o s t others a others′ → wordsNeeded o ≤ length others → kindBetween o s t ≡ Local
+      → {n pairs : ℕ} {kind : Kind} → a ≡ Time n kind pairs → WayWritten (arcs (network o)) s t n room route room′
+  way-local = laws.way-local o shaped s t hs ht query enough fits
+
+-- The same of what `build` hands over, over the network's roads. The way's total is the time, far or local.
+module _ {f : Bytes} {dv : Division} {work work′ : List ℕ} {out out′ : Bytes} {r : Built} (call : Build f dv work out r work′ out′) (done : r .rule ≡ 0)
+    (s t : ℕ) (hs : s < nodeCount (nodeBody f)) (ht : t < nodeCount (nodeBody f))
+    {words words′ : List ℕ} {room room′ : Bytes} {route : Route} (query : WayCall (handed r out′) s t words room route words′ room′)
+    (enough : wordsNeeded f ≤ length words) (fits : 2 * length (way (network (handed r out′)) s t) ≤ length room) where
+  pub way-built-first : {m : ℕ} → Walk (arcs (network f)) s t m → (n : ℕ) × WayWritten (arcs (network f)) s t n room route room′
+  way-built-first = laws.way-built-first call done s t hs ht query enough fits
+
+  pub way-built-none : ((n : ℕ) → Walk (arcs (network f)) s t n → ⊥) → (route .nodes ≡ 0) × (room′ ≡ room)
+  way-built-none = laws.way-built-none call done s t hs ht query enough fits
+
+  pub way-built : {others others′ : List ℕ} {a : Answer} → TimeCall (handed r out′) s t others a others′ → wordsNeeded f ≤ length others
+      → {n pairs : ℕ} {kind : Kind} → a ≡ Time n kind pairs → WayWritten (arcs (network f)) s t n room route room′
+  way-built = laws.way-built call done s t hs ht query enough fits

@@ -1,3 +1,7 @@
 pub mod Outcomes
 pub mod CallLaws
+pub mod FarSums
+pub mod FarBodies
+pub mod AnswerLaws
+pub mod DemandLaws
 pub mod Demands

@@ -1,15 +1,26 @@
 -- What the demands say of a call's outcome. Assumes nothing.
-use Prim.Native.Nat.{ℕ}
+use Prim.Native.Nat.{ℕ, _+_, _*_, _≤_}
 use mathlib.Core.Path.{_≡_}
-use mathlib.Core.Logic.{_⊎_}
+use mathlib.Core.Logic.{_⊎_, _↔_}
 use mathlib.Core.Bool.{true, false}
-use mathlib.Core.List.{List, [], _∷_, _++_}
-use lib.ListN.{length, drop}
+use mathlib.Core.List.{List, [], _∷_, _++_, List·Memᴰ}
+use lib.ListN.{length, take, drop}
 use Rattle.model.specs.Lists.{concatMap}
 use Rattle.model.specs.Bytes.{Bytes, bytes16}
-use Rattle.model.specs.Walk.{Arc, Walk, nodesOf, Before}
+use Rattle.model.specs.Contents.{nodeBody, gridBody, transitBody, accessBody, tableBody}
+use Rattle.model.specs.Walk.{Arc, Walk, LeastOf, nodesOf, Before}
+use Rattle.model.specs.Distance.{finite}
+use Rattle.model.specs.Network.{network}
+use Rattle.model.specs.Grid.{Cell, gridOver, cells, cellAt}
+use Rattle.model.specs.Oracle.{AccessEntry, transitCount, accessList, tableEntry}
 use Rattle.model.specs.Rules.{Rule, wordsNeeded}
 use Rattle.model.specs.Calls.{cleared}
+use Rattle.model.specs.declared.Division.{Division}
+use Rattle.model.specs.declared.Kind.{Kind}
+use Rattle.model.specs.declared.Kind.the-variants.{Far, Local}
+use Rattle.model.specs.declared.Answer.{Answer}
+use Rattle.model.specs.declared.Answer.the-variants.{Time, None}
+use Rattle.model.specs.declared.Built.{Built}
 use Rattle.model.specs.declared.Route.{Route}
 
 -- ---- demand 1: "hands back the number of the first rule broken and writes nothing"
@@ -28,11 +39,65 @@ pub record Refuses (rules : List Rule) (k : ℕ) (f : Bytes) (work work′ : Lis
   pub zeroed : (k ≡ 15) ⊎ (k ≡ 16) → work′ ≡ cleared (wordsNeeded f) work
   pub bytes : (k ≡ 0 → ⊥) → out′ ≡ out
 
--- ---- demand 3: "the way is the first least walk by place numbers"
+-- ---- building
 
--- The nodes of a walk with the total n stand at the front of the output, and no walk with that total comes before it by node numbers.
+-- What `build` hands over: the first bytes of the output, as many as it says.
+abbrev pub handed : Built → Bytes → Bytes
+handed r out′ = take (r .size) out′
+
+-- ---- demand 3: times
+
+-- "Two places are far when their columns or their rows differ by 5 or more": said of their cells.
+abbrev pub FiveApart : ℕ → ℕ → Type 0
+FiveApart a b = (a + 5 ≤ b) ⊎ (b + 5 ≤ a)
+
+abbrev pub FarCells : Cell → Cell → Type 0
+FarCells c e = FiveApart (c .column) (e .column) ⊎ FiveApart (c .row) (e .row)
+
+-- The cell of node u by the nodes of a file's bytes and the grid over them under a division.
+abbrev pub cellIn : Bytes → Division → ℕ → Cell
+cellIn f dv u = cellAt (cells (gridOver dv (network f .nodes)) (network f .nodes)) u
+
+-- Of a far answer, "its pairs tried is the product of the two list lengths"; of a local one, "its pairs tried is 0".
+abbrev pub pairsTried : Kind → Bytes → ℕ → ℕ → ℕ
+pairsTried Far o s t = length (accessList (accessBody o) s) * length (accessList (accessBody o) t)
+pairsTried Local o s t = 0
+
+-- The answer a is of this kind, with so many pairs tried, and no refusal: a time n exactly where n is the least number with P (n has P, and every
+-- other with P is at least n), and 'none' exactly where no number has P.
+pub record Answers (P : ℕ → Type 0) (kind : Kind) (pairs : ℕ) (a : Answer) : Type 0 where
+  pub given : ((n : ℕ) × (a ≡ Time n kind pairs)) ⊎ (a ≡ None kind pairs)
+  pub least : (n : ℕ) → (a ≡ Time n kind pairs) ↔ LeastOf P n
+  pub none : (a ≡ None kind pairs) ↔ ((n : ℕ) → P n → ⊥)
+
+-- "d(s, a) + table(a, b) + d(b, t) over a in the list of s and b in the list of t, leaving out sums with a 'no walk' part": n is such a sum.
+pub record FarSum (o : Bytes) (s t n : ℕ) : Type 0 where
+  pub a : AccessEntry
+  pub b : AccessEntry
+  pub leaving : List·Memᴰ a (accessList (accessBody o) s)
+  pub entering : List·Memᴰ b (accessList (accessBody o) t)
+  pub x : ℕ
+  pub y : ℕ
+  pub z : ℕ
+  pub first : a .distance ≡ finite x
+  pub middle : tableEntry (tableBody o) (transitCount (transitBody o)) (a .index) (b .index) ≡ finite y
+  pub last : b .distance ≡ finite z
+  pub sum : x + y + z ≡ n
+
+-- "Alike in places, grid, transit places, lists and table": bodies 1 and 4 to 7, the roads and the closed roads being free.
+pub record Agree (o p : Bytes) : Type 0 where
+  pub nodes : nodeBody o ≡ nodeBody p
+  pub grid : gridBody o ≡ gridBody p
+  pub transit : transitBody o ≡ transitBody p
+  pub access : accessBody o ≡ accessBody p
+  pub table : tableBody o ≡ tableBody p
+
+-- ---- demand 3: the way
+
+-- The nodes of a least walk, whose total is n, stand at the front of the output, and no other least walk comes before it by node numbers.
 pub record WayWritten (arcs : List Arc) (s t n : ℕ) (out : Bytes) (r : Route) (out′ : Bytes) : Type 0 where
   pub walk : Walk arcs s t n
+  pub least : (m : ℕ) → Walk arcs s t m → n ≤ m
   pub nodes : r .nodes ≡ length (nodesOf walk)
   pub bytes : out′ ≡ concatMap bytes16 (nodesOf walk) ++ drop (length (concatMap bytes16 (nodesOf walk))) out
   pub first : (other : Walk arcs s t n) → (nodesOf other ≡ nodesOf walk) ⊎ Before (nodesOf walk) (nodesOf other)

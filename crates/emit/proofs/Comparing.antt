@@ -10,7 +10,7 @@ use lib.Seq.{drop-drop, drop-cons}
 use lib.Dec.{eqb}
 use borrow.Author.Tests.{eq-eqb, ne-eqb}
 use Rattle.model.specs.Lists.{equal}
-use Rattle.model.specs.Bytes.{Bytes, bytes16}
+use Rattle.model.specs.Bytes.{Bytes, bytes16, numberSize}
 use Rattle.theory.specs.Tests.{both, refuted}
 use Rattle.emit.specs.Records.{begins, compared}
 use Rattle.emit.proofs.Writing.{Then}
@@ -86,11 +86,11 @@ module _ (b : Bytes) (at : ℕ) (r : Bytes) where
 -- ---- a number of 16 bits
 
 module _ (b : Bytes) (at x : ℕ) where
-  pub too-short : length b - at < 2 → Differs ≡ compared b at (bytes16 x)
+  pub too-short : length b - at < numberSize → Differs ≡ compared b at (bytes16 x)
   unfolding bytes16
   too-short h = is-different b at (bytes16 x) (refuted (λ e. omega (arith, begins-long (bytes16 x) (drop at b) e, length-drop at b)))
 
-  module _ (h : at + 2 ≤ length b) (low high : ℕ) (p : low ≡ getD b at 0) (q : high ≡ getD b (at + 1) 0) where
+  module _ (h : at + numberSize ≤ length b) (low high : ℕ) (p : low ≡ getD b at 0) (q : high ≡ getD b (at + 1) 0) where
     two : begins (bytes16 x) (drop at b) ≡ eqb low (x % 256) && eqb high (x / 256 % 256)
     unfolding begins bytes16
     two = rw (p, q, add-one at, drop-cons b at 0 (omega arith), drop-cons b (suc at) 0 (omega arith), and-true)
@@ -101,7 +101,7 @@ module _ (b : Bytes) (at x : ℕ) where
     pub high-other : (high ≡ x / 256 % 256 → ⊥) → Differs ≡ compared b at (bytes16 x)
     high-other n = is-different b at (bytes16 x) (two ∙ rw (ne-eqb high (x / 256 % 256) n) (and-false (eqb low (x % 256))))
 
-    pub both-same : low ≡ x % 256 → high ≡ x / 256 % 256 → Same (at + 2) ≡ compared b at (bytes16 x)
+    pub both-same : low ≡ x % 256 → high ≡ x / 256 % 256 → Same (at + numberSize) ≡ compared b at (bytes16 x)
     unfolding bytes16
     both-same l k = is-same b at (bytes16 x) (two ∙ rw (eq-eqb low (x % 256) l, eq-eqb high (x / 256 % 256) k))
 

@@ -6,21 +6,22 @@ use mathlib.Core.Bool.{Bool, true, false, cond}
 use mathlib.Core.List.{List, [], _++_}
 use lib.ListN.{length, getD}
 use Rattle.model.specs.Lists.{indexOf}
-use Rattle.model.specs.Bytes.{Bytes, bytes16, bytes32, splice}
-use Rattle.model.specs.Oracle.{entrySize}
+use Rattle.model.specs.Bytes.{Bytes, bytes16, numberSize, splice}
+use Rattle.model.specs.Oracle.{valueBytes, decoded, countSize, entrySize, listSize}
 use Rattle.bitset.specs.Bits.{isIn}
-use Rattle.emit.specs.Members.{membersOf, Among, ifIn}
-use Rattle.emit.specs.Parts.{timeBytes, indexedBytes, listSize, listBytesOf}
+use Rattle.bitset.specs.Members.{membersOf}
+use Rattle.emit.specs.Members.{Among, ifIn}
+use Rattle.emit.specs.Parts.{timeBytes, indexedBytes, listBytesOf}
 use Rattle.emit.specs.PartLaws.{length-list}
 use Rattle.emit.proofs.Writing.{Then, Written, written-start, written-next, splice-then}
 use Rattle.emit.proofs.Turns.{membersFrom, members-all, members-step}
-use Rattle.emit.proofs.Ranks.{rank-index}
+use Rattle.bitset.proofs.Ranks.{rank-index}
 
 -- The index and the time, one after the other.
 pub entry-written : (times : List ℕ) (index v at : ℕ) (old mid new : Bytes) → at + entrySize ≤ length old → mid ≡ splice at (bytes16 index) old
-    → new ≡ splice (at + 2) (bytes32 (getD times v 0)) mid → new ≡ splice at (indexedBytes times index v) old
+    → new ≡ splice (at + numberSize) (valueBytes (decoded (getD times v 0))) mid → new ≡ splice at (indexedBytes times index v) old
 unfolding indexedBytes timeBytes bytes16
-entry-written times index v at old mid new h p q = q ∙ rw p (splice-then old at (bytes16 index) (omega arith) (bytes32 (getD times v 0)))
+entry-written times index v at old mid new h p q = q ∙ rw p (splice-then old at (bytes16 index) (omega arith) (valueBytes (decoded (getD times v 0))))
 
 module _ (n : ℕ) (access transit times : List ℕ) where
   -- The entry of each access node.
@@ -38,7 +39,8 @@ module _ (n : ℕ) (access transit times : List ℕ) where
     unfolding listBytesOf
     list-count = record { is = rw (← e) (ap (λ (r : Bytes). bytes16 count ++ r) (members-all entryFor access n)) }
 
-    pub count-written : (old new : Bytes) → length old ≡ listSize (length (membersOf n access)) → new ≡ splice 0 (bytes16 count) old → Written listFor 2 new (entriesFrom 0)
+    pub count-written : (old new : Bytes) → length old ≡ listSize (length (membersOf n access)) → new ≡ splice 0 (bytes16 count) old
+        → Written listFor countSize new (entriesFrom 0)
     unfolding bytes16
     count-written old new l q =
         let start = written-start refl (l ∙ sym (length-list times (membersOf n transit) (membersOf n access))) in

@@ -2,6 +2,5 @@
 pub mod Writing
 pub mod Comparing
 pub mod Turns
-mod Ranks
 mod Indexes
 mod Offsets

@@ -7,12 +7,12 @@ use mathlib.Core.List.{List, [], _∷_, map}
 use lib.ListN.{length, getD, drop, set, drop-of-length-le}
 use lib.Seq.{drop-cons, sets-eq}
 use Rattle.model.specs.Bytes.{Bytes, bytes16, bytes32, splice}
-use Rattle.model.specs.Contents.{entryAt, oracleEntries}
+use Rattle.model.specs.Contents.{contentsEntrySize, entryAt, oracleEntries}
 use Rattle.model.specs.Network.{maxNodes}
-use Rattle.model.specs.Oracle.{startSize, entrySize}
+use Rattle.model.specs.Oracle.{startSize, listSize}
 use Rattle.theory.specs.RangeLaws.{rest, rest-all, rest-step, rest-end}
 use Rattle.theory.specs.FileLaws.{nine}
-use Rattle.emit.specs.Parts.{entriesOf, headBytes, total, startsOf, listSize, listSizes}
+use Rattle.emit.specs.Parts.{entriesOf, headBytes, total, startsOf, listSizes}
 use Rattle.emit.specs.Records.{Wrote}
 use Rattle.emit.proofs.Writing.{Then, splice-byte, splice-then}
 
@@ -25,7 +25,7 @@ module _ (counts : List ℕ) (n : ℕ) where
 
   -- The latest start of list v.
   abbrev pub latest : ℕ → ℕ
-  latest v = startSize * n + (2 + entrySize * maxNodes) * v
+  latest v = startSize * n + listSize maxNodes * v
 
   pub starts-all : startsOf (startSize * n) (listSizes n counts) ≡ startsFrom (startSize * n) 0
   unfolding listSizes
@@ -37,7 +37,6 @@ module _ (counts : List ℕ) (n : ℕ) where
     starts-step h = record { is = rw (rest-step v n h, e) }
 
     pub start-latest : getD counts v 0 ≤ maxNodes → start ≤ latest v → start + size ≤ latest (v + 1)
-    unfolding listSize
     start-latest h l = omega arith
 
   pub starts-end : (v start : ℕ) → n ≤ v → startsFrom start v ≡ []
@@ -51,7 +50,8 @@ start-wrote old new v start e = record { ends = omega arith; spliced = e }
 -- ---- the head
 
 -- The kind, the offset and the size, one after the other.
-pub contents-written : (at k offset size : ℕ) (old mid new : Bytes) → at + 9 ≤ length old → mid ≡ splice (at + 1) (bytes32 offset) (set old at (k + 1))
+pub contents-written : (at k offset size : ℕ) (old mid new : Bytes) → at + contentsEntrySize ≤ length old
+    → mid ≡ splice (at + 1) (bytes32 offset) (set old at (k + 1))
     → new ≡ splice (at + 5) (bytes32 size) mid → new ≡ splice at (nine k offset size) old
 unfolding nine bytes32 bytes16
 contents-written at k offset size old mid new h p q =

@@ -9,7 +9,8 @@ use Rattle.model.specs.Lists.{filter, concatMap}
 use Rattle.model.specs.Bytes.{Bytes, splice}
 use Rattle.theory.specs.RangeLaws.{rest, rest-all, rest-step, rest-end}
 use Rattle.bitset.specs.Bits.{isIn}
-use Rattle.emit.specs.Members.{membersOf, ifIn}
+use Rattle.bitset.specs.Members.{membersOf}
+use Rattle.emit.specs.Members.{ifIn}
 use Rattle.emit.specs.Records.{Wrote, begins, compared}
 use Rattle.emit.specs.declared.compare.Compared.the-variants.{Same}
 use Rattle.emit.proofs.Writing.{Then}

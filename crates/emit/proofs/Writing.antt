@@ -68,7 +68,8 @@ module _ {whole out rest r more : Bytes} {at : ℕ} (t : Then rest r more) (w : 
       })
 
 -- One byte of `from` after another.
-pub byte-next : (from old : Bytes) (i : ℕ) → i < length from → i < length old → Then (drop i from) (getD from i 0 ∷ []) (drop (i + 1) from) × Wrote old i (getD from i 0 ∷ []) (i + 1) (set old i (getD from i 0))
+pub byte-next : (from old : Bytes) (i : ℕ) → i < length from → i < length old
+    → Then (drop i from) (getD from i 0 ∷ []) (drop (i + 1) from) × Wrote old i (getD from i 0 ∷ []) (i + 1) (set old i (getD from i 0))
 byte-next from old i h k = (record { is = rw add-one (drop-cons from i 0 h) }, record { ends = refl; spliced = splice-byte old i (getD from i 0) k })
 
 pub written-end : {whole out rest : Bytes} {at : ℕ} → rest ≡ [] → Written whole at out rest → out ≡ whole

@@ -7,7 +7,7 @@ use mathlib.Core.List.{List, [], _∷_, List·Memᴰ, List·Memᴰ·head, List·
 use Rattle.model.specs.Lists.{filter, upTo}
 use Rattle.theory.specs.Members.{range→}
 use Rattle.bitset.specs.Bits.{isIn}
-use Rattle.emit.specs.Members.{membersOf}
+use Rattle.bitset.specs.Members.{membersOf}
 
 filter-same : (p q : ℕ → Bool) (l : List ℕ) → ((x : ℕ) → List·Memᴰ x l → p x ≡ q x) → filter p l ≡ filter q l
 unfolding filter

@@ -1,20 +1,10 @@
--- A set of nodes as a rising list. Assumes nothing.
-use Prim.Native.Nat.{ℕ, _*_, _<_, _≤_}
+-- One set among another, and bytes for the members of a set. Assumes nothing.
+use Prim.Native.Nat.{ℕ, _<_}
 use mathlib.Core.Path.{_≡_}
 use mathlib.Core.Bool.{true, cond}
 use mathlib.Core.List.{List, []}
-use lib.ListN.{length}
-use Rattle.model.specs.Lists.{filter, upTo}
 use Rattle.model.specs.Bytes.{Bytes}
-use Rattle.bitset.specs.Bits.{wordBits, isIn}
-
--- The members of s below n, rising.
-unfoldable pub membersOf : ℕ → List ℕ → List ℕ
-membersOf n s = filter (isIn s) (upTo n)
-
--- The words of s have a bit for each number below n.
-abbrev pub HasBits : ℕ → List ℕ → Type 0
-HasBits n s = n ≤ wordBits * length s
+use Rattle.bitset.specs.Bits.{isIn}
 
 -- Each member of a below n is one of s.
 abbrev pub Among : ℕ → List ℕ → List ℕ → Type 0

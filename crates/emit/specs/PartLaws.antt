@@ -6,15 +6,16 @@ use mathlib.Core.Path.{_≡_, refl, sym, _∙_, ap}
 use mathlib.Core.List.{List, [], _∷_, _++_, map, List·Memᴰ, List·Memᴰ·head, List·Memᴰ·tail, append-assoc, map-map}
 use lib.ListN.{length, getD, length-map}
 use Rattle.model.specs.Lists.{concatMap, concat, indexOf, upTo}
-use Rattle.model.specs.Bytes.{Bytes, bytes16, bytes32}
-use Rattle.model.specs.Contents.{entryAt, entries, file}
+use Rattle.model.specs.Bytes.{Bytes, bytes16, bytes32, numberSize}
+use Rattle.model.specs.Contents.{contentsEntrySize, headSize, entryAt, entries, file}
 use Rattle.model.specs.Distance.{Distance}
-use Rattle.model.specs.Oracle.{valueSize, startSize, entrySize, coded, valueBytes, entryBytes, listBytes, starts}
+use Rattle.model.specs.Oracle.{valueSize, startSize, entrySize, listSize, coded, valueBytes, decoded, entryBytes, listBytes, starts}
 use Rattle.theory.specs.RangeLaws.{length-range, getD-map-range}
 use Rattle.theory.specs.Members.{range→}
 use Rattle.theory.specs.FileLaws.{nine, entries-step}
-use Rattle.theory.specs.ReadLaws.{length-concatMap}
-use Rattle.emit.specs.Parts.{entriesOf, headBytes, numbersBytes, timeBytes, rowBytes, startsOf, listSize, listSizes, indexedBytes, listBytesOf}
+use Rattle.theory.specs.ReadLaws.{length-concatMap, length-value, value-recoded}
+use Rattle.theory.specs.ReadLaws as read
+use Rattle.emit.specs.Parts.{entriesOf, headBytes, numbersBytes, timeBytes, rowBytes, startsOf, listSizes, indexedBytes, listBytesOf}
 
 -- ---- lists made number by number
 
@@ -29,20 +30,27 @@ concat-same f g (x ∷ l) h = rw (h x (List·Memᴰ·head refl), concat-same f g
 
 -- ---- how long they are
 
-pub length-numbers : (l : List ℕ) → length (numbersBytes l) ≡ 2 * length l
+pub length-numbers : (l : List ℕ) → length (numbersBytes l) ≡ numberSize * length l
 unfolding numbersBytes
-length-numbers l = length-concatMap bytes16 2 (λ n. unfold bytes16 in refl) l
+length-numbers l = read.length-numbers l
+
+pub length-time : (times : List ℕ) (v : ℕ) → length (timeBytes times v) ≡ valueSize
+unfolding timeBytes
+length-time times v = length-value (decoded (getD times v 0))
+
+pub length-indexed : (times : List ℕ) (index v : ℕ) → length (indexedBytes times index v) ≡ entrySize
+unfolding indexedBytes bytes16
+length-indexed times index v = omega (arith, length-time times v)
 
 pub length-row : (times l : List ℕ) → length (rowBytes times l) ≡ valueSize * length l
 unfolding rowBytes
-length-row times l = length-concatMap (timeBytes times) valueSize (λ n. unfold timeBytes bytes32 bytes16 in refl) l
+length-row times l = length-concatMap (timeBytes times) valueSize (length-time times) l
 
 pub length-list : (times transit access : List ℕ) → length (listBytesOf times transit access) ≡ listSize (length access)
-unfolding listBytesOf listSize bytes16
+unfolding listBytesOf bytes16
 length-list times transit access =
-    let size : (a : ℕ) → length (indexedBytes times (indexOf a transit) a) ≡ entrySize = λ a. unfold indexedBytes timeBytes bytes32 bytes16 in refl in
-    let all : length (concatMap (λ a. indexedBytes times (indexOf a transit) a) access) ≡ entrySize * length access = length-concatMap (λ a. indexedBytes times (indexOf a transit) a) entrySize size access in
-    omega arith
+    let size : (a : ℕ) → length (indexedBytes times (indexOf a transit) a) ≡ entrySize = λ a. length-indexed times (indexOf a transit) a in
+    omega (arith, length-concatMap (λ a. indexedBytes times (indexOf a transit) a) entrySize size access)
 
 pub length-startsOf : (at : ℕ) (sizes : List ℕ) → length (startsOf at sizes) ≡ startSize * length sizes
 unfolding startsOf bytes32 bytes16
@@ -53,14 +61,14 @@ pub length-sizes : (n : ℕ) (counts : List ℕ) → length (listSizes n counts)
 unfolding listSizes
 length-sizes n counts = length-map (upTo n) _ ∙ length-range 0 n
 
-length-entriesOf : (k at : ℕ) (sizes : List ℕ) → length (entriesOf k at sizes) ≡ 9 * length sizes
+length-entriesOf : (k at : ℕ) (sizes : List ℕ) → length (entriesOf k at sizes) ≡ contentsEntrySize * length sizes
 unfolding entriesOf nine bytes32 bytes16
 length-entriesOf k at [] = refl
 length-entriesOf k at (s ∷ ss) = omega (arith, length-entriesOf (suc k) (at + s) ss)
 
 pub length-head : (edition : ℕ) (sizes : List ℕ) → length (headBytes edition sizes) ≡ entryAt (length sizes)
 unfolding headBytes entryAt
-length-head edition sizes = omega (arith, length-entriesOf 0 (2 + 9 * length sizes) sizes)
+length-head edition sizes = omega (arith, length-entriesOf 0 (headSize (length sizes)) sizes)
 
 -- ---- the head of a file: its entries depend on the sizes of the bodies alone
 
@@ -92,10 +100,14 @@ starts-lists f n counts h =
 
 -- ---- rows and lists, with the times as the distances' numbers
 
+pub time-same : (times others : List ℕ) (v : ℕ) → getD times v 0 ≡ getD others v 0 → timeBytes times v ≡ timeBytes others v
+unfolding timeBytes
+time-same times others v e = ap (λ (w : ℕ). valueBytes (decoded w)) e
+
 module _ (d : ℕ → Distance) (n : ℕ) (times : List ℕ) (e : times ≡ map (λ v. coded (d v)) (upTo n)) where
   time-value : (v : ℕ) → v < n → timeBytes times v ≡ valueBytes (d v)
-  unfolding timeBytes valueBytes
-  time-value v h = ap bytes32 (rw e (getD-map-range (λ w. coded (d w)) 0 0 n v h ∙ rw zero-add))
+  unfolding timeBytes
+  time-value v h = ap (λ (w : ℕ). valueBytes (decoded w)) (rw e (getD-map-range (λ w. coded (d w)) 0 0 n v h ∙ rw zero-add)) ∙ value-recoded (d v)
 
   module _ (l : List ℕ) (below : (v : ℕ) → List·Memᴰ v l → v < n) where
     pub row-values : rowBytes times l ≡ concatMap (λ b. valueBytes (d b)) l

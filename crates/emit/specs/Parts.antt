@@ -1,12 +1,12 @@
 -- The parts of an oracle as bytes, from the sizes of the bodies, the members of the sets and the times as words. Assumes nothing.
-use Prim.Native.Nat.{ℕ, suc, _+_, _*_, _<_, _≤_}
+use Prim.Native.Nat.{ℕ, suc, _+_, _<_, _≤_}
 use mathlib.Core.List.{List, [], _∷_, _++_, map}
 use lib.ListN.{length, getD}
 use Rattle.model.specs.Lists.{concatMap, indexOf, upTo}
 use Rattle.model.specs.Bytes.{Bytes, bytes16, bytes32}
 use Rattle.model.specs.Contents.{entryAt}
 use Rattle.model.specs.Network.{maxNodes}
-use Rattle.model.specs.Oracle.{entrySize}
+use Rattle.model.specs.Oracle.{valueBytes, decoded, listSize}
 use Rattle.theory.specs.FileLaws.{nine}
 
 -- ---- the head of a file
@@ -29,8 +29,9 @@ total (s ∷ ss) = s + total ss
 unfoldable pub numbersBytes : List ℕ → Bytes
 numbersBytes l = concatMap bytes16 l
 
+-- The time to b, a word that a search leaves, as a value.
 unfoldable pub timeBytes : List ℕ → ℕ → Bytes
-timeBytes times b = bytes32 (getD times b 0)
+timeBytes times b = valueBytes (decoded (getD times b 0))
 
 unfoldable pub rowBytes : List ℕ → List ℕ → Bytes
 rowBytes times l = concatMap (timeBytes times) l
@@ -41,10 +42,7 @@ unfoldable pub startsOf : ℕ → List ℕ → Bytes
 startsOf at [] = []
 startsOf at (s ∷ ss) = bytes32 at ++ startsOf (at + s) ss
 
--- The size of a list with this number of entries, and of the first n lists.
-unfoldable pub listSize : ℕ → ℕ
-listSize count = 2 + entrySize * count
-
+-- The sizes of the first n lists.
 unfoldable pub listSizes : ℕ → List ℕ → List ℕ
 listSizes n counts = map (λ v. listSize (getD counts v 0)) (upTo n)
 

@@ -3,6 +3,7 @@ ghost use mathlib.Core.Path.{_≡_};
 ghost use Prim.Native.Nat.{_≤_};
 ghost use lib.ListN.{length};
 ghost use Rattle.model.specs.Bytes.{bytes16, bytes32};
+ghost use Rattle.model.specs.Oracle.{valueBytes, decoded};
 ghost use Rattle.emit.specs.Records.{compared};
 use codec::bytes::byte;
 use codec::records::NUMBER_SIZE;
@@ -30,7 +31,7 @@ pub fn same16(b: &[u8], at: usize, x: u32) -> Compared
     Compared::Same(at + NUMBER_SIZE)
 }
 
-pub fn same32(b: &[u8], at: usize, x: u32) -> Compared
+fn same32(b: &[u8], at: usize, x: u32) -> Compared
     requires { ⌜ at ≤ length (now b) ⌝ }
     ensures { λ r. ⌜ r ≡ compared (now (b .entry)) at (bytes32 x) ⌝ }
 {
@@ -38,4 +39,12 @@ pub fn same32(b: &[u8], at: usize, x: u32) -> Compared
         return Compared::Differs;
     };
     same16(b, next, x / 65536)
+}
+
+// A distance as bodies 6 and 7 have it.
+pub fn same_value(b: &[u8], at: usize, x: u32) -> Compared
+    requires { ⌜ at ≤ length (now b) ⌝ }
+    ensures { λ r. ⌜ r ≡ compared (now (b .entry)) at (valueBytes (decoded x)) ⌝ }
+{
+    same32(b, at, x)
 }

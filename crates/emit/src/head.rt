@@ -7,7 +7,9 @@ ghost use Rattle.model.specs.Contents.{entryAt, oracleEntries};
 ghost use Rattle.theory.specs.FileLaws.{nine};
 ghost use Rattle.emit.specs.Parts.{headBytes, total};
 use codec::bytes::write32;
+use contents::OFFSET_AT;
 use contents::ORACLE_ENTRIES;
+use contents::SIZE_AT;
 use contents::entry_at;
 
 // Entry k: its kind, and the offset and the size of its body.
@@ -17,8 +19,8 @@ fn write_entry(k: usize, offset: u32, size: u32, out: &mut [u8])
 {
     let at = entry_at(k);
     out[at] = (k + 1) as u8;
-    write32(out, at + 1, offset);
-    write32(out, at + 5, size);
+    write32(out, at + OFFSET_AT, offset);
+    write32(out, at + SIZE_AT, size);
 }
 
 // The head of an oracle with bodies of these sizes, each offset where the bodies before it end.

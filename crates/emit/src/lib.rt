@@ -3,7 +3,6 @@ pub mod compare;
 pub mod copy;
 pub mod head;
 pub mod lists;
-pub mod members;
 pub mod numbers;
 pub mod rows;
 pub mod starts;

@@ -4,21 +4,23 @@ ghost use Prim.Native.Nat.{_+_, _/_, _<_, _≤_};
 ghost use lib.ListN.{length};
 ghost use Rattle.model.specs.Lists.{equal};
 ghost use Rattle.model.specs.Network.{maxNodes};
+ghost use Rattle.model.specs.Oracle.{listSize};
 ghost use Rattle.bitset.specs.Bits.{wordBits};
-ghost use Rattle.emit.specs.Members.{membersOf, HasBits, Among, ifIn};
-ghost use Rattle.emit.specs.Parts.{indexedBytes, listSize, listBytesOf};
+ghost use Rattle.bitset.specs.Members.{membersOf, HasBits};
+ghost use Rattle.emit.specs.Members.{Among, ifIn};
+ghost use Rattle.emit.specs.Parts.{indexedBytes, listBytesOf};
 ghost use Rattle.emit.specs.Records.{Wrote, compared};
 use crate::compare::Compared;
+use crate::compare::same_value;
 use crate::compare::same16;
-use crate::compare::same32;
-use crate::members::count;
-use crate::members::flag_of;
 use bitset::bits::contains;
+use bitset::counts::count;
+use bitset::counts::flag_of;
 use codec::bytes::write16;
-use codec::bytes::write32;
 use codec::records::COUNT_SIZE;
 use codec::records::LIST_ENTRY_SIZE;
 use codec::records::NUMBER_SIZE;
+use codec::values::write_value;
 
 // Writes the index and the time of v at `at`, where v is an access node, and answers where they end.
 fn write_entry(
@@ -36,7 +38,7 @@ fn write_entry(
         return at;
     }
     write16(out, at, index);
-    write32(out, at + NUMBER_SIZE, times[v]);
+    write_value(out, at + NUMBER_SIZE, times[v]);
     at + LIST_ENTRY_SIZE
 }
 
@@ -46,7 +48,7 @@ pub fn write_list(n: usize, access: &[u32], transit: &[u32], times: &[u32], out:
     requires { ⌜ Among n (now access) (now transit) × (length (now out) ≡ listSize (length (membersOf n (now access)))) ⌝ }
     ensures { λ _. ⌜ now (out .exit) ≡ listBytesOf (now (times .entry)) (membersOf n (now (transit .entry))) (membersOf n (now (access .entry))) ⌝ }
 {
-    write16(out, 0, count(n, access));
+    write16(out, 0, count(n, access) as u32);
     let mut at = COUNT_SIZE;
     // The number of transit nodes below v: the index of v where v is one.
     let mut rank = 0;
@@ -69,7 +71,7 @@ fn same_entry(access: &[u32], times: &[u32], u: usize, index: u32, b: &[u8], at:
     let Compared::Same(next) = same16(b, at, index) else {
         return Compared::Differs;
     };
-    same32(b, next, times[u])
+    same_value(b, next, times[u])
 }
 
 // Whether b, of any length, is that list.
@@ -77,7 +79,7 @@ pub fn same_list(n: usize, access: &[u32], transit: &[u32], times: &[u32], b: &[
     requires { ⌜ (n ≤ maxNodes) × HasBits n (now access) × HasBits n (now transit) × (n ≤ length (now times)) × Among n (now access) (now transit) ⌝ }
     ensures { λ r. ⌜ r ≡ equal (now (b .entry)) (listBytesOf (now (times .entry)) (membersOf n (now (transit .entry))) (membersOf n (now (access .entry)))) ⌝ }
 {
-    let Compared::Same(first) = same16(b, 0, count(n, access)) else {
+    let Compared::Same(first) = same16(b, 0, count(n, access) as u32) else {
         return false;
     };
     let mut at = first;

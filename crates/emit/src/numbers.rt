@@ -3,10 +3,11 @@ ghost use mathlib.Core.Path.{_≡_};
 ghost use Prim.Native.Nat.{_+_, _*_, _/_, _<_, _≤_};
 ghost use lib.ListN.{length};
 ghost use Rattle.model.specs.Lists.{equal};
-ghost use Rattle.model.specs.Bytes.{bytes16};
+ghost use Rattle.model.specs.Bytes.{bytes16, numberSize};
 ghost use Rattle.model.specs.Network.{maxNodes};
 ghost use Rattle.bitset.specs.Bits.{wordBits};
-ghost use Rattle.emit.specs.Members.{membersOf, HasBits, ifIn};
+ghost use Rattle.bitset.specs.Members.{membersOf, HasBits};
+ghost use Rattle.emit.specs.Members.{ifIn};
 ghost use Rattle.emit.specs.Parts.{numbersBytes};
 ghost use Rattle.emit.specs.Records.{Wrote, compared};
 use crate::compare::Compared;
@@ -29,7 +30,7 @@ fn write_number(set: &[u32], v: usize, out: &mut [u8], at: usize) -> usize
 
 // The members below n.
 pub fn write_numbers(n: usize, set: &[u32], out: &mut [u8])
-    requires { ⌜ (n ≤ maxNodes) × HasBits n (now set) × (length (now out) ≡ 2 * length (membersOf n (now set))) ⌝ }
+    requires { ⌜ (n ≤ maxNodes) × HasBits n (now set) × (length (now out) ≡ numberSize * length (membersOf n (now set))) ⌝ }
     ensures { λ _. ⌜ now (out .exit) ≡ numbersBytes (membersOf n (now (set .entry))) ⌝ }
 {
     let mut at = 0;

@@ -5,24 +5,25 @@ ghost use lib.ListN.{length};
 ghost use Rattle.model.specs.Lists.{equal};
 ghost use Rattle.model.specs.Oracle.{valueSize};
 ghost use Rattle.bitset.specs.Bits.{wordBits};
-ghost use Rattle.emit.specs.Members.{membersOf, HasBits, ifIn};
+ghost use Rattle.bitset.specs.Members.{membersOf, HasBits};
+ghost use Rattle.emit.specs.Members.{ifIn};
 ghost use Rattle.emit.specs.Parts.{timeBytes, rowBytes};
 ghost use Rattle.emit.specs.Records.{Wrote, compared};
 use crate::compare::Compared;
-use crate::compare::same32;
+use crate::compare::same_value;
 use bitset::bits::contains;
-use codec::bytes::write32;
 use codec::records::VALUE_SIZE;
+use codec::values::write_value;
 
 // Writes the time of v at `at`, where the set has v, and answers where that ends.
-fn write_value(set: &[u32], times: &[u32], v: usize, out: &mut [u8], at: usize) -> usize
+fn write_time(set: &[u32], times: &[u32], v: usize, out: &mut [u8], at: usize) -> usize
     requires { ⌜ (v < length (now times)) × (v / wordBits < length (now set)) × (at + length (ifIn (now set) v (timeBytes (now times) v)) ≤ length (now out)) ⌝ }
     ensures { λ r. ⌜ Wrote (now (out .entry)) at (ifIn (now (set .entry)) v (timeBytes (now (times .entry)) v)) r (now (out .exit)) ⌝ }
 {
     if !contains(set, v) {
         return at;
     }
-    write32(out, at, times[v]);
+    write_value(out, at, times[v]);
     at + VALUE_SIZE
 }
 
@@ -34,20 +35,20 @@ pub fn write_row(n: usize, set: &[u32], times: &[u32], out: &mut [u8])
     let mut at = 0;
     let mut v = 0;
     while v < n {
-        at = write_value(set, times, v, out, at);
+        at = write_time(set, times, v, out, at);
         v += 1;
     }
 }
 
 // Compares the time of u with what stands at `at`, where the set has u.
-fn same_value(set: &[u32], times: &[u32], u: usize, b: &[u8], at: usize) -> Compared
+fn same_time(set: &[u32], times: &[u32], u: usize, b: &[u8], at: usize) -> Compared
     requires { ⌜ (u < length (now times)) × (u / wordBits < length (now set)) × (at ≤ length (now b)) ⌝ }
     ensures { λ r. ⌜ r ≡ compared (now (b .entry)) at (ifIn (now (set .entry)) u (timeBytes (now (times .entry)) u)) ⌝ }
 {
     if !contains(set, u) {
         return Compared::Same(at);
     }
-    same32(b, at, times[u])
+    same_value(b, at, times[u])
 }
 
 // Whether b, of any length, is that row.
@@ -58,7 +59,7 @@ pub fn same_row(n: usize, set: &[u32], times: &[u32], b: &[u8]) -> bool
     let mut at = 0;
     let mut u = 0;
     while u < n {
-        let Compared::Same(next) = same_value(set, times, u, b, at) else {
+        let Compared::Same(next) = same_time(set, times, u, b, at) else {
             return false;
         };
         at = next;

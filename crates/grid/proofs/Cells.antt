@@ -11,13 +11,14 @@ use Rattle.model.specs.Lists.{least, greatest}
 use Rattle.model.specs.Bytes.{Bytes}
 use Rattle.model.specs.Network.{node, nodes, nodeCount, nodesBroken, coordinatesBroken}
 use Rattle.model.specs.Grid as model
-use Rattle.model.specs.Grid.{gridOver, cellIndex, cellOf, cells, cellAt, within, kindOf, gridBroken, maxGrid, outerRadius}
+use Rattle.model.specs.Grid.{gridOver, cellIndex, cellOf, cells, cellAt, within, kindOf, gridBroken, maxGrid}
+use Rattle.model.specs.declared.Division.{Division}
 use Rattle.model.specs.declared.Kind.the-variants.{Far, Local}
 use Rattle.theory.specs.RangeLaws.{getD-map-range}
 use Rattle.theory.specs.Passed.{or-false}
 use Rattle.theory.specs.Extremes.{least-le, greatest-ge}
 use Rattle.theory.specs.GridLaws.{index-below}
-use Rattle.grid.specs.Stored.{gridOf, along, origin, Over, Holds, maxSpread}
+use Rattle.grid.specs.Stored.{gridOf, divisionOf, along, origin, Over, Holds, maxSpread}
 use Rattle.grid.specs.declared.Grid.{Grid}
 use Rattle.grid.proofs.Spans.{every}
 use Rattle.grid.proofs.Bounds.{in-every, every-most}
@@ -34,11 +35,12 @@ unfolding gridBroken
 g-bounds g h = let p = or-false (ltb g 1) (ltb maxGrid g) h in (ltb-false g 1 (p .0), ltb-false maxGrid g (p .1))
 
 -- What `Grid::over` hands back for an accepted network.
-pub over-made : (r : Grid) (b : Bytes) (g : ℕ) → gridOf r ≡ gridOver g (nodes b) → nodesBroken b ≡ false → coordinatesBroken b ≡ false → gridBroken g ≡ false → Over r b
+pub over-made : (r : Grid) (b : Bytes) (dv : Division) → gridOf r ≡ gridOver dv (nodes b) → nodesBroken b ≡ false → coordinatesBroken b ≡ false → gridBroken (dv .g) ≡ false → Over r b
 unfolding gridOver
-over-made r b g e n c k =
-    let q : r .g ≡ g = ap (λ (m : model.Grid). m .g) e in
-    record { made = subst (λ (k : ℕ). gridOf r ≡ gridOver k (nodes b)) (sym q) e; nodes-rule = n; coordinates = c; grid-rule = rw q k }
+over-made r b dv e n c k =
+    let p : r .g ≡ dv .g = ap (λ (m : model.Grid). m .g) e in
+    let q : divisionOf r ≡ dv = λ i. record { g = p i } in
+    record { made = subst (λ (d : Division). gridOf r ≡ gridOver d (nodes b)) (sym q) e; nodes-rule = n; coordinates = c; grid-rule = rw p k }
 
 module _ {r : Grid} {b : Bytes} (over : Over r b) where
   starts : (d : Bool) → origin d r ≡ least (every d b)
@@ -51,7 +53,8 @@ module _ {r : Grid} {b : Bytes} (over : Over r b) where
   spreads = ap (λ (m : model.Grid). m .spread) (over .made)
 
   pub holds : (d : Bool) (i : ℕ) → i < nodeCount b → Holds r (origin d r) (along d (node b i))
-  holds d i h = record { least = omega (arith, starts d, mid); most = omega (arith, starts d, mid, wide d); narrow = omega (arith, spreads, every-most false b (over .coordinates), every-most true b (over .coordinates)); some = bounds .0; few = bounds .1 }
+  holds d i h = record { least = omega (arith, starts d, mid); most = omega (arith, starts d, mid, wide d); narrow =
+      omega (arith, spreads, every-most false b (over .coordinates), every-most true b (over .coordinates)); some = bounds .0; few = bounds .1 }
     where
       bounds : (0 < r .g) × (r .g ≤ maxGrid)
       bounds = g-bounds (r .g) (over .grid-rule)
@@ -79,9 +82,9 @@ cell-at grid b i h = rw map-map (getD-map-range (λ k. cellOf grid (node b k)) _
 
 -- ---- far and local
 
-pub kind-far : (c e : model.Cell) → kindOf c e ≡ cond (not (within outerRadius c e)) Far Local
+pub kind-far : (grid : model.Grid) (c e : model.Cell) → kindOf grid c e ≡ cond (not (within (grid .outer) c e)) Far Local
 unfolding kindOf
-kind-far c e = step (within outerRadius c e)
+kind-far grid c e = step (within (grid .outer) c e)
   where
     step : (w : Bool) → cond w Local Far ≡ cond (not w) Far Local
     step true = refl

@@ -33,7 +33,8 @@ module _ (d : Bool) (b : Bytes) (n : ℕ) where
   spans-first e h x q = record { low = rw (every-split e h, ← q); high = rw (every-split e h, ← q) }
 
   module _ (i : ℕ) (s t : Span) where
-    pub spans-next : i < n → (x : ℕ) → x ≡ along d (node b i) → (t .low ≡ min (s .low) x) × (t .high ≡ max (s .high) x) → Spans s (onward d b i n) (every d b) → Spans t (onward d b (i + 1) n) (every d b)
+    pub spans-next : i < n → (x : ℕ) → x ≡ along d (node b i) → (t .low ≡ min (s .low) x) × (t .high ≡ max (s .high) x) → Spans s (onward d b i n) (every d b)
+        → Spans t (onward d b (i + 1) n) (every d b)
     unfolding leastOf greatestOf
     spans-next h x q r p = record { low = p .low ∙ rw (rest-step i n h, r .0, q); high = p .high ∙ rw (rest-step i n h, r .1, q) }
 

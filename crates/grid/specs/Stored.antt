@@ -5,11 +5,17 @@ use mathlib.Core.Bool.{Bool, true, false}
 use Rattle.model.specs.Bytes.{Bytes}
 use Rattle.model.specs.Network.{Node, nodes, maxMetres, nodesBroken, coordinatesBroken}
 use Rattle.model.specs.Grid as model
+use Rattle.model.specs.declared.Division.{Division}
 use Rattle.grid.specs.declared.Grid.{Grid}
 use Rattle.grid.specs.declared.Cell.{Cell}
 
+-- The radii are the constants of the code's grid.
 abbrev pub gridOf : Grid → model.Grid
-gridOf r = record { g = r .g; left = r .left; bottom = r .bottom; spread = r .spread }
+gridOf r = record { g = r .g; inner = model.innerRadius; outer = model.outerRadius; left = r .left; bottom = r .bottom; spread = r .spread }
+
+-- The division that a grid is made by.
+abbrev pub divisionOf : Grid → Division
+divisionOf r = record { g = r .g }
 
 abbrev pub modelCell : Cell → model.Cell
 modelCell c = record { column = c .column; row = c .row }
@@ -23,9 +29,9 @@ abbrev pub origin : Bool → Grid → ℕ
 origin false r = r .left
 origin true r = r .bottom
 
--- The grid is the one over the nodes body b, for its own g, and no rule about the two is broken.
+-- The grid is the one over the nodes body b, under its own division, and no rule about the two is broken.
 pub record Over (r : Grid) (b : Bytes) : Type 0 where
-  pub made : gridOf r ≡ model.gridOver (r .g) (nodes b)
+  pub made : gridOf r ≡ model.gridOver (divisionOf r) (nodes b)
   pub nodes-rule : nodesBroken b ≡ false
   pub coordinates : coordinatesBroken b ≡ false
   pub grid-rule : model.gridBroken (r .g) ≡ false

@@ -3,7 +3,7 @@ ghost use mathlib.Core.Path.{_≡_};
 ghost use mathlib.Core.Bool.{not, false};
 ghost use Prim.Native.Nat.{_+_, _-_, _<_, _≤_, min};
 ghost use Rattle.model.specs.Network.{node, nodes, nodeCount, nodesBroken};
-ghost use Rattle.model.specs.Grid.{gridOver, cellIndex, cellOf, gap, within, kindOf, innerRadius, outerRadius};
+ghost use Rattle.model.specs.Grid.{gridOver, cellIndex, cellOf, gap, within, kindOf};
 ghost use Rattle.grid.specs.Stored.{gridOf, modelCell, Over, Holds};
 ghost use Rattle.grid.specs.Squares.{Bounded, SquareOf, startOf};
 use crate::span::Span;
@@ -11,6 +11,7 @@ use crate::span::larger;
 use crate::square::Square;
 use codec::records::node_x;
 use codec::records::node_y;
+use model::Division;
 use model::Kind;
 
 mod span;
@@ -56,21 +57,9 @@ impl Grid {
 
     pub const OUTER: u32 = 4;
 
-    pub fn inner_radius() -> u32
-        ensures { λ r. ⌜ r ≡ innerRadius ⌝ }
-    {
-        Grid::INNER
-    }
-
-    pub fn outer_radius() -> u32
-        ensures { λ r. ⌜ r ≡ outerRadius ⌝ }
-    {
-        Grid::OUTER
-    }
-
-    pub fn over(b: &[u8], g: u32) -> Grid
+    pub fn over(b: &[u8], dv: Division) -> Grid
         requires { ⌜ nodesBroken (now b) ≡ false ⌝ }
-        ensures { λ r. ⌜ gridOf r ≡ gridOver g (nodes (now (b .entry))) ⌝ }
+        ensures { λ r. ⌜ gridOf r ≡ gridOver dv (nodes (now (b .entry))) ⌝ }
     {
         let across = Span::over(b, false);
         let up = Span::over(b, true);
@@ -78,7 +67,7 @@ impl Grid {
         let bottom = up.low;
         let spread = larger(across.high - left, up.high - bottom);
         Grid {
-            g,
+            g: dv.g,
             left,
             bottom,
             spread,
@@ -153,23 +142,39 @@ impl Grid {
         }
     }
 
+    // The squares about the cell c that document 01 names inner and outer.
+    pub fn inner_square(self, c: Cell) -> Square
+        requires { ⌜ Bounded self ⌝ }
+        ensures { λ s. ⌜ SquareOf self (modelCell c) (gridOf self .inner) s ⌝ }
+    {
+        self.square(c, Grid::INNER)
+    }
+
+    pub fn outer_square(self, c: Cell) -> Square
+        requires { ⌜ Bounded self ⌝ }
+        ensures { λ s. ⌜ SquareOf self (modelCell c) (gridOf self .outer) s ⌝ }
+    {
+        self.square(c, Grid::OUTER)
+    }
+
     // The cell e is in the square of radius r about the cell c.
-    pub fn within(r: u32, c: Cell, e: Cell) -> bool
+    fn within(r: u32, c: Cell, e: Cell) -> bool
         ensures { λ w. ⌜ w ≡ within r (modelCell c) (modelCell e) ⌝ }
     {
         difference(e.column, c.column) <= r && difference(e.row, c.row) <= r
     }
 
-    pub fn is_far(c: Cell, e: Cell) -> bool
-        ensures { λ r. ⌜ r ≡ not (within outerRadius (modelCell c) (modelCell e)) ⌝ }
+    // The cells c and e are far.
+    pub fn is_far(self, c: Cell, e: Cell) -> bool
+        ensures { λ r. ⌜ r ≡ not (within (gridOf self .outer) (modelCell c) (modelCell e)) ⌝ }
     {
         !Grid::within(Grid::OUTER, c, e)
     }
 
-    pub fn kind(c: Cell, e: Cell) -> Kind
-        ensures { λ r. ⌜ r ≡ kindOf (modelCell c) (modelCell e) ⌝ }
+    pub fn kind(self, c: Cell, e: Cell) -> Kind
+        ensures { λ r. ⌜ r ≡ kindOf (gridOf self) (modelCell c) (modelCell e) ⌝ }
     {
-        if Grid::is_far(c, e) {
+        if self.is_far(c, e) {
             Kind::Far
         } else {
             Kind::Local

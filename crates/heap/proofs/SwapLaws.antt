@@ -6,15 +6,18 @@ use mathlib.Core.Path.{_≡_, refl, sym, ap, _∙_}
 use mathlib.Core.Logic.{_≢_}
 use mathlib.Core.List.{List}
 use lib.ListN.{length, take}
-use Rattle.heap.specs.Words.{Placed, time, node, position, key, putNode, putPosition, swapped}
+use Rattle.words.specs.Regions.{timesIn}
+use Rattle.words.specs.Times.{time}
+use Rattle.words.proofs.TimeLaws.{time-same}
+use Rattle.heap.specs.Words.{Placed, node, position, key, putNode, putPosition, swapped}
 use Rattle.heap.specs.Sifts.{Kept}
 use Rattle.heap.proofs.OrderLaws.{Exchanged}
-use Rattle.heap.proofs.WordLaws.{time-same, node-here, node-apart, put-positions, put-node-times, put-node-size, position-here, position-apart, put-nodes, put-position-times, put-position-size}
+use Rattle.heap.proofs.WordLaws.{node-here, node-apart, put-positions, put-node-times, put-node-size, position-here, position-apart, put-nodes, put-position-times, put-position-size}
 
 -- What an exchange says of the nodes and the times.
 pub record Swapped (n i j : ℕ) (w w′ : List ℕ) : Type 0 where
   pub placed : Placed n w′
-  pub times : take n w′ ≡ take n w
+  pub times : timesIn n w′ ≡ timesIn n w
   pub first : node n w′ i ≡ node n w j
   pub second : node n w′ j ≡ node n w i
   pub others : (m : ℕ) → m < n → m ≢ i → m ≢ j → node n w′ m ≡ node n w m
@@ -69,7 +72,7 @@ module _ (n i j : ℕ) (w : List ℕ) (p : Placed n w) (i-in : i < n) (j-in : j 
   unfolding swapped
   swap-size = put-position-size n b w₃ in₃ i ∙ size₃
 
-  swap-times : take n w′ ≡ take n w
+  swap-times : timesIn n w′ ≡ timesIn n w
   unfolding swapped
   swap-times = put-position-times n b w₃ in₃ i ∙ put-position-times n a w₂ in₂ j ∙ put-node-times n j w₁ in₁ a ∙ put-node-times n i w in₀ b
 
@@ -176,7 +179,7 @@ module _ (n i j : ℕ) (w w′ : List ℕ) (s : Swapped n i j w w′) where
   swap-kept k h l = record { placed = s .placed; times = s .times; beyond = λ m b c. s .others m c (λ e. omega arith) (λ e. omega arith) }
 
   key-of : (m : ℕ) → m < n → (m′ : ℕ) → node n w′ m ≡ node n w m′ → key n w′ m ≡ key n w m′
-  key-of m h m′ e = time-same n w w′ (s .times) (node n w′ m) (s .placed .nodes m h) ∙ ap (time w) e
+  key-of m h m′ e = time-same n w w′ (s .times) (node n w′ m) (s .placed .nodes m h) ∙ ap (time n w) e
 
   pub swap-keys : (k : ℕ) → k ≤ n → i < n → j < n → Exchanged k i j (key n w) (key n w′)
   swap-keys k h i-in j-in = record {

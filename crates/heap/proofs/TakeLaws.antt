@@ -6,13 +6,14 @@ use mathlib.Core.Path.{_≡_, ap, subst, _∙_}
 use mathlib.Core.Logic.{_≢_}
 use mathlib.Core.List.{List}
 use Rattle.model.specs.Oracle.{noWalk}
-use Rattle.heap.specs.Words.{Placed, time, node, position, key, swapped}
+use Rattle.words.specs.Times.{time}
+use Rattle.words.proofs.TimeLaws.{time-same}
+use Rattle.heap.specs.Words.{Placed, node, position, key, swapped}
 use Rattle.heap.specs.Order.{OrderedDown}
 use Rattle.heap.specs.Levels.{Down}
 use Rattle.heap.specs.Sifts.{Kept, Sifted}
 use Rattle.heap.specs.Queue.{Queue, Taken}
 use Rattle.heap.proofs.OrderLaws.{least-first, taken-down}
-use Rattle.heap.proofs.WordLaws.{time-same}
 use Rattle.heap.proofs.SwapLaws.{Swapped, swap-is, swap-kept, swap-keys, kept-more, kept-then, stood, stood-before}
 use Rattle.heap.proofs.StoreLaws.{queue-of}
 
@@ -101,7 +102,7 @@ module _ (n k e : ℕ) (w : List ℕ) (q : Queue n k e w) (some : 0 < k) where
       first : position n w (node n w 0) ≡ 0
       first = q .placed .back 0 zero-in
 
-      near-is : time w (node n w 0) < noWalk
+      near-is : time n w (node n w 0) < noWalk
       near-is = q .reached (node n w 0) (q .placed .nodes 0 zero-in) (omega (arith, first))
 
       to₂ : Kept n e w w₂
@@ -110,23 +111,23 @@ module _ (n k e : ℕ) (w : List ℕ) (q : Queue n k e w) (some : 0 < k) where
       all : Kept n e w w′
       all = kept-then n e w w₂ w′ to₂ (kept-more n (k - 1) e w₂ w′ (omega (arith, k-le)) (d .kept))
 
-      low : (v : ℕ) → v < n → position n w′ v < k - 1 → time w₂ v < noWalk
+      low : (v : ℕ) → v < n → position n w′ v < k - 1 → time n w₂ v < noWalk
       low v i r =
           let r₂ = stood-before n (k - 1) w₂ w′ (t .placed) (d .kept .placed) (d .kept .beyond) v i r in
           let a = stood₂ (position n w₂ v) r₂ in
           let b = ap (position n w) (t .placed .there v i) in
           omega (arith, time-same n w w₂ (to₂ .times) v i, q .reached v i (omega arith))
 
-      high : (v : ℕ) → v < n → k - 1 ≤ position n w′ v → position n w′ v < e - 1 → noWalk ≤ time w₂ v
+      high : (v : ℕ) → v < n → k - 1 ≤ position n w′ v → position n w′ v < e - 1 → noWalk ≤ time n w₂ v
       high v i r r′ =
           let c = stood n (k - 1) w₂ w′ (t .placed) (d .kept .placed) (d .kept .beyond) v i r in
           let a = stood₃ (position n w₂ v) (omega arith) (omega arith) in
           let b = ap (position n w) (t .placed .there v i) in
           omega (arith, time-same n w w₂ (to₂ .times) v i, q .unreached v i (omega arith) (omega arith))
 
-      pick : (v : ℕ) → v < n → position n w v < e → Dec (k ≤ position n w v) → time w (node n w 0) ≤ time w v
+      pick : (v : ℕ) → v < n → position n w v < e → Dec (k ≤ position n w v) → time n w (node n w 0) ≤ time n w v
       pick v i h (yes l) = omega (arith, near-is, q .unreached v i l h)
-      pick v i h (no l) = omega (arith, least-first k (key n w) (q .order) (position n w v) (omega arith), ap (time w) (q .placed .there v i))
+      pick v i h (no l) = omega (arith, least-first k (key n w) (q .order) (position n w v) (omega arith), ap (time n w) (q .placed .there v i))
 
 -- ---- for the code: the words after each exchange, and the node that it has read
 module _ (n k e : ℕ) (w : List ℕ) (q : Queue n k e w) (some : 0 < k) (w₁ : List ℕ) (s : w₁ ≡ swapped n 0 (k - 1) w) where

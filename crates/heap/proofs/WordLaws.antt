@@ -7,11 +7,8 @@ use mathlib.Core.Logic.{_≢_}
 use mathlib.Core.List.{List}
 use lib.ListN.{length, getD, set, take, length-set}
 use lib.Seq.{getD-set-same, getD-set-other, take-set-le, getD-take}
-use Rattle.heap.specs.Words.{half, time, node, position, putNode, putPosition}
-
-pub time-same : (n : ℕ) (w w′ : List ℕ) → take n w′ ≡ take n w → (v : ℕ) → v < n → time w′ v ≡ time w v
-unfolding time
-time-same n w w′ e v h = sym (getD-take n w′ v 0 h) ∙ ap (λ (l : List ℕ). getD l v 0) e ∙ getD-take n w v 0 h
+use Rattle.words.specs.Regions.{timesIn}
+use Rattle.heap.specs.Words.{half, node, position, putNode, putPosition}
 
 module _ (n i : ℕ) (w : List ℕ) (i-in : n + i < length w) where
   abbrev x : ℕ
@@ -35,7 +32,7 @@ module _ (n i : ℕ) (w : List ℕ) (i-in : n + i < length w) where
   unfolding node putNode
   node-apart v m ne = ap (λ (y : ℕ). y % half) (getD-set-other w (n + i) (n + m) (x / half * half + v) 0 (λ e. ne (omega arith)))
 
-  pub put-node-times : (v : ℕ) → take n (putNode n i v w) ≡ take n w
+  pub put-node-times : (v : ℕ) → timesIn n (putNode n i v w) ≡ timesIn n w
   unfolding putNode
   put-node-times v = take-set-le n w (n + i) (x / half * half + v) (omega arith)
 
@@ -61,7 +58,7 @@ module _ (n i : ℕ) (w : List ℕ) (i-in : n + i < length w) where
     unfolding position putPosition
     position-apart u ne = ap (λ (y : ℕ). y / half) (getD-set-other w (n + i) (n + u) (p * half + x % half) 0 (λ e. ne (omega arith)))
 
-    pub put-position-times : take n (putPosition n i p w) ≡ take n w
+    pub put-position-times : timesIn n (putPosition n i p w) ≡ timesIn n w
     unfolding putPosition
     put-position-times = take-set-le n w (n + i) (p * half + x % half) (omega arith)
 

@@ -4,6 +4,7 @@ use mathlib.Core.Path.{_≡_}
 use mathlib.Core.Logic.{_≢_}
 use mathlib.Core.List.{List}
 use lib.ListN.{take}
+use Rattle.words.specs.Regions.{timesIn}
 use Rattle.heap.specs.Words.{Placed, node, key, swapped}
 use Rattle.heap.specs.Order.{Ordered}
 use Rattle.heap.specs.Levels.{Few}
@@ -11,7 +12,7 @@ use Rattle.heap.specs.Levels.{Few}
 -- The nodes of the first k positions may have changed their positions, and nothing else.
 pub record Kept (n k : ℕ) (w w′ : List ℕ) : Type 0 where
   pub placed : Placed n w′
-  pub times : take n w′ ≡ take n w
+  pub times : timesIn n w′ ≡ timesIn n w
   pub beyond : (m : ℕ) → k ≤ m → m < n → node n w′ m ≡ node n w m
 
 -- One level on from i, upwards or downwards: it leads to r, which is i where the node belongs there. Partly is what holds of the keys as long as it may go on.

@@ -4,6 +4,7 @@ use mathlib.Core.Path.{_≡_}
 use mathlib.Core.List.{List}
 use lib.ListN.{length, getD, set}
 use Rattle.model.specs.Network.{maxNodes}
+use Rattle.words.specs.Times.{time}
 
 -- What a half counts up to.
 abbrev pub half : ℕ
@@ -16,10 +17,6 @@ low x = x % half
 unfoldable pub own : ℕ → ℕ
 own v = v * half + v
 
--- The time of node v.
-unfoldable pub time : List ℕ → ℕ → ℕ
-time w v = getD w v 0
-
 -- The node at position i.
 unfoldable pub node : ℕ → List ℕ → ℕ → ℕ
 node n w i = getD w (n + i) 0 % half
@@ -30,7 +27,7 @@ position n w v = getD w (n + v) 0 / half
 
 -- The time of the node at position i.
 abbrev pub key : ℕ → List ℕ → ℕ → ℕ
-key n w i = time w (node n w i)
+key n w i = time n w (node n w i)
 
 -- Each of n nodes stands at one of n positions, and each position has one node.
 pub record Placed (n : ℕ) (w : List ℕ) : Type 0 where

@@ -5,7 +5,7 @@ ghost use Prim.Native.Nat.{_≤_};
 ghost use lib.ListN.{length};
 ghost use Rattle.model.specs.Lists.{upTo};
 ghost use Rattle.heap.specs.Words.{half, low, own};
-use crate::words::HALF;
+use crate::positions::HALF;
 
 // Each node at the position of its own number.
 pub fn number(s: &mut [u32])

@@ -2,4 +2,4 @@
 pub mod halves;
 pub mod queue;
 pub mod sift;
-pub mod words;
+pub mod positions;

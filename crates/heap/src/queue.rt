@@ -2,20 +2,24 @@
 ghost use Prim.Native.Nat.{_+_, _<_, _≤_};
 ghost use lib.ListN.{take};
 ghost use Rattle.model.specs.Oracle.{noWalk};
-ghost use Rattle.heap.specs.Words.{position, time};
+ghost use Rattle.words.specs.Regions.{timesIn};
+ghost use Rattle.words.specs.Times.{time};
+ghost use Rattle.heap.specs.Words.{position};
 ghost use Rattle.heap.specs.Queue.{Queue, Went, Entered, Lowered, Taken, lowered};
 use crate::sift::down;
 use crate::sift::up;
-use crate::words::node_at;
-use crate::words::position_of;
-use crate::words::swap;
+use crate::positions::node_at;
+use crate::positions::position_of;
+use crate::positions::swap;
+use words::times::store_time;
+use words::times::time_of;
 
 // The node v, which is not reached yet, enters with x seconds: it comes behind the nodes held, and rises past at most 12 levels.
 fn enter(w: &mut [u32], n: usize, k: usize, e: usize, v: usize, x: u32)
     requires { ⌜ Queue n k e (now w) × (v < n) × (k ≤ position n (now w) v) × (position n (now w) v < e) × (x < noWalk) ⌝ }
     ensures { λ _. ⌜ Entered n k e v x (now (w .entry)) (now (w .exit)) ⌝ }
 {
-    w[v] = x;
+    store_time(w, n, v, x);
     let p = position_of(w, n, v);
     swap(w, n, k, p);
     up(w, n, k + 1, k);
@@ -23,10 +27,10 @@ fn enter(w: &mut [u32], n: usize, k: usize, e: usize, v: usize, x: u32)
 
 // The node v, which is held, is lowered to x seconds: it rises past at most 12 levels.
 fn lower(w: &mut [u32], n: usize, k: usize, e: usize, v: usize, x: u32)
-    requires { ⌜ Queue n k e (now w) × (v < n) × (position n (now w) v < k) × (x < time (now w) v) ⌝ }
+    requires { ⌜ Queue n k e (now w) × (v < n) × (position n (now w) v < k) × (x < time n (now w) v) ⌝ }
     ensures { λ _. ⌜ Lowered n k e v x (now (w .entry)) (now (w .exit)) ⌝ }
 {
-    w[v] = x;
+    store_time(w, n, v, x);
     let p = position_of(w, n, v);
     up(w, n, k, p);
 }
@@ -34,9 +38,9 @@ fn lower(w: &mut [u32], n: usize, k: usize, e: usize, v: usize, x: u32)
 // The node v, which is not settled, can be reached in x seconds. The number of nodes held. x is wide, so that no sum has to be kept small.
 pub fn offer(w: &mut [u32], n: usize, k: usize, e: usize, v: usize, x: u64) -> usize
     requires { ⌜ Queue n k e (now w) × (v < n) × (position n (now w) v < e) ⌝ }
-    ensures { λ r. ⌜ Went n e (lowered (take n (now (w .entry))) v x) (now (w .entry)) (now (w .exit)) r ⌝ }
+    ensures { λ r. ⌜ Went n e (lowered (timesIn n (now (w .entry))) v x) (now (w .entry)) (now (w .exit)) r ⌝ }
 {
-    if x >= w[v] as u64 {
+    if x >= time_of(w, n, v) as u64 {
         return k;
     }
     if position_of(w, n, v) < k {

@@ -7,8 +7,8 @@ ghost use Rattle.heap.specs.Words.{Placed, key};
 ghost use Rattle.heap.specs.Order.{OrderedUp, OrderedDown, Lesser};
 ghost use Rattle.heap.specs.Levels.{Up, Down};
 ghost use Rattle.heap.specs.Sifts.{Level, Sifted};
-use crate::words::key_at;
-use crate::words::swap;
+use crate::positions::key_at;
+use crate::positions::swap;
 
 // The levels below the first: 4,096 positions have no more.
 const LEVELS: usize = 12;

@@ -1,22 +1,15 @@
 -- The index of the open edges at each node, in the lent words: for each node a chain of blocks of consecutive edges. Assumes nothing.
 -- The word of a node holds the size of the blocks, times 65536, and where its chain begins; the word of an entry holds the number of a block, times
 -- 65536, and the next entry. A link below n ends a chain. Where the size is 0 there are no chains: a node's edges are then among all edges.
-use Prim.Native.Nat.{ℕ, _+_, _-_, _*_, _/_, _%_, _<_, _≤_}
+use Prim.Native.Nat.{ℕ, _/_, _%_, _<_, _≤_}
 use mathlib.Core.Path.{_≡_}
 use mathlib.Core.Bool.{true, false}
 use mathlib.Core.List.{List}
 use mathlib.Core.Logic.{_⊎_}
-use lib.ListN.{length, getD, take, drop}
+use lib.ListN.{length, getD}
 use Rattle.model.specs.Bytes.{Bytes, words16}
 use Rattle.model.specs.Network.{edge, edgeCount, isOpen, someEdgeBroken, numbersBroken}
-use Rattle.bitset.specs.Bits.{setWords}
-
--- Where the index begins in the 8 n lent words, and the words of it.
-abbrev pub indexAt : ℕ → ℕ
-indexAt n = 4 * n + 4 * setWords n
-
-unfoldable pub indexIn : ℕ → List ℕ → List ℕ
-indexIn n w = take (8 * n - indexAt n) (drop (indexAt n) w)
+use Rattle.words.specs.Regions.{indexIn}
 
 -- ---- chains
 unfoldable pub next : List ℕ → ℕ → ℕ

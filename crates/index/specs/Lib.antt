@@ -1,4 +1,2 @@
 pub mod Index
-pub mod Cursor
 pub mod Grown
-pub mod Seeking

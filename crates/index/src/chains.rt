@@ -4,11 +4,15 @@ ghost use mathlib.Core.Bool.{true, false};
 ghost use Prim.Native.Nat.{ℕ, _+_, _*_, _<_, _≤_};
 ghost use lib.ListN.{length, getD, set, take, drop};
 ghost use Rattle.model.specs.Network.{maxNodes, edge, edgeSize, edgeCount, someEdgeBroken, numbersBroken};
-ghost use Rattle.index.specs.Index.{indexAt, next, block, Lists, Chained, IndexOf, Roads};
+ghost use Rattle.model.specs.Rules.{workWords};
+ghost use Rattle.words.specs.Frames.{Enough, KeptFrom};
+ghost use Rattle.index.specs.Index.{next, block, Lists, Chained, IndexOf, Roads};
 ghost use Rattle.index.specs.Grown.{Growing, Grown, OnlyAt, AtEnd, IfOpen};
+ghost use Rattle.words.specs.Regions.{indexAt};
 use crate::open::is_open;
 use crate::positions::block_of;
-use crate::positions::index_at;
+use words::regions::WORDS;
+use words::regions::index_at;
 use crate::positions::next_of;
 use bitset::words::fill;
 use codec::records::EDGE_SIZE;
@@ -160,16 +164,16 @@ fn build(edges: &[u8], closed: &[u8], ix: &mut [u32], n: usize)
 
 // Writes the index of the open edges into the last of the 8 n lent words.
 pub fn build_index(edges: &[u8], closed: &[u8], n: usize, work: &mut [u32])
-    requires { ⌜ (n ≤ maxNodes) × (8 * n ≤ length (now work)) ⌝ }
+    requires { ⌜ (n ≤ maxNodes) × Enough n (now work) ⌝ }
     requires { ⌜ (someEdgeBroken n (now edges) ≡ false) × (numbersBroken (edgeCount (now edges)) (now closed) ≡ false) ⌝ }
     ensures roads { λ _. ⌜ Roads (now (edges .entry)) (now (closed .entry)) n (now (work .exit)) ⌝ }
     ensures before { λ _. ⌜ take (indexAt n) (now (work .exit)) ≡ take (indexAt n) (now (work .entry)) ⌝ }
-    ensures behind { λ _. ⌜ drop (8 * n) (now (work .exit)) ≡ drop (8 * n) (now (work .entry)) ⌝ }
+    ensures behind { λ _. ⌜ KeptFrom (workWords n) (now (work .entry)) (now (work .exit)) ⌝ }
 {
     if n < 2 {
         return;
     }
     let at = index_at(n);
-    let end = 8 * n;
+    let end = WORDS * n;
     build(edges, closed, &mut work[at..end], n);
 }

@@ -1,5 +1,4 @@
-// The index of the open edges at each node, in the lent words: built once, and walked by a cursor.
+// The index of the open edges at each node, in the lent words: how it is built, and what its words mean.
 pub mod chains;
-pub mod cursor;
-mod open;
-mod positions;
+pub mod open;
+pub mod positions;

@@ -3,16 +3,10 @@ ghost use mathlib.Core.Path.{_≡_};
 ghost use Prim.Native.Nat.{_+_, _*_, _<_, _≤_};
 ghost use lib.ListN.{length};
 ghost use Rattle.model.specs.Network.{maxNodes};
-ghost use Rattle.index.specs.Index.{indexAt, indexIn, next, block};
-use bitset::bits::set_words;
-
-// Where the index begins in the lent words.
-pub fn index_at(n: usize) -> usize
-    requires { ⌜ n ≤ maxNodes ⌝ }
-    ensures { λ r. ⌜ r ≡ indexAt n ⌝ }
-{
-    4 * n + 4 * set_words(n)
-}
+ghost use Rattle.words.specs.Frames.{Enough};
+ghost use Rattle.index.specs.Index.{next, block};
+ghost use Rattle.words.specs.Regions.{indexIn};
+use words::regions::index_at;
 
 // The link of the word at p.
 pub fn next_of(ix: &[u32], p: usize) -> usize
@@ -32,14 +26,14 @@ pub fn block_of(ix: &[u32], p: usize) -> usize
 
 // The same of a word of the index where it stands in the lent words.
 pub fn next_in(work: &[u32], n: usize, p: usize) -> usize
-    requires { ⌜ (n ≤ maxNodes) × (8 * n ≤ length (now work)) × (p < length (indexIn n (now work))) ⌝ }
+    requires { ⌜ (n ≤ maxNodes) × Enough n (now work) × (p < length (indexIn n (now work))) ⌝ }
     ensures { λ r. ⌜ (r ≡ next (indexIn n (now (work .entry))) p) × (r < 65536) ⌝ }
 {
     next_of(work, index_at(n) + p)
 }
 
 pub fn block_in(work: &[u32], n: usize, p: usize) -> usize
-    requires { ⌜ (n ≤ maxNodes) × (8 * n ≤ length (now work)) × (p < length (indexIn n (now work))) ⌝ }
+    requires { ⌜ (n ≤ maxNodes) × Enough n (now work) × (p < length (indexIn n (now work))) ⌝ }
     ensures { λ r. ⌜ (r ≡ block (indexIn n (now (work .entry))) p) × (r < 65536) ⌝ }
 {
     block_of(work, index_at(n) + p)
@@ -47,7 +41,7 @@ pub fn block_in(work: &[u32], n: usize, p: usize) -> usize
 
 // The size of the blocks, by the word of node u. For one node there is no index.
 pub fn block_size(work: &[u32], n: usize, u: usize) -> usize
-    requires { ⌜ (n ≤ maxNodes) × (8 * n ≤ length (now work)) × (u < n) ⌝ }
+    requires { ⌜ (n ≤ maxNodes) × Enough n (now work) × (u < n) ⌝ }
     ensures { λ r. ⌜ (r ≡ block (indexIn n (now (work .entry))) u) × (r < 65536) ⌝ }
 {
     if n < 2 {
@@ -58,7 +52,7 @@ pub fn block_size(work: &[u32], n: usize, u: usize) -> usize
 
 // Where the chain of node u begins.
 pub fn first_link(work: &[u32], n: usize, u: usize) -> usize
-    requires { ⌜ (n ≤ maxNodes) × (8 * n ≤ length (now work)) × (u < n) ⌝ }
+    requires { ⌜ (n ≤ maxNodes) × Enough n (now work) × (u < n) ⌝ }
     ensures { λ r. ⌜ (r ≡ next (indexIn n (now (work .entry))) u) × (r < 65536) ⌝ }
 {
     if n < 2 {

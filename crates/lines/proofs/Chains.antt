@@ -21,7 +21,8 @@ wrote-byte {old} {at} {x} room = record { ends = refl; spliced = splice-byte old
 
 -- A part that was lent and came back as the text.
 pub wrote-part : (old text ys : Bytes) (at : ℕ) → ys ≡ text → Wrote old at text (at + length text) (putMid at (at + length text - at) old ys)
-wrote-part old text ys at e = record { ends = refl; spliced = rw (e, post-is at (at + length text) old (omega arith)) (unfold splice in sym (append-assoc (take at old) text (drop (at + length text) old))) }
+wrote-part old text ys at e =
+    record { ends = refl; spliced = rw (e, post-is at (at + length text) old (omega arith)) (unfold splice in sym (append-assoc (take at old) text (drop (at + length text) old))) }
 
 -- Room for two texts is room for the first, and then for the second; and writing both is writing the two as one.
 module _ {old : Bytes} {at : ℕ} (r s : Bytes) (room : Room old at (r ++ s)) where

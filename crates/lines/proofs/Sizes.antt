@@ -6,7 +6,7 @@ use lib.ListN.{length, drop, length-append, length-take, length-drop}
 use Rattle.model.specs.Lists.{range, concatMap}
 use Rattle.model.specs.Bytes.{Bytes, cut}
 use Rattle.model.specs.Contents.{body, nodeBody, bodyPart}
-use Rattle.model.specs.Network.{nodeCount}
+use Rattle.model.specs.Network.{nodeSize, nodeCount}
 use Rattle.model.specs.Query.{timeAnswer}
 use Rattle.model.specs.Rules.{wordsNeeded}
 use Rattle.model.specs.Listing.{decimal, blank, lineFeed, kindText, answerText, pairLine, header, refusedLine}
@@ -58,8 +58,8 @@ unfolding concatMap range
 few-lines o s t zero = omega arith
 few-lines o s t (suc k) = omega (arith, few-lines o s (suc t) k, few-line o s t, length-append (pairLine o s t) (concatMap (pairLine o s) (range (suc t) k)))
 
--- A node takes 8 bytes of the file.
-pub few-nodes : (o : Bytes) → 8 * nodeCount (nodeBody o) ≤ length o
+-- Each node takes its bytes of the file.
+pub few-nodes : (o : Bytes) → nodeSize * nodeCount (nodeBody o) ≤ length o
 unfolding nodeCount body cut
 few-nodes o = omega (arith, length-take (bodyPart o 0 .size) (drop (bodyPart o 0 .start) o), length-drop (bodyPart o 0 .start) o)
 

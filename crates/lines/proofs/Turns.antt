@@ -1,37 +1,17 @@
 -- The lines of a row, one behind the other, and the answer from the words of one search. Assumes nothing.
 use Prim.Native.Nat.{ℕ, _+_, _≤_, _<_}
-use native.Mathlib.Nat.{zero-add}
 use native.Mathlib.Numerals.{add-one}
-use mathlib.Core.Path.{_≡_, refl, sym, _∙_, ap}
-use mathlib.Core.List.{List, [], _++_, append-nil, append-assoc}
-use lib.ListN.{getD}
-use lib.Seq.{getD-take}
+use mathlib.Core.Path.{_≡_, refl, sym, _∙_}
+use mathlib.Core.List.{[], _++_, append-nil, append-assoc}
 use Rattle.model.specs.Lists.{concatMap}
 use Rattle.model.specs.Bytes.{Bytes}
-use Rattle.model.specs.Contents.{nodeBody, edgeBody, closedBody}
-use Rattle.model.specs.Distance.{dist}
-use Rattle.model.specs.Network.{network, nodeCount, distance}
-use Rattle.model.specs.Oracle.{coded}
+use Rattle.model.specs.Contents.{nodeBody}
+use Rattle.model.specs.Network.{nodeCount}
 use Rattle.model.specs.Listing.{pairLine}
-use Rattle.theory.specs.RangeLaws.{rest, rest-step, rest-end, getD-map-range}
-use Rattle.algorithms.specs.Rounds.{distanceWords}
-use Rattle.arcs.specs.Arcs.{arcsIn}
-use Rattle.query.specs.Toward.{Toward}
-use Rattle.query.proofs.Words.{distance-in}
+use Rattle.theory.specs.RangeLaws.{rest, rest-step, rest-end}
 use Rattle.emit.specs.Records.{Wrote}
 use Rattle.lines.specs.Texts.{Room, rowText}
 use Rattle.lines.proofs.Chains.{room-first, room-second, wrote-both, wrote-none}
-
--- The word of t that a search from s has left.
-pub word-of : (o : Bytes) (s t : ℕ) (work : List ℕ) → Toward o s work → t < nodeCount (nodeBody o) → getD work t 0 ≡ coded (distance (network o) s t)
-unfolding distanceWords
-word-of o s t work to h =
-    let n = nodeCount (nodeBody o) in
-    let arcs = arcsIn (edgeBody o) (closedBody o) in
-    sym (getD-take n work t 0 h) ∙
-    ap (λ (l : List ℕ). getD l t 0) (to .times) ∙
-    getD-map-range (λ v. coded (dist arcs n s v)) 0 0 n t h ∙
-    rw (zero-add, distance-in o s t)
 
 module _ (o : Bytes) (s : ℕ) where
   abbrev n : ℕ

@@ -1,5 +1,5 @@
 -- The pass over the order, one node after another: the theory's state at each, over lists and over the lent words. Assumes nothing.
-use Prim.Native.Nat.{ℕ, _+_, _*_, _≤_, _<_}
+use Prim.Native.Nat.{ℕ, _+_, _≤_, _<_}
 use native.Mathlib.Omega.{arith}
 use mathlib.Core.Path.{_≡_, refl, sym, _∙_}
 use mathlib.Core.Logic.{_↔_}
@@ -16,10 +16,10 @@ use Rattle.theory.specs.Walks.{Positive}
 use Rattle.algorithms.specs.Dijkstra.{at}
 use Rattle.algorithms.specs.Settle.{Falling}
 use Rattle.algorithms.specs.Pass.{Reason, wanted, onward, Is, Upto, upto-start, upto-end, turn-mark, turn-skip}
-use Rattle.search.specs.Regions.{timesIn, orderIn}
 use Rattle.marks.specs.Due.{Flagged, leading, due, turned}
-use Rattle.marks.specs.Region.{marksIn, Ordered}
 use Rattle.marks.proofs.Views.{times-kept, order-kept, order-next, order-end}
+use Rattle.words.specs.Regions.{timesIn, orderIn, marksIn, searchWords, queueWords}
+use Rattle.marks.specs.Ordered.{Ordered}
 
 -- ---- a node is due for a reason
 module _ (arcs : List Arc) (times want marks : List ℕ) (v : ℕ) where
@@ -70,13 +70,14 @@ module _ (arcs : List Arc) (n : ℕ) (times want order : List ℕ) where
 -- ---- over the lent words: they were w₀, and are w when the order is passed up to position i
 pub record Standing (arcs : List Arc) (n e : ℕ) (want w₀ : List ℕ) (i : ℕ) (w : List ℕ) : Type 0 where
   pub room : i ≤ n
-  pub size : length w ≡ 3 * n
-  pub kept : take (2 * n) w ≡ take (2 * n) w₀
+  pub size : length w ≡ searchWords n
+  pub kept : take (queueWords n) w ≡ take (queueWords n) w₀
   pub passing : Passing arcs n (timesIn n w₀) want (orderIn n e w₀) (orderIn n i w₀) (marksIn n w)
 
 module _ (arcs : List Arc) (n e : ℕ) (want w₀ : List ℕ) where
   -- w are the words before the marks were cleared.
-  pub first : (w : List ℕ) → e ≤ n → length w₀ ≡ 3 * n → take (2 * n) w₀ ≡ take (2 * n) w → marksIn n w₀ ≡ replicate n 0 → Ordered n (timesIn n w) (orderIn n e w) → Standing arcs n e want w₀ e w₀
+  pub first : (w : List ℕ) → e ≤ n → length w₀ ≡ searchWords n → take (queueWords n) w₀ ≡ take (queueWords n) w → marksIn n w₀ ≡ replicate n 0
+      → Ordered n (timesIn n w) (orderIn n e w) → Standing arcs n e want w₀ e w₀
   first w r k s m o = record {
     room = r;
     size = k;
@@ -92,7 +93,7 @@ module _ (arcs : List Arc) (n e : ℕ) (want w₀ : List ℕ) where
     pub node-in : getD w (n + i) 0 < n
     node-in = g .passing .ahead .inside (getD w (n + i) 0) (rw here (List·Memᴰ·head refl))
 
-    pub next : Positive arcs → (w′ : List ℕ) → length w′ ≡ length w → take (2 * n) w′ ≡ take (2 * n) w → marksIn n w′ ≡ turned arcs (timesIn n w) want (marksIn n w) (getD w (n + i) 0)
+    pub next : Positive arcs → (w′ : List ℕ) → length w′ ≡ length w → take (queueWords n) w′ ≡ take (queueWords n) w → marksIn n w′ ≡ turned arcs (timesIn n w) want (marksIn n w) (getD w (n + i) 0)
         → Standing arcs n e want w₀ (i + 1) w′
     next pos w′ k s m = record {
       room = omega arith;
@@ -101,8 +102,8 @@ module _ (arcs : List Arc) (n e : ℕ) (want w₀ : List ℕ) where
       passing = rw (m, times-kept n w₀ w (g .kept)) (pass-next arcs n (timesIn n w₀) want (orderIn n e w₀) pos (getD w (n + i) 0) (orderIn n (i + 1) w₀) (marksIn n w) (rw here at (g .passing)));
     }
 
-  pub last : (i : ℕ) (w w′ : List ℕ) → n ≤ i → take (2 * n) w₀ ≡ take (2 * n) w → Standing arcs n e want w₀ i w′
-      → (take (2 * n) w′ ≡ take (2 * n) w) × ((v : ℕ) → Flagged (marksIn n w′) v ↔ Is arcs (timesIn n w) (Flagged want) (orderIn n e w) v)
+  pub last : (i : ℕ) (w w′ : List ℕ) → n ≤ i → take (queueWords n) w₀ ≡ take (queueWords n) w → Standing arcs n e want w₀ i w′
+      → (take (queueWords n) w′ ≡ take (queueWords n) w) × ((v : ℕ) → Flagged (marksIn n w′) v ↔ Is arcs (timesIn n w) (Flagged want) (orderIn n e w) v)
   last i w w′ h s g =
       let k : i ≡ n = omega (arith, g .room) in
       let u = rw (k, order-end n w₀, times-kept n w w₀ s, order-kept n w w₀ s e) at (g .passing) in

@@ -7,7 +7,7 @@ use Rattle.algorithms.specs.Stops.{Stopped}
 use Rattle.algorithms.specs.Marks.{Toward, marks}
 use Rattle.algorithms.specs.Pass.{Is}
 use Rattle.marks.specs.Due.{Flagged}
-use Rattle.marks.specs.Region.{Ordered}
+use Rattle.marks.specs.Ordered.{Ordered}
 
 module _ (arcs : List Arc) (n p : ℕ) (want times order : List ℕ) (f : Stopped arcs n p want times order) where
   pub stopped-ordered : Ordered n times order

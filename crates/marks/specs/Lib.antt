@@ -1,2 +1,2 @@
 pub mod Due
-pub mod Region
+pub mod Ordered

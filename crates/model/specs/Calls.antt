@@ -9,11 +9,12 @@ use Rattle.model.specs.Lists.{concatMap}
 use Rattle.model.specs.Bytes.{Bytes, bytes16}
 use Rattle.model.specs.Network.{network}
 use Rattle.model.specs.Oracle.{oracle, transitOf}
-use Rattle.model.specs.Query.{timeAnswer, farAnswer, listOf, way}
+use Rattle.model.specs.Query.{meaning, timeAnswer, farAnswer, listOf, way}
 use Rattle.model.specs.Rules.{firstBroken, wordsNeeded, buildRules, auditRules, timeRules, farRules, listRules, wayRules}
 use Rattle.model.specs.declared.Answer.{Answer}
 use Rattle.model.specs.declared.Answer.the-variants.{Refused}
 use Rattle.model.specs.declared.Built.{Built}
+use Rattle.model.specs.declared.Division.{Division}
 use Rattle.model.specs.declared.Route.{Route}
 
 -- ---- what the number of the broken rule, or 0, does to what the caller lent
@@ -38,19 +39,19 @@ answerAfter rule answer = cond (eqb rule 0) answer (Refused rule)
 
 -- ---- building
 
-unfoldable pub buildRefusal : Bytes → ℕ → List ℕ → Bytes → ℕ
-buildRefusal f g work out = firstBroken (buildRules f g (length work) (length out))
+unfoldable pub buildRefusal : Bytes → Division → List ℕ → Bytes → ℕ
+buildRefusal f dv work out = firstBroken (buildRules f dv (length work) (length out))
 
-unfoldable pub builtAfter : ℕ → Bytes → ℕ → Built
-builtAfter rule f g =
+unfoldable pub builtAfter : ℕ → Bytes → Division → Built
+builtAfter rule f dv =
     cond (eqb rule 0)
-    (record { rule = 0; size = length (oracle f g); transit = length (transitOf f g) })
+    (record { rule = 0; size = length (oracle f dv); transit = length (transitOf f dv) })
     (record { rule = rule; size = 0; transit = 0 })
 
-pub record Build (f : Bytes) (g : ℕ) (work : List ℕ) (out : Bytes) (r : Built) (work′ : List ℕ) (out′ : Bytes) : Type 0 where
-  pub result : r ≡ builtAfter (buildRefusal f g work out) f g
-  pub words : work′ ≡ workAfter (buildRefusal f g work out) f work
-  pub bytes : out′ ≡ outputAfter (buildRefusal f g work out) (oracle f g) out
+pub record Build (f : Bytes) (dv : Division) (work : List ℕ) (out : Bytes) (r : Built) (work′ : List ℕ) (out′ : Bytes) : Type 0 where
+  pub result : r ≡ builtAfter (buildRefusal f dv work out) f dv
+  pub words : work′ ≡ workAfter (buildRefusal f dv work out) f work
+  pub bytes : out′ ≡ outputAfter (buildRefusal f dv work out) (oracle f dv) out
 
 -- ---- the audit, whose result is the number alone
 
@@ -70,13 +71,16 @@ unfoldable pub timeResult : Bytes → ℕ → ℕ → List ℕ → Answer
 timeResult o s t work = answerAfter (timeRefusal o s t work) (timeAnswer o s t)
 
 pub record TimeCall (o : Bytes) (s t : ℕ) (work : List ℕ) (r : Answer) (work′ : List ℕ) : Type 0 where
-  pub result : r ≡ timeResult o s t work
+  pub result : meaning r ≡ meaning (timeResult o s t work)
   pub words : work′ ≡ workAfter (timeRefusal o s t work) o work
 
 -- ---- the far question, which has no working words and no output
 
 unfoldable pub farResult : Bytes → ℕ → ℕ → Answer
 farResult o s t = answerAfter (firstBroken (farRules o s t)) (farAnswer o s t)
+
+pub record FarCall (o : Bytes) (s t : ℕ) (r : Answer) : Type 0 where
+  pub result : meaning r ≡ meaning (farResult o s t)
 
 -- ---- the list of a node, and why it is refused
 

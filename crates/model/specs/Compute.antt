@@ -34,7 +34,7 @@ unfolding Network.coordinate Network.node Network.edge Network.nodeCount Network
 network-computed = tt
 
 unfoldable pub grid-computed : Unit {0}
-unfolding Grid.gridOver Grid.cellIndex Grid.cellOf Grid.cells Grid.cellAt Grid.gap Grid.within Grid.kindOf Grid.gridBroken Grid.gridNumber
+unfolding Grid.gridOver Grid.cellIndex Grid.cellOf Grid.cells Grid.cellAt Grid.gap Grid.within Grid.kindOf Grid.gridBroken Grid.divisionBytes Grid.division
 grid-computed = tt
 
 unfoldable pub access-computed : Unit {0}
@@ -46,7 +46,7 @@ unfolding Oracle.coded Oracle.valueBytes Oracle.decoded Oracle.value Oracle.valu
 oracle-computed = tt
 
 unfoldable pub query-computed : Unit {0}
-unfolding Query.answer Query.ruleOf Query.distanceOf Query.pairsOf Query.sumBy Query.farDistance Query.farAnswer Query.localAnswer Query.kindBetween Query.answerOf Query.timeAnswer Query.nexts Query.onward Query.wayAfter Query.wayFrom Query.way Query.listPlace Query.listOf
+unfolding Query.answer Query.meaning Query.ruleOf Query.distanceIn Query.distanceOf Query.sumBy Query.farDistance Query.farAnswer Query.localAnswer Query.kindBetween Query.answerOf Query.timeAnswer Query.nexts Query.onward Query.wayAfter Query.wayFrom Query.way Query.listPlace Query.listOf
 query-computed = tt
 
 unfoldable pub rules-computed : Unit {0}

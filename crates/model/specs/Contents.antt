@@ -27,9 +27,22 @@ pub record Entry : Type 0 where
   pub offset : ℕ
   pub size : ℕ
 
+-- The size of an entry, and of all that stands before the bodies: the edition, the number of entries, and the entries.
+abbrev pub contentsEntrySize : ℕ
+contentsEntrySize = 9
+
+abbrev pub headSize : ℕ → ℕ
+headSize entries = 2 + contentsEntrySize * entries
+
+abbrev pub networkHead : ℕ
+networkHead = headSize networkEntries
+
+abbrev pub oracleHead : ℕ
+oracleHead = headSize oracleEntries
+
 -- Where entry k stands, from 0; and so, for the number of entries, where the first body does.
 unfoldable pub entryAt : ℕ → ℕ
-entryAt k = 2 + 9 * k
+entryAt k = headSize k
 
 unfoldable pub entry : Bytes → ℕ → Entry
 entry f k = record { kind = byte f (entryAt k); offset = word32 f (entryAt k + 1); size = word32 f (entryAt k + 5) }

@@ -5,30 +5,41 @@ use mathlib.Core.List.{List, map}
 use lib.ListN.{getD}
 use lib.Dec.{leb, ltb}
 use Rattle.model.specs.Lists.{least, greatest}
-use Rattle.model.specs.Bytes.{Bytes, word16}
+use Rattle.model.specs.Bytes.{Bytes, word16, bytes16}
 use Rattle.model.specs.Network.{Node}
+use Rattle.model.specs.declared.Division.{Division}
 use Rattle.model.specs.declared.Kind.{Kind}
 use Rattle.model.specs.declared.Kind.the-variants.{Far, Local}
 
--- The radii of the squares: "inner is the square of 5 × 5 cells about C and outer is 9 × 9".
+-- The radii of the squares: "inner is the square of 5 × 5 cells about C and outer is 9 × 9". "The two radii, 2 and 4, belong to the grid and are
+-- written nowhere else."
 abbrev pub innerRadius : ℕ
 innerRadius = 2
 
 abbrev pub outerRadius : ℕ
 outerRadius = 4
 
--- A grid of g × g cells: its origin is the least x and the least y, and "s [is] the larger of the spread in x and the spread in y".
+-- A grid of g × g cells: its radii, its origin, which is the least x and the least y, and "s .. the larger of the spread in x and the spread in y".
 pub record Grid : Type 0 where
   pub g : ℕ
+  pub inner : ℕ
+  pub outer : ℕ
   pub left : ℕ
   pub bottom : ℕ
   pub spread : ℕ
 
-unfoldable pub gridOver : ℕ → List Node → Grid
-gridOver g nodes =
+unfoldable pub gridOver : Division → List Node → Grid
+gridOver dv nodes =
     let xs = map (λ v. v .x) nodes in
     let ys = map (λ v. v .y) nodes in
-    record { g = g; left = least xs; bottom = least ys; spread = max (greatest xs - least xs) (greatest ys - least ys) }
+    record {
+      g = dv .g;
+      inner = innerRadius;
+      outer = outerRadius;
+      left = least xs;
+      bottom = least ys;
+      spread = max (greatest xs - least xs) (greatest ys - least ys);
+    }
 
 pub record Cell : Type 0 where
   pub column : ℕ
@@ -56,8 +67,8 @@ unfoldable pub within : ℕ → Cell → Cell → Bool
 within r c e = leb (gap (e .column) (c .column)) r && leb (gap (e .row) (c .row)) r
 
 -- "Two places are far when their columns or their rows differ by 5 or more", which is by more than the outer radius, "else local".
-unfoldable pub kindOf : Cell → Cell → Kind
-kindOf c e = cond (within outerRadius c e) Local Far
+unfoldable pub kindOf : Grid → Cell → Cell → Kind
+kindOf grid c e = cond (within (grid .outer) c e) Local Far
 
 -- Rule 8, of the number passed in: "g .. outside 1 to 64". (`gridBodyBroken` is rule 8 of an oracle's body.)
 abbrev pub maxGrid : ℕ
@@ -66,6 +77,12 @@ maxGrid = 64
 unfoldable pub gridBroken : ℕ → Bool
 gridBroken g = ltb g 1 || ltb maxGrid g
 
--- g, as an oracle's grid body has it.
-unfoldable pub gridNumber : Bytes → ℕ
-gridNumber b = word16 b 0
+-- Body 4, "g, 16 bits": as it is written, and read.
+abbrev pub divisionSize : ℕ
+divisionSize = 2
+
+unfoldable pub divisionBytes : Division → Bytes
+divisionBytes dv = bytes16 (dv .g)
+
+unfoldable pub division : Bytes → Division
+division b = record { g = word16 b 0 }

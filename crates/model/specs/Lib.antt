@@ -9,6 +9,7 @@ pub mod Grid
 pub mod Access
 pub mod Oracle
 pub mod Query
+pub mod Meanings
 pub mod Rules
 pub mod Calls
 pub mod Listing

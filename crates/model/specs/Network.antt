@@ -6,7 +6,7 @@ use mathlib.Core.List.{List, [], _∷_, map}
 use lib.ListN.{length}
 use lib.Dec.{eqb, ltb, leb}
 use Rattle.model.specs.Lists.{any, filter, concatMap, member, rising, upTo}
-use Rattle.model.specs.Bytes.{Bytes, word16, word32, words16}
+use Rattle.model.specs.Bytes.{Bytes, word16, word32, numberSize, words16}
 use Rattle.model.specs.Contents.{nodeBody, edgeBody, closedBody}
 use Rattle.model.specs.Walk.{Arc}
 use Rattle.model.specs.Distance.{Distance, dist}
@@ -127,4 +127,4 @@ someEdgeBroken n b = any (edgeBroken n) (edges b)
 
 -- Rules 7 and 9: "A closed list [a transit body] of odd length, not rising, or naming no road [no place]", of which there are `limit`.
 unfoldable pub numbersBroken : ℕ → Bytes → Bool
-numbersBroken limit b = not (eqb (length b % 2) 0) || not (rising (words16 b)) || any (leb limit) (words16 b)
+numbersBroken limit b = not (eqb (length b % numberSize) 0) || not (rising (words16 b)) || any (leb limit) (words16 b)

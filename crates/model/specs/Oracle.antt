@@ -5,12 +5,13 @@ use mathlib.Core.List.{List, [], _∷_, _++_, map}
 use lib.ListN.{length, getD}
 use lib.Dec.{eqb, ltb, leb}
 use Rattle.model.specs.Lists.{Part, gapless, any, concat, concatMap, indexOf, rising, upTo}
-use Rattle.model.specs.Bytes.{Bytes, word16, word32, bytes16, bytes32}
+use Rattle.model.specs.Bytes.{Bytes, word16, word32, bytes16, bytes32, numberSize}
 use Rattle.model.specs.Contents.{nodeBody, edgeBody, closedBody, file, oracleEdition}
 use Rattle.model.specs.Distance.{Distance, unreachable, finite}
 use Rattle.model.specs.Network.{network, order, distance}
-use Rattle.model.specs.Grid.{gridOver, gridBroken, gridNumber}
+use Rattle.model.specs.Grid.{gridOver, gridBroken, division, divisionSize, divisionBytes}
 use Rattle.model.specs.Access.{accessLists, transitNodes}
+use Rattle.model.specs.declared.Division.{Division}
 
 -- ---- a distance in bodies 6 and 7, a 32-bit number
 
@@ -46,8 +47,15 @@ valueBroken b position = not (eqb (word32 b position) noWalk) && ltb maxValue (w
 -- ---- building
 
 -- "A list is a 16-bit count, then entries of 6 bytes: a 16-bit index into body 5, rising within the list, and 32-bit seconds."
+abbrev pub countSize : ℕ
+countSize = 2
+
 abbrev pub entrySize : ℕ
-entrySize = 2 + valueSize
+entrySize = numberSize + valueSize
+
+-- The size of a list with this number of entries.
+abbrev pub listSize : ℕ → ℕ
+listSize count = countSize + entrySize * count
 
 unfoldable pub entryBytes : List ℕ → ℕ → Distance → Bytes
 entryBytes transit a d = bytes16 (indexOf a transit) ++ valueBytes d
@@ -75,25 +83,25 @@ accessBytes d transit lists =
 unfoldable pub tableBytes : (ℕ → ℕ → Distance) → List ℕ → Bytes
 tableBytes d transit = concatMap (λ a. concatMap (λ b. valueBytes (d a b)) transit) transit
 
--- The transit nodes of the network in f under g.
-unfoldable pub transitOf : Bytes → ℕ → List ℕ
-transitOf f g = let net = network f in transitNodes (order net) (accessLists net (gridOver g (net .nodes)))
+-- The transit nodes of the network in f under a division.
+unfoldable pub transitOf : Bytes → Division → List ℕ
+transitOf f dv = let net = network f in transitNodes (order net) (accessLists net (gridOver dv (net .nodes)))
 
--- The oracle built under g from f: "its bodies 1 to 3 are the network's own bytes".
-unfoldable pub oracle : Bytes → ℕ → Bytes
-oracle f g =
+-- The oracle built under a division from f: "its bodies 1 to 3 are the network's own bytes".
+unfoldable pub oracle : Bytes → Division → Bytes
+oracle f dv =
     let net = network f in
-    let lists = accessLists net (gridOver g (net .nodes)) in
+    let lists = accessLists net (gridOver dv (net .nodes)) in
     let transit = transitNodes (order net) lists in
     file oracleEdition
-    (nodeBody f ∷ edgeBody f ∷ closedBody f ∷ bytes16 g ∷ concatMap bytes16 transit ∷
+    (nodeBody f ∷ edgeBody f ∷ closedBody f ∷ divisionBytes dv ∷ concatMap bytes16 transit ∷
     accessBytes (distance net) transit lists ∷ tableBytes (distance net) transit ∷ [])
 
 -- ---- reading
 
 -- T, the number of transit nodes of a transit body.
 unfoldable pub transitCount : Bytes → ℕ
-transitCount b = length b / 2
+transitCount b = length b / numberSize
 
 -- The list of node u within the access body b: where it starts, its number of entries, and its part of the body.
 unfoldable pub listStart : Bytes → ℕ → ℕ
@@ -103,7 +111,7 @@ unfoldable pub listCount : Bytes → ℕ → ℕ
 listCount b u = word16 b (listStart b u)
 
 unfoldable pub listPart : Bytes → ℕ → Part
-listPart b u = record { start = listStart b u; size = 2 + entrySize * listCount b u }
+listPart b u = record { start = listStart b u; size = listSize (listCount b u) }
 
 -- Entry i of that list.
 pub record AccessEntry : Type 0 where
@@ -111,10 +119,10 @@ pub record AccessEntry : Type 0 where
   pub distance : Distance
 
 unfoldable pub accessAt : Bytes → ℕ → ℕ → ℕ
-accessAt b u i = listStart b u + 2 + entrySize * i
+accessAt b u i = listStart b u + countSize + entrySize * i
 
 unfoldable pub accessEntry : Bytes → ℕ → ℕ → AccessEntry
-accessEntry b u i = record { index = word16 b (accessAt b u i); distance = value b (accessAt b u i + 2) }
+accessEntry b u i = record { index = word16 b (accessAt b u i); distance = value b (accessAt b u i + numberSize) }
 
 unfoldable pub accessList : Bytes → ℕ → List AccessEntry
 accessList b u = map (accessEntry b u) (upTo (listCount b u))
@@ -127,11 +135,11 @@ tableEntry b T i j = value b (valueSize * (i * T + j))
 
 -- Rule 8: "A grid body not of 2 bytes, or g .. outside 1 to 64."
 unfoldable pub gridBodyBroken : Bytes → Bool
-gridBodyBroken b = not (eqb (length b) 2) || gridBroken (gridNumber b)
+gridBodyBroken b = not (eqb (length b) divisionSize) || gridBroken (division b .g)
 
 -- Rule 10: "An access body that breaks its layout, an index not below T, or a value out of range."
 unfoldable pub entryBroken : ℕ → Bytes → ℕ → ℕ → Bool
-entryBroken T b u i = leb T (accessEntry b u i .index) || valueBroken b (accessAt b u i + 2)
+entryBroken T b u i = leb T (accessEntry b u i .index) || valueBroken b (accessAt b u i + numberSize)
 
 -- The indexes of the list of node u.
 unfoldable pub indexes : Bytes → ℕ → List ℕ

@@ -10,7 +10,7 @@ use Rattle.model.specs.Contents.{bodyPart, nodeBody, gridBody, transitBo
 use Rattle.model.specs.Walk.{Arc}
 use Rattle.model.specs.Distance.{Distance, unreachable, finite, plus, agree, soonest}
 use Rattle.model.specs.Network.{Network, network, nodes, arcs, distance}
-use Rattle.model.specs.Grid.{gridOver, gridNumber, cells, cellAt, kindOf}
+use Rattle.model.specs.Grid.{gridOver, division, cells, cellAt, kindOf}
 use Rattle.model.specs.Oracle.{AccessEntry, transitCount, accessList, listPart, tableEntry}
 use Rattle.model.specs.declared.Kind.{Kind}
 use Rattle.model.specs.declared.Kind.the-variants.{Far, Local}
@@ -22,22 +22,35 @@ unfoldable pub answer : Kind → ℕ → Distance → Answer
 answer kind pairs unreachable = None kind pairs
 answer kind pairs (finite n) = Time n kind pairs
 
--- Document 01's number and values of each case of an answer: the number of the broken rule (0 for none), the distance, the kind and the pairs tried.
--- A refusal has no values.
+-- What an answer carries beside its number: far or local, a time or 'none', and the pairs tried. A refusal carries nothing.
+pub data Values : Type 0 where
+  absent : Values
+  carried : Kind → Distance → ℕ → Values
+
+pub record Meaning : Type 0 where
+  pub rule : ℕ
+  pub values : Values
+
+-- Document 01's number and values of each case of an answer. The number is that of the broken rule, 0 for none; "a refusal hands back its number
+-- and nothing else". Different answers differ in it (`Meanings`), and the promises of the calls are said by it.
+unfoldable pub meaning : Answer → Meaning
+meaning (Time seconds kind pairs) = record { rule = 0; values = carried kind (finite seconds) pairs }
+meaning (None kind pairs) = record { rule = 0; values = carried kind unreachable pairs }
+meaning (Refused rule) = record { rule = rule; values = absent }
+
+-- The number alone.
 unfoldable pub ruleOf : Answer → ℕ
-ruleOf (Time seconds kind pairs) = 0
-ruleOf (None kind pairs) = 0
-ruleOf (Refused rule) = rule
+unfolding meaning
+ruleOf a = meaning a .rule
+
+-- The time or 'none' alone, of an answer that is no refusal.
+unfoldable pub distanceIn : Values → Distance
+distanceIn absent = unreachable
+distanceIn (carried kind distance pairs) = distance
 
 unfoldable pub distanceOf : Answer → Distance
-distanceOf (Time seconds kind pairs) = finite seconds
-distanceOf (None kind pairs) = unreachable
-distanceOf (Refused rule) = unreachable
-
-unfoldable pub pairsOf : Answer → ℕ
-pairsOf (Time seconds kind pairs) = pairs
-pairsOf (None kind pairs) = pairs
-pairsOf (Refused rule) = 0
+unfolding meaning distanceIn
+distanceOf a = distanceIn (meaning a .values)
 
 -- ---- the far answer, from the lists and the table
 
@@ -67,8 +80,9 @@ localAnswer net s t = answer Local 0 (distance net s t)
 unfoldable pub kindBetween : Bytes → ℕ → ℕ → Kind
 kindBetween o s t =
     let ns = nodes (nodeBody o) in
-    let cs = cells (gridOver (gridNumber (gridBody o)) ns) ns in
-    kindOf (cellAt cs s) (cellAt cs t)
+    let grid = gridOver (division (gridBody o)) ns in
+    let cs = cells grid ns in
+    kindOf grid (cellAt cs s) (cellAt cs t)
 
 unfoldable pub answerOf : Kind → Bytes → ℕ → ℕ → Answer
 answerOf Far o s t = farAnswer o s t

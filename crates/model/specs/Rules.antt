@@ -9,9 +9,10 @@ use Rattle.model.specs.Lists.{equal}
 use Rattle.model.specs.Bytes.{Bytes}
 use Rattle.model.specs.Contents.{contentsBroken, bodiesBroken, nodeBody, edgeBody, closedBody, gridBody, transitBody, accessBody, tableBody, networkEdition, networkEntries, oracleEdition, oracleEntries}
 use Rattle.model.specs.Network.{network, nodeCount, edgeCount, nodesBroken, coordinatesBroken, edgesBroken, someEdgeBroken, numbersBroken}
-use Rattle.model.specs.Grid.{gridBroken, gridNumber}
+use Rattle.model.specs.Grid.{gridBroken, division}
 use Rattle.model.specs.Oracle.{oracle, transitCount, gridBodyBroken, accessBroken, tableBroken}
 use Rattle.model.specs.Query.{kindBetween, way}
+use Rattle.model.specs.declared.Division.{Division}
 use Rattle.model.specs.declared.Kind.{Kind}
 use Rattle.model.specs.declared.Kind.the-variants.{Far, Local}
 
@@ -42,8 +43,11 @@ unfoldable pub localPair : Bytes → ℕ → ℕ → Bool
 localPair o s t = isLocal (kindBetween o s t)
 
 -- Rule 14: "Working memory below 8 × N words of 32 bits."
+abbrev pub workWords : ℕ → ℕ
+workWords n = 8 * n
+
 unfoldable pub wordsNeeded : Bytes → ℕ
-wordsNeeded f = 8 * nodeCount (nodeBody f)
+wordsNeeded f = workWords (nodeCount (nodeBody f))
 
 unfoldable pub workTooSmall : Bytes → ℕ → Bool
 workTooSmall f words = ltb words (wordsNeeded f)
@@ -54,7 +58,7 @@ outputTooSmall size room = ltb room size
 
 -- Rule 16: "An audited oracle that differs in any byte from the one built from its bodies 1 to 4."
 unfoldable pub differsFromBuilt : Bytes → Bool
-differsFromBuilt o = not (equal o (oracle o (gridNumber (gridBody o))))
+differsFromBuilt o = not (equal o (oracle o (division (gridBody o))))
 
 -- ---- rules of files
 
@@ -70,8 +74,8 @@ networkRules edition entries f =
     rule 7 (numbersBroken (edgeCount (edgeBody f)) (closedBody f)) ∷ []
 
 -- Building's rules before 14.
-unfoldable pub acceptRules : Bytes → ℕ → List Rule
-acceptRules f g = networkRules networkEdition networkEntries f ++ (rule 8 (gridBroken g) ∷ [])
+unfoldable pub acceptRules : Bytes → Division → List Rule
+acceptRules f dv = networkRules networkEdition networkEntries f ++ (rule 8 (gridBroken (dv .g)) ∷ [])
 
 -- Rules 1 to 11, of an oracle.
 unfoldable pub shapeRules : Bytes → List Rule
@@ -84,16 +88,16 @@ shapeRules o =
 
 -- "A network is accepted under g when it breaks no rule that building checks before 14", and
 -- "an oracle is well-shaped when it breaks no rule checked before 12".
-unfoldable pub accepted : Bytes → ℕ → Bool
-accepted f g = eqb (firstBroken (acceptRules f g)) 0
+unfoldable pub accepted : Bytes → Division → Bool
+accepted f dv = eqb (firstBroken (acceptRules f dv)) 0
 
 unfoldable pub wellShaped : Bytes → Bool
 wellShaped o = eqb (firstBroken (shapeRules o)) 0
 
 -- ---- the rules of each call; `words` and `room` are the lengths of the working words and of the output
 
-unfoldable pub buildRules : Bytes → ℕ → ℕ → ℕ → List Rule
-buildRules f g words room = acceptRules f g ++ (rule 14 (workTooSmall f words) ∷ rule 15 (outputTooSmall (length (oracle f g)) room) ∷ [])
+unfoldable pub buildRules : Bytes → Division → ℕ → ℕ → List Rule
+buildRules f dv words room = acceptRules f dv ++ (rule 14 (workTooSmall f words) ∷ rule 15 (outputTooSmall (length (oracle f dv)) room) ∷ [])
 
 unfoldable pub auditRules : Bytes → ℕ → List Rule
 auditRules o words = shapeRules o ++ (rule 14 (workTooSmall o words) ∷ rule 16 (differsFromBuilt o) ∷ [])

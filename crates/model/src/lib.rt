@@ -1,4 +1,9 @@
-// What the calls hand back. The contracts of the calls and the definitions in specs/ cite these types.
+// What building is told, and what the calls hand back. The contracts of the calls and the definitions in specs/ cite these types.
+
+// What building is told of the grid: document 01's g. The radii are the grid's own (`specs/Grid`).
+pub struct Division {
+    pub g: u32,
+}
 
 // Document 01's "far" and "local".
 pub enum Kind {

@@ -7,11 +7,12 @@ use mathlib.Core.Bool.{Bool, true, false, cond}
 use mathlib.Core.List.{List}
 use lib.ListN.{length, getD, set, length-set}
 use lib.Seq.{getD-set-same, getD-set-other, take-set-le, drop-set-lt}
-use Rattle.layout.specs.Regions.{regionAt, OnlyIn, counts}
-use Rattle.layout.proofs.Windows.{only-same, only-then}
+use Rattle.words.specs.Regions.{regionAt, counts}
+use Rattle.words.specs.Frames.{OnlyIn, Enough}
+use Rattle.words.proofs.Stays.{only-same, only-then}
 
 -- ---- one word stored, or none
-module _ (n k : ℕ) (w : List ℕ) (i : ℕ) (h : i < n) (long : 8 * n ≤ length w) where
+module _ (n k : ℕ) (w : List ℕ) (i : ℕ) (h : i < n) (long : Enough n w) where
   abbrev put : Bool → List ℕ
   put b = cond b (set w (regionAt n counts + i) k) w
 
@@ -44,7 +45,7 @@ module _ (s : ℕ → Bool) (n k : ℕ) (w₀ : List ℕ) where
   first = record { room = omega arith; size = refl; others = only-same _ _ w₀; told = λ v l. absurd (omega arith); untold = λ v l. refl }
 
   module _ (i : ℕ) (w : List ℕ) (g : Counting s n k w₀ i w) where
-    pub next : i < n → 8 * n ≤ length w → (w′ : List ℕ) → w′ ≡ cond (s i) (set w (regionAt n counts + i) k) w → Counting s n k w₀ (i + 1) w′
+    pub next : i < n → Enough n w → (w′ : List ℕ) → w′ ≡ cond (s i) (set w (regionAt n counts + i) k) w → Counting s n k w₀ (i + 1) w′
     next h long w′ e = record {
       room = omega arith;
       size = ap length e ∙ (put-size n k w i h long (s i) ∙ g .size);

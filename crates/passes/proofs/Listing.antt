@@ -14,20 +14,20 @@ use Rattle.model.specs.Access.{accessNodes}
 use Rattle.theory.specs.Tests.{same-test}
 use Rattle.theory.specs.Members.{filter→, →filter, range→, →upTo}
 use Rattle.bitset.specs.Bits.{isIn}
+use Rattle.bitset.specs.Members.{membersOf}
+use Rattle.bitset.proofs.Ranks.{members-most}
 use Rattle.marks.specs.Due.{Flagged}
 use Rattle.grid.specs.Stored.{gridOf}
 use Rattle.grid.specs.declared.Grid.{Grid}
 use Rattle.grid.proofs.Cells.{cell-at}
 use Rattle.crossing.specs.Sets.{testFlags, memberFlags, ones}
-use Rattle.crossing.specs.SetLaws.{flags-test, test-flag, ones-test, ones-most, filter-flags}
-use Rattle.crossing.specs.Ground.{cellsIn, openIn, Ground}
-use Rattle.emit.specs.Members.{membersOf}
+use Rattle.crossing.specs.SetLaws.{flags-test, test-flag, ones-members, filter-flags}
+use Rattle.crossing.specs.Ground.{cellsIn, openIn}
 use Rattle.emit.specs.MemberLaws.{members-passing}
-use Rattle.access.specs.Networks.{networkIn}
-use Rattle.layout.specs.Regions.{regionAt, region, regionFlags}
-use Rattle.layout.proofs.Windows.{in-front, flags-front}
+use Rattle.access.specs.Networks.{networkIn, count-cells}
+use Rattle.words.specs.Regions.{regionAt, region, regionFlags}
+use Rattle.words.proofs.Windows.{in-front, flags-front}
 use Rattle.access.proofs.Flagging as flagging
-use Rattle.access.proofs.Cells.{count-cells}
 use Rattle.passes.specs.Building.{accessOf, membersIn}
 
 -- Tests with the same flags agree below n.
@@ -39,11 +39,10 @@ tests-agree p q n e v h = same-test
 module _ (n k : ℕ) (w : List ℕ) where
   -- How many members a region has, as `count` tells it.
   pub count-members : ones (regionFlags n k w) ≡ length (membersIn n k w)
-  unfolding membersOf
-  count-members = ap ones (sym (flags-front n (drop (regionAt n k) w)) ∙ flags-test n (region n k w)) ∙ ones-test (isIn (region n k w)) n
+  count-members = ap ones (sym (flags-front n (drop (regionAt n k) w))) ∙ ones-members n (region n k w)
 
   pub members-few : length (membersIn n k w) ≤ n
-  members-few = omega (arith, count-members, ones-most n (drop (regionAt n k) w))
+  members-few = members-most (region n k w) n
 
   pub flagged-member : (v : ℕ) → Flagged (regionFlags n k w) v ↔ List·Memᴰ v (membersIn n k w)
   unfolding membersOf
@@ -61,10 +60,10 @@ module _ (n k : ℕ) (w : List ℕ) where
       ∙ tests-agree (isIn (drop (regionAt n k) w)) p n (sym (flags-test n (drop (regionAt n k) w)) ∙ (e ∙ filter-flags n p)) v h)
 
 -- Region k has the access nodes of the cell of u.
-pub access-listed : (b e c : Bytes) (grid : Grid) → Ground b e c grid → (n : ℕ) → n ≡ nodeCount b → (u : ℕ) → u < n → (k : ℕ) (w : List ℕ) (cell : model.Cell)
-    → cell ≡ model.cellOf (gridOf grid) (node b u) → regionFlags n k w ≡ memberFlags n (accessNodes (distance (networkIn b e c)) (cellsIn grid b) (openIn e c) cell)
+pub access-listed : (b e c : Bytes) (grid : Grid) (n : ℕ) → n ≡ nodeCount b → (u : ℕ) → u < n → (k : ℕ) (w : List ℕ) (cell : model.Cell)
+    → cell ≡ model.cellOf (gridOf grid) (node b u) → regionFlags n k w ≡ memberFlags n (accessNodes (distance (networkIn b e c)) (gridOf grid) (cellsIn grid b) (openIn e c) cell)
     → membersIn n k w ≡ accessOf b e c grid u
 unfolding accessOf accessNodes
-access-listed b e c grid ground n size u h k w cell q f =
-    let l = count-cells b e c grid ground n size in
+access-listed b e c grid n size u h k w cell q f =
+    let l = count-cells b n size grid in
     rw (cell-at (gridOf grid) b u (rw (← size) h), ← q, l) (members-listed n k w _ (rw l at f))

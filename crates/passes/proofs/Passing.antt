@@ -13,13 +13,12 @@ use Rattle.model.specs.Grid.{Cell}
 use Rattle.algorithms.specs.Settle.{blank}
 use Rattle.bitset.specs.Bits.{flags}
 use Rattle.marks.specs.Due.{Flagged}
-use Rattle.index.specs.Index.{indexAt}
 use Rattle.grid.specs.declared.Grid.{Grid}
 use Rattle.crossing.specs.Sets.{either, ones}
 use Rattle.crossing.specs.Cells.{sameCell, firstOfCell, same-cell}
 use Rattle.crossing.specs.Ground.{cellsIn, Ground}
-use Rattle.layout.specs.Regions.{regionAt, OnlyIn, regionFlags, Only, own, transit, counts}
-use Rattle.layout.proofs.Windows.{drop-more, after-kept, flags-before}
+use Rattle.words.specs.Regions.{regionAt, regionFlags, own, transit, counts, indexAt}
+use Rattle.words.proofs.Windows.{flags-before}
 use Rattle.access.proofs.Flagging.{either-flagged}
 use Rattle.passes.specs.Building.{accessOf, transitIn, membersIn}
 use Rattle.passes.specs.Covered.{Covered, Beside, seen-none, seen-later, seen-all, to-all}
@@ -27,6 +26,8 @@ use Rattle.passes.specs.Passed.{Told, Passed}
 use Rattle.passes.proofs.Listing.{flagged-member, count-members}
 use Rattle.passes.specs.BuildingLaws.{same-access, in-transit}
 use Rattle.passes.proofs.Taken.{transit-needed, members-transit}
+use Rattle.words.specs.Frames.{OnlyIn, Only, KeptFrom}
+use Rattle.words.proofs.Stays.{kept-more, after-kept}
 
 module _ (b e c : Bytes) (grid : Grid) (n : ℕ) where
   abbrev cs : List Cell
@@ -44,7 +45,7 @@ module _ (b e c : Bytes) (grid : Grid) (n : ℕ) where
 
   -- The first of its cell: from the words w, the access nodes put into x, their union with region TRANSIT into y, and their count into z.
   module _ (u : ℕ) (h : u < n) (w x y z : List ℕ) (g : Passed b e c grid n u w)
-      (mine : membersIn n own x ≡ accessOf b e c grid u) (rest : drop (regionAt n transit) x ≡ drop (regionAt n transit) w)
+      (mine : membersIn n own x ≡ accessOf b e c grid u) (rest : KeptFrom (regionAt n transit) w x)
       (united : regionFlags n transit y ≡ either (regionFlags n own x) (regionFlags n transit x)) (apart : Only n transit x y)
       (k : ℕ) (count : k ≡ ones (regionFlags n own x))
       (put : (v : ℕ) → v < n → getD z (regionAt n counts + v) 0 ≡ cond (sameCell cs u v) k (getD y (regionAt n counts + v) 0)) (alone : OnlyIn (regionAt n counts) n y z) where
@@ -63,7 +64,7 @@ module _ (b e c : Bytes) (grid : Grid) (n : ℕ) where
     -- The words of the others stay.
     stayed : (v : ℕ) → getD y (regionAt n counts + v) 0 ≡ getD w (regionAt n counts + v) 0
     stayed v =
-        let r = drop-more (regionAt n transit) (regionAt n counts) w x (omega arith) rest in
+        let r = kept-more (regionAt n transit) (regionAt n counts) w x (omega arith) rest in
         let s = after-kept _ _ x y apart (regionAt n counts) (omega arith) in
         sym (getD-drop (regionAt n counts) y v 0) ∙ (ap (λ (l : List ℕ). getD l v 0) (s ∙ r) ∙ getD-drop (regionAt n counts) w v 0)
 
@@ -87,14 +88,14 @@ module _ (b e c : Bytes) (grid : Grid) (n : ℕ) where
         pick false s (inl d) = told-other v l s (g .seen v l d)
         pick false s (inr d) = absurd (false≢true (sym s ∙ same-cell cs u v .1 (d .1)))
 
-    pub passed-next : Passed b e c grid n (u + 1) z × (drop (indexAt n) z ≡ drop (indexAt n) w)
+    pub passed-next : Passed b e c grid n (u + 1) z × (KeptFrom (indexAt n) w z)
     passed-next = (
       record {
         sound = λ a m. ⊎-elim (λ i. record { by = u; below = h; listed = i }) (g .sound a) (joined a .0 m);
         seen = to-all cs (Told b e c grid n z) n u n (omega arith) told;
       },
       after-kept _ _ y z alone (indexAt n) (omega arith)
-          ∙ (after-kept _ _ x y apart (indexAt n) (omega arith) ∙ drop-more (regionAt n transit) (indexAt n) w x (omega arith) rest),
+          ∙ (after-kept _ _ x y apart (indexAt n) (omega arith) ∙ kept-more (regionAt n transit) (indexAt n) w x (omega arith) rest),
     )
 
   -- All nodes are passed.

@@ -13,17 +13,16 @@ use Rattle.model.specs.Access.{accessNodes, accessLists, transitNodes}
 use Rattle.theory.specs.Members.{filter→, →filter, any→, map→, range→, →upTo, member→}
 use Rattle.theory.specs.Tests.{same-test}
 use Rattle.bitset.specs.Bits.{isIn}
+use Rattle.bitset.specs.Members.{membersOf}
 use Rattle.grid.specs.Stored.{gridOf}
 use Rattle.grid.specs.declared.Grid.{Grid}
 use Rattle.crossing.specs.Cells.{firstOfCell}
 use Rattle.crossing.specs.Ground.{cellsIn, openIn}
 use Rattle.crossing.specs.FirstNodes.{firsts, transit-firsts}
-use Rattle.emit.specs.Members.{membersOf}
 use Rattle.emit.specs.MemberLaws.{members-passing}
-use Rattle.access.specs.Networks.{networkIn}
-use Rattle.layout.specs.Regions.{region}
+use Rattle.access.specs.Networks.{networkIn, count-cells}
+use Rattle.words.specs.Regions.{region}
 use Rattle.passes.specs.Building.{accessOf, transitIn, membersIn}
-use Rattle.passes.specs.BuildingLaws.{count-cells}
 use Rattle.passes.specs.Passed.{Needed}
 
 module _ (b e c : Bytes) (grid : Grid) where
@@ -31,7 +30,7 @@ module _ (b e c : Bytes) (grid : Grid) where
   cs = cellsIn grid b
 
   abbrev of : Cell → List ℕ
-  of = accessNodes (distance (networkIn b e c)) cs (openIn e c)
+  of = accessNodes (distance (networkIn b e c)) (gridOf grid) cs (openIn e c)
 
   abbrev at : ℕ → List ℕ
   at u = of (cellAt cs u)
@@ -58,4 +57,4 @@ module _ (b e c : Bytes) (grid : Grid) where
         let (l, i, f) = any→ (member a) (map at (firsts cs of)) t in
         let (x, j, q) = map→ at (firsts cs of) i in
         let k = range→ 0 (length cs) x (filter→ (firstOfCell cs) (upTo (length cs)) j .0) in
-        record { by = x; below = omega (arith, count-cells b e c grid n size); listed = member→ a (at x) (rw q at f) }
+        record { by = x; below = omega (arith, count-cells b n size grid); listed = member→ a (at x) (rw q at f) }

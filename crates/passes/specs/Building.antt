@@ -10,12 +10,12 @@ use Rattle.grid.specs.Stored.{gridOf}
 use Rattle.grid.specs.declared.Grid.{Grid}
 use Rattle.crossing.specs.Ground.{cellsIn, openIn}
 use Rattle.access.specs.Networks.{networkIn}
-use Rattle.layout.specs.Regions.{region}
-use Rattle.emit.specs.Members.{membersOf}
+use Rattle.words.specs.Regions.{region}
+use Rattle.bitset.specs.Members.{membersOf}
 
 -- The access nodes of the cell of u, rising.
 unfoldable pub accessOf : Bytes → Bytes → Bytes → Grid → ℕ → List ℕ
-accessOf nodes edges closed grid u = accessNodes (distance (networkIn nodes edges closed)) (cellsIn grid nodes) (openIn edges closed) (cellAt (cellsIn grid nodes) u)
+accessOf nodes edges closed grid u = accessNodes (distance (networkIn nodes edges closed)) (gridOf grid) (cellsIn grid nodes) (openIn edges closed) (cellAt (cellsIn grid nodes) u)
 
 -- The transit nodes, rising.
 unfoldable pub transitIn : Bytes → Bytes → Bytes → Grid → List ℕ

@@ -7,8 +7,8 @@ use mathlib.Core.List.{List, [], _++_, map, List·Memᴰ}
 use lib.ListN.{length, getD, length-map}
 use Rattle.model.specs.Lists.{any, concat, concatMap, member, range, upTo}
 use Rattle.model.specs.Bytes.{Bytes}
-use Rattle.model.specs.Network.{Network, node, nodes, nodeCount, order, arcs, distance}
-use Rattle.model.specs.Grid.{Cell, cells, cellAt}
+use Rattle.model.specs.Network.{Network, nodeCount, arcs, distance}
+use Rattle.model.specs.Grid.{Cell, cellAt}
 use Rattle.model.specs.Access.{accessNodes, accessLists, transitNodes}
 use Rattle.model.specs.Oracle.{coded, valueBytes, listBytes, accessBytes, tableBytes, startSize, starts}
 use Rattle.theory.specs.RangeLaws.{length-range}
@@ -16,13 +16,14 @@ use Rattle.theory.specs.Members.{length-filter, filter→, →filter, →any, �
 use Rattle.theory.specs.Built.{getD-map-in}
 use Rattle.algorithms.specs.Rounds.{distanceWords}
 use Rattle.bitset.specs.Bits.{isIn}
+use Rattle.bitset.specs.Members.{membersOf}
 use Rattle.arcs.specs.Arcs.{arcsIn}
 use Rattle.grid.specs.Stored.{gridOf}
 use Rattle.grid.specs.declared.Grid.{Grid}
 use Rattle.crossing.specs.Ground.{cellsIn}
-use Rattle.access.specs.Networks.{networkIn}
-use Rattle.layout.specs.Regions.{region, own, transit}
-use Rattle.emit.specs.Members.{membersOf, Among}
+use Rattle.access.specs.Networks.{networkIn, count-order, count-cells}
+use Rattle.words.specs.Regions.{region, own, transit}
+use Rattle.emit.specs.Members.{Among}
 use Rattle.emit.specs.Parts.{listBytesOf, rowBytes}
 use Rattle.emit.specs.PartLaws.{list-values, row-values}
 use Rattle.passes.specs.Building.{accessOf, transitIn, listIn, membersIn}
@@ -53,28 +54,18 @@ module _ (b e c : Bytes) (grid : Grid) (n : ℕ) (size : n ≡ nodeCount b) wher
   abbrev cs : List Cell
   cs = cellsIn grid b
 
-  -- ---- how many
-
-  pub count-order : order net ≡ n
-  unfolding order nodes
-  count-order = length-map (upTo (nodeCount b)) (node b) ∙ (length-range 0 (nodeCount b) ∙ sym size)
-
-  pub count-cells : length cs ≡ n
-  unfolding cells order
-  count-cells = length-map (nodes b) _ ∙ count-order
-
   -- ---- the access nodes and the transit nodes
 
   -- An access node is a node.
   pub access-below : (u v : ℕ) → List·Memᴰ v (accessOf b e c grid u) → v < n
   unfolding accessOf accessNodes
-  access-below u v m = omega (arith, count-cells, range→ 0 (length cs) v (filter→ _ (upTo (length cs)) m .0))
+  access-below u v m = omega (arith, count-cells b n size grid, range→ 0 (length cs) v (filter→ _ (upTo (length cs)) m .0))
 
   pub access-few : (u : ℕ) → length (accessOf b e c grid u) ≤ n
   unfolding accessOf accessNodes
   access-few u =
       let l : length (accessOf b e c grid u) ≤ length (upTo (length cs)) = length-filter _ (upTo (length cs)) in
-      omega (arith, length-range 0 (length cs), count-cells)
+      omega (arith, length-range 0 (length cs), count-cells b n size grid)
 
   pub transit-few : length (transitIn b e c grid) ≤ n
   unfolding transitIn transitNodes
@@ -86,11 +77,11 @@ module _ (b e c : Bytes) (grid : Grid) (n : ℕ) (size : n ≡ nodeCount b) wher
 
   list-of : (u : ℕ) → u < n → getD (accessLists net (gridOf grid)) u [] ≡ accessOf b e c grid u
   unfolding accessLists cellAt accessOf
-  list-of u h = getD-map-in (accessNodes (distance net) cs (net .edges)) cs u (record { column = 0; row = 0 }) [] (rw count-cells h)
+  list-of u h = getD-map-in (accessNodes (distance net) (gridOf grid) cs (net .edges)) cs u (record { column = 0; row = 0 }) [] (rw (count-cells b n size grid) h)
 
   pub count-lists : length (accessLists net (gridOf grid)) ≡ n
   unfolding accessLists
-  count-lists = length-map cs (accessNodes (distance net) cs (net .edges)) ∙ count-cells
+  count-lists = length-map cs (accessNodes (distance net) (gridOf grid) cs (net .edges)) ∙ count-cells b n size grid
 
   -- An access node is a transit node.
   pub in-transit : (u : ℕ) → u < n → (v : ℕ) → List·Memᴰ v (accessOf b e c grid u) → List·Memᴰ v (transitIn b e c grid)
@@ -104,7 +95,7 @@ module _ (b e c : Bytes) (grid : Grid) (n : ℕ) (size : n ≡ nodeCount b) wher
 
   pub distance-words : (u : ℕ) → distanceWords (arcsIn e c) n u ≡ map (λ v. coded (distance net u v)) (upTo n)
   unfolding distanceWords distance arcs arcsIn
-  distance-words u = rw count-order
+  distance-words u = rw (count-order b n size e c)
 
   -- u has the access nodes of the cell of x.
   pub list-words : (w : List ℕ) (u x : ℕ) → membersIn n transit w ≡ transitIn b e c grid → accessOf b e c grid x ≡ accessOf b e c grid u → membersIn n own w ≡ accessOf b e c grid x

@@ -6,7 +6,7 @@ use lib.ListN.{length, getD}
 use Rattle.model.specs.Bytes.{Bytes}
 use Rattle.grid.specs.declared.Grid.{Grid}
 use Rattle.crossing.specs.Ground.{cellsIn}
-use Rattle.layout.specs.Regions.{regionAt, transit, counts}
+use Rattle.words.specs.Regions.{regionAt, transit, counts}
 use Rattle.passes.specs.Building.{accessOf, membersIn}
 use Rattle.passes.specs.Covered.{Seen}
 

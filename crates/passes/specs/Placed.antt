@@ -7,8 +7,8 @@ use mathlib.Core.List.{List, [], _∷_, _++_, map}
 use lib.ListN.{length, getD, take, drop, length-append, length-map, take-append-drop, drop-of-length-le}
 use lib.Seq.{drop-drop}
 use Rattle.model.specs.Lists.{concat, upTo}
-use Rattle.model.specs.Bytes.{Bytes, word32, cut}
-use Rattle.model.specs.Oracle.{startSize, starts}
+use Rattle.model.specs.Bytes.{Bytes, cut}
+use Rattle.model.specs.Oracle.{startSize, starts, listStart}
 use Rattle.theory.specs.FileLaws.{startOf, concat-bound}
 use Rattle.theory.specs.RangeLaws.{length-range, getD-map-range}
 use Rattle.theory.specs.ReadLaws.{length-starts, start-read}
@@ -87,8 +87,8 @@ module _ (n : ℕ) (list : ℕ → Bytes) where
       sym (take-append-drop (startSize * n) b) ∙ rw (s, after)
 
   -- The place of list v, read from the starts.
-  pub read-start : (b : Bytes) → take (startSize * n) b ≡ front → length whole < 4294967296 → (v : ℕ) → v < n → word32 b (startSize * v) ≡ offset v
-  unfolding offset
+  pub read-start : (b : Bytes) → take (startSize * n) b ≡ front → length whole < 4294967296 → (v : ℕ) → v < n → listStart b v ≡ offset v
+  unfolding offset listStart
   read-start b s small v h =
       let e : b ≡ front ++ drop (startSize * n) b = sym (take-append-drop (startSize * n) b) ∙ rw s in
-      ap (λ (l : Bytes). word32 l (startSize * v)) e ∙ start-read (startSize * n) v lists (drop (startSize * n) b) (rw count-lists h) (omega (arith, small, offset-within v h))
+      ap (λ (l : Bytes). listStart l v) e ∙ start-read (startSize * n) v lists (drop (startSize * n) b) (rw count-lists h) (omega (arith, small, offset-within v h))

@@ -3,7 +3,7 @@ use Prim.Native.Nat.{ℕ}
 use mathlib.Core.Path.{_≡_}
 use mathlib.Core.List.{List}
 use lib.ListN.{length}
-use Rattle.layout.specs.Regions.{regionFlags, want, own}
+use Rattle.words.specs.Regions.{regionFlags, want, own}
 use Rattle.passes.specs.Building.{membersIn}
 
 -- Region WANT of the working words has the nodes of region OWN, and they are so many.

@@ -4,14 +4,15 @@ ghost use mathlib.Core.Bool.{cond};
 ghost use Prim.Native.Nat.{ℕ, _+_, _*_, _<_, _≤_};
 ghost use lib.ListN.{length, getD, set, drop};
 ghost use Rattle.model.specs.Network.{maxNodes, nodeCount};
-ghost use Rattle.index.specs.Index.{indexAt, Roads};
+ghost use Rattle.index.specs.Index.{Roads};
 ghost use Rattle.grid.specs.Stored.{Over};
 ghost use Rattle.crossing.specs.Beside.{CellSquare};
 ghost use Rattle.crossing.specs.Cells.{sameCell};
 ghost use Rattle.crossing.specs.Ground.{cellsIn, Ground};
-ghost use Rattle.layout.specs.Regions.{regionAt, OnlyIn, transit, counts};
+ghost use Rattle.words.specs.Regions.{regionAt, transit, counts, indexAt};
 ghost use Rattle.passes.specs.Building.{accessOf, transitIn, membersIn};
 ghost use Rattle.passes.specs.Passed.{Passed};
+ghost use Rattle.words.specs.Frames.{OnlyIn, Enough, KeptFrom};
 use crate::own::own_access;
 use access::sets::count;
 use access::sets::unite;
@@ -20,11 +21,11 @@ use crossing::cells::cell_square;
 use crossing::cells::first_of_cell;
 use grid::Grid;
 use grid::square::Square;
-use layout::regions::COUNTS;
-use layout::regions::OWN;
-use layout::regions::TRANSIT;
-use layout::regions::clear;
-use layout::regions::region_at;
+use words::regions::COUNTS;
+use words::regions::OWN;
+use words::regions::TRANSIT;
+use words::regions::clear;
+use words::regions::region_at;
 
 // Stores k for v, if v has the cell of u, which the square is of.
 fn put_count(
@@ -37,7 +38,7 @@ fn put_count(
     k: usize,
     work: &mut [u32],
 )
-    requires { ⌜ CellSquare (now nodes) grid u square × (n ≡ nodeCount (now nodes)) × (n ≤ maxNodes) × (v < n) × (k ≤ n) × (8 * n ≤ length (now work)) ⌝ }
+    requires { ⌜ CellSquare (now nodes) grid u square × (n ≡ nodeCount (now nodes)) × (n ≤ maxNodes) × (v < n) × (k ≤ n) × Enough n (now work) ⌝ }
     ensures { λ _. ⌜ now (work .exit) ≡ cond (sameCell (cellsIn grid (now (nodes .entry))) u v) (set (now (work .entry)) (regionAt n counts + v) k) (now (work .entry)) ⌝ }
 {
     if beside(nodes, square, v) {
@@ -48,7 +49,7 @@ fn put_count(
 
 // Stores k for each node of the cell of u.
 fn put_counts(nodes: &[u8], grid: Grid, n: usize, u: usize, k: usize, work: &mut [u32])
-    requires { ⌜ Over grid (now nodes) × (n ≡ nodeCount (now nodes)) × (n ≤ maxNodes) × (u < n) × (k ≤ n) × (8 * n ≤ length (now work)) ⌝ }
+    requires { ⌜ Over grid (now nodes) × (n ≡ nodeCount (now nodes)) × (n ≤ maxNodes) × (u < n) × (k ≤ n) × Enough n (now work) ⌝ }
     ensures counted { λ _. ⌜ ((v : ℕ) → v < n → getD (now (work .exit)) (regionAt n counts + v) 0 ≡ cond (sameCell (cellsIn grid (now (nodes .entry))) u v) k (getD (now (work .entry)) (regionAt n counts + v) 0)) ⌝ }
     ensures others { λ _. ⌜ OnlyIn (regionAt n counts) n (now (work .entry)) (now (work .exit)) ⌝ }
 {
@@ -70,10 +71,10 @@ fn pass_cell(
     u: usize,
     work: &mut [u32],
 )
-    requires { ⌜ Ground (now nodes) (now edges) (now closed) grid × (n ≡ nodeCount (now nodes)) × (n ≤ maxNodes) × (u < n) × (8 * n ≤ length (now work)) ⌝ }
+    requires { ⌜ Ground (now nodes) (now edges) (now closed) grid × (n ≡ nodeCount (now nodes)) × (n ≤ maxNodes) × (u < n) × Enough n (now work) ⌝ }
     requires { ⌜ Passed (now nodes) (now edges) (now closed) grid n u (now work) × Roads (now edges) (now closed) n (now work) ⌝ }
     ensures passed { λ _. ⌜ Passed (now (nodes .entry)) (now (edges .entry)) (now (closed .entry)) grid n (u + 1) (now (work .exit)) ⌝ }
-    ensures others { λ _. ⌜ drop (indexAt n) (now (work .exit)) ≡ drop (indexAt n) (now (work .entry)) ⌝ }
+    ensures others { λ _. ⌜ KeptFrom (indexAt n) (now (work .entry)) (now (work .exit)) ⌝ }
 {
     if first_of_cell(nodes, grid, u) {
         own_access(nodes, edges, closed, grid, n, u, work);
@@ -92,11 +93,11 @@ pub fn mark_transit(
     n: usize,
     work: &mut [u32],
 )
-    requires { ⌜ Ground (now nodes) (now edges) (now closed) grid × (n ≡ nodeCount (now nodes)) × (n ≤ maxNodes) × (8 * n ≤ length (now work)) × (1 ≤ n) ⌝ }
+    requires { ⌜ Ground (now nodes) (now edges) (now closed) grid × (n ≡ nodeCount (now nodes)) × (n ≤ maxNodes) × Enough n (now work) × (1 ≤ n) ⌝ }
     requires { ⌜ Roads (now edges) (now closed) n (now work) ⌝ }
     ensures members { λ _. ⌜ membersIn n transit (now (work .exit)) ≡ transitIn (now (nodes .entry)) (now (edges .entry)) (now (closed .entry)) grid ⌝ }
     ensures counted { λ _. ⌜ ((v : ℕ) → v < n → getD (now (work .exit)) (regionAt n counts + v) 0 ≡ length (accessOf (now (nodes .entry)) (now (edges .entry)) (now (closed .entry)) grid v)) ⌝ }
-    ensures others { λ _. ⌜ drop (indexAt n) (now (work .exit)) ≡ drop (indexAt n) (now (work .entry)) ⌝ }
+    ensures others { λ _. ⌜ KeptFrom (indexAt n) (now (work .entry)) (now (work .exit)) ⌝ }
 {
     clear(work, n, TRANSIT);
     let mut u = 0;

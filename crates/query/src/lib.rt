@@ -1,8 +1,3 @@
-// The questions over an oracle: what sends them back, and their answers.
+// The questions over an oracle: the calls, which check it, and the questions over an opened one.
 pub mod calls;
-pub mod kinds;
-pub mod local;
-pub mod opened;
 pub mod questions;
-pub mod refusals;
-pub mod ways;

@@ -5,6 +5,13 @@ ghost use Rattle.model.specs.Contents.{networkEntries, oracleEdition, oracleEnt
 ghost use Rattle.model.specs.Rules.{firstBroken, networkRules, acceptRules, shapeRules};
 use crate::bodies::network_bodies;
 use crate::bodies::oracle_bodies;
+use crate::oracle::ACCESS;
+use crate::oracle::CLOSED;
+use crate::oracle::EDGES;
+use crate::oracle::GRID;
+use crate::oracle::NODES;
+use crate::oracle::TABLE;
+use crate::oracle::TRANSIT;
 use codec::records::NODE_SIZE;
 use contents::NETWORK_EDITION;
 use contents::NETWORK_ENTRIES;
@@ -12,6 +19,7 @@ use contents::ORACLE_EDITION;
 use contents::ORACLE_ENTRIES;
 use contents::contents_broken;
 use contents::read;
+use model::Division;
 use rules::grid::grid_broken;
 
 // Rules 1 to 7, of a network or an oracle.
@@ -26,18 +34,18 @@ fn network_refusal(edition: u32, entries: usize, f: &[u8]) -> u32
     if c.bodies_broken(entries, f) {
         return 2;
     }
-    network_bodies(c.body(f, 0), c.body(f, 1), c.body(f, 2))
+    network_bodies(c.body(f, NODES), c.body(f, EDGES), c.body(f, CLOSED))
 }
 
 // The rules that building checks before 14.
-pub fn accept_refusal(f: &[u8], g: u32) -> u32
-    ensures { λ r. ⌜ r ≡ firstBroken (acceptRules (now (f .entry)) g) ⌝ }
+pub fn accept_refusal(f: &[u8], dv: Division) -> u32
+    ensures { λ r. ⌜ r ≡ firstBroken (acceptRules (now (f .entry)) dv) ⌝ }
 {
     let r = network_refusal(NETWORK_EDITION, NETWORK_ENTRIES, f);
     if r != 0 {
         return r;
     }
-    if grid_broken(g) {
+    if grid_broken(dv.g) {
         return 8;
     }
     0
@@ -49,8 +57,14 @@ fn oracle_refusal(o: &[u8]) -> u32
     ensures { λ r. ⌜ r ≡ firstBroken (shapeRules (now (o .entry))) ⌝ }
 {
     let c = read(ORACLE_ENTRIES, o);
-    let n = c.body(o, 0).len() / NODE_SIZE;
-    oracle_bodies(n, c.body(o, 3), c.body(o, 4), c.body(o, 5), c.body(o, 6))
+    let n = c.body(o, NODES).len() / NODE_SIZE;
+    oracle_bodies(
+        n,
+        c.body(o, GRID),
+        c.body(o, TRANSIT),
+        c.body(o, ACCESS),
+        c.body(o, TABLE),
+    )
 }
 
 // The rules of an oracle that every call over it checks first.

@@ -6,11 +6,15 @@ ghost use Rattle.model.specs.Contents.{oracleEntries, body, nodeBody, transitBo
 ghost use Rattle.model.specs.Network.{nodeCount};
 ghost use Rattle.model.specs.Oracle.{transitCount};
 ghost use Rattle.model.specs.Rules.{wellShaped};
+ghost use Rattle.contents.specs.Reading.{HasBodies};
 use codec::records::NODE_SIZE;
 use codec::records::NUMBER_SIZE;
+use contents::Contents;
 use contents::ORACLE_ENTRIES;
 use contents::body_of;
+use contents::read;
 
+// The numbers of the bodies, from 0. A network has the first three.
 pub const NODES: usize = 0;
 
 pub const EDGES: usize = 1;
@@ -25,6 +29,15 @@ pub const ACCESS: usize = 5;
 
 pub const TABLE: usize = 6;
 
+// The contents as one record, for a call that takes several bodies.
+pub fn oracle_contents(o: &[u8]) -> Contents
+    requires { ⌜ wellShaped (now o) ≡ true ⌝ }
+    ensures { λ r. ⌜ HasBodies oracleEntries (now (o .entry)) r ⌝ }
+{
+    read(ORACLE_ENTRIES, o)
+}
+
+// One body by its entry alone: reading all entries would cost an answer by a short search or from the table a tenth of its time and more.
 pub fn oracle_body(o: &[u8], k: usize) -> &[u8]
     requires { ⌜ (wellShaped (now o) ≡ true) × (k < oracleEntries) ⌝ }
     ensures { λ r. ⌜ now r ≡ body (now (o .entry)) k ⌝ }

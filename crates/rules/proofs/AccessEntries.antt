@@ -8,8 +8,8 @@ use lib.ListN.{length}
 use lib.Dec.{leb, ltb}
 use borrow.Author.Tests.{ltb-true, ltb-false, le-leb, lt-leb}
 use Rattle.model.specs.Lists.{any, upTo}
-use Rattle.model.specs.Bytes.{Bytes, word16}
-use Rattle.model.specs.Oracle.{entrySize, listStart, listCount, listPart, accessAt, accessEntry, accessList, indexes, valueBroken, entryBroken, listBroken}
+use Rattle.model.specs.Bytes.{Bytes, word16, numberSize}
+use Rattle.model.specs.Oracle.{countSize, entrySize, listSize, listStart, listCount, listPart, accessAt, accessEntry, accessList, indexes, valueBroken, entryBroken, listBroken}
 use Rattle.theory.specs.RangeLaws.{rest, rest-all, rest-step, rest-end}
 use Rattle.rules.proofs.Climb.{risingFrom, rising-from}
 
@@ -18,7 +18,8 @@ abbrev pub indexAt : Bytes → ℕ → ℕ → ℕ
 indexAt b u i = accessEntry b u i .index
 
 -- What is read of a list that stands inside the body.
-pub list-read : (b : Bytes) (u start count : ℕ) → start ≡ listStart b u → count ≡ word16 b start → listStart b u + listPart b u .size ≤ length b → (start + 2 + entrySize * count ≤ length b) × (count ≡ listCount b u)
+pub list-read : (b : Bytes) (u start count : ℕ) → start ≡ listStart b u → count ≡ word16 b start → listStart b u + listPart b u .size ≤ length b
+    → (start + listSize count ≤ length b) × (count ≡ listCount b u)
 unfolding listPart listCount
 list-read b u start count p q h = let e : count ≡ word16 b (listStart b u) = q ∙ ap (word16 b) p in (omega arith, e)
 
@@ -47,14 +48,15 @@ first-good x least e r a h = step (ltb x least) refl h
 
 -- The index of the entry at `at` is below `least`, or the entry is broken by itself.
 abbrev pub breaks : ℕ → ℕ → Bytes → ℕ → Bool
-breaks T least b at = ltb (word16 b at) least || (leb T (word16 b at) || valueBroken b (at + 2))
+breaks T least b at = ltb (word16 b at) least || (leb T (word16 b at) || valueBroken b (at + numberSize))
 
 module _ (T : ℕ) (b : Bytes) (u least i c start : ℕ) (h : i < c) (q : start ≡ listStart b u) where
-  pub entries-bad : breaks T least b (start + 2 + entrySize * i) ≡ true → entriesLeft T b u least i c ≡ true
+  pub entries-bad : breaks T least b (start + countSize + entrySize * i) ≡ true → entriesLeft T b u least i c ≡ true
   unfolding risingFrom any entryBroken accessEntry accessAt
   entries-bad e = rw (rest-step i c h) (first-bad _ least _ _ _ (rw q at e))
 
-  pub entries-good : breaks T least b (start + 2 + entrySize * i) ≡ false → (x : ℕ) → x ≡ word16 b (start + 2 + entrySize * i) → entriesLeft T b u least i c ≡ entriesLeft T b u (x + 1) (i + 1) c
+  pub entries-good : breaks T least b (start + countSize + entrySize * i) ≡ false → (x : ℕ) → x ≡ word16 b (start + countSize + entrySize * i)
+      → entriesLeft T b u least i c ≡ entriesLeft T b u (x + 1) (i + 1) c
   unfolding risingFrom any entryBroken accessEntry accessAt
   entries-good e x p = rw (rest-step i c h, p, q) (first-good _ least _ _ _ (rw q at e))
 

@@ -1,18 +1,18 @@
 -- The lists of an access body, one after the other: the loop over them, and that each stands inside the body. Assumes nothing.
-use Prim.Native.Nat.{ℕ, zero, suc, _+_, _-_, _*_, _≤_, _<_}
+use Prim.Native.Nat.{ℕ, _+_, _-_, _*_, _≤_, _<_}
 use native.Mathlib.Omega.{arith}
-use native.Mathlib.Nat.{add-zero, zero-add}
 use mathlib.Core.Path.{_≡_, refl, sym, _∙_}
-use mathlib.Core.Bool.{Bool, true, false, _&&_, and-false, true≢false}
+use mathlib.Core.Bool.{Bool, true, false, _&&_, and-false}
 use mathlib.Core.List.{List, [], _∷_, map}
 use lib.ListN.{length}
 use lib.Dec.{eqb, leb}
 use borrow.Author.Tests.{eq-eqb, ne-eqb, eqb-true, le-leb, lt-leb, leb-true, leb-false}
-use Rattle.model.specs.Lists.{Part, gapless, range, upTo}
+use Rattle.model.specs.Lists.{Part, gapless, upTo}
 use Rattle.model.specs.Bytes.{Bytes, word16}
-use Rattle.model.specs.Oracle.{startSize, entrySize, listStart, listCount, listPart}
+use Rattle.model.specs.Oracle.{startSize, countSize, listSize, listStart, listCount, listPart}
 use Rattle.theory.specs.RangeLaws.{rest, rest-all, gapless-step}
 use Rattle.theory.specs.Tests.{both}
+use Rattle.theory.specs.Joined.{gapless-after, part-within}
 
 -- Positions only grow, so parts that begin beyond the end do not end at it.
 pub gapless-beyond : (at end : ℕ) (ps : List Part) → end < at → gapless at ps end ≡ false
@@ -20,30 +20,15 @@ unfolding gapless
 gapless-beyond at end [] h = ne-eqb at end (λ e. omega arith)
 gapless-beyond at end (p ∷ ps) h = rw (gapless-beyond (at + p .size) end ps (omega arith)) (and-false (eqb (p .start) at))
 
-gapless-most : (at end : ℕ) (ps : List Part) → gapless at ps end ≡ true → at ≤ end
-gapless-most at end ps e = let r : ¬ (end < at) = λ l. true≢false (sym e ∙ gapless-beyond at end ps l) in omega arith
-
--- ---- each part stands before the end
-
-pub part-inside : (f : ℕ → Part) (at s n end u : ℕ) → gapless at (map f (range s n)) end ≡ true → u < n → f (s + u) .start + f (s + u) .size ≤ end
-unfolding gapless range
-part-inside f at s zero end u e h = absurd (omega arith)
-part-inside f at s (suc n) end zero e h =
-    let p = both {b = eqb (f s .start) at} e in
-    let q : f s .start ≡ at = eqb-true (f s .start) at (p .0) in
-    let m = gapless-most (at + f s .size) end (map f (range (suc s) n)) (p .1) in
-    rw (add-zero s) (omega arith)
-part-inside f at s (suc n) end (suc u) e h =
-    let p = both {b = eqb (f s .start) at} e in
-    let q : suc s + u ≡ s + suc u = omega arith in
-    rw (← q) (part-inside f (at + f s .size) (suc s) n end u (p .1) (omega arith))
+-- ---- each list stands before the end
 
 -- What `gapless` says of the list of node u.
-pub list-inside : (b : Bytes) (n u : ℕ) → gapless (startSize * n) (map (listPart b) (upTo n)) (length b) ≡ true → u < n → (startSize * u + startSize ≤ length b) × (listStart b u + listPart b u .size ≤ length b)
+pub list-inside : (b : Bytes) (n u : ℕ) → gapless (startSize * n) (map (listPart b) (upTo n)) (length b) ≡ true → u < n
+    → (startSize * u + startSize ≤ length b) × (listStart b u + listPart b u .size ≤ length b)
 unfolding listPart
 list-inside b n u e h =
-    let m = gapless-most (startSize * n) (length b) (map (listPart b) (upTo n)) e in
-    (omega arith, rw zero-add at (part-inside (listPart b) (startSize * n) 0 n (length b) u e h))
+    let m = gapless-after (startSize * n) (length b) (map (listPart b) (upTo n)) e in
+    (omega arith, part-within (listPart b) (startSize * n) n (length b) u e h)
 
 -- ---- one list
 
@@ -62,19 +47,19 @@ module _ (b : Bytes) (u at : ℕ) where
   pub unfit-start : (listStart b u ≡ at → ⊥) → fits b u at ≡ false
   unfit-start h = simp (ne-eqb (listStart b u) at h)
 
-  pub unfit-count : length b < at + 2 → fits b u at ≡ false
+  pub unfit-count : length b < at + countSize → fits b u at ≡ false
   unfolding listPart
   unfit-count h =
-      let l : length b < at + (2 + entrySize * listCount b u) = omega arith in
-      rw (lt-leb (at + (2 + entrySize * listCount b u)) (length b) l) (and-false (eqb (listStart b u) at))
+      let l : length b < at + listSize (listCount b u) = omega arith in
+      rw (lt-leb (at + listSize (listCount b u)) (length b) l) (and-false (eqb (listStart b u) at))
 
-  pub fits-size : listStart b u ≡ at → at ≤ length b → (x : ℕ) → x ≡ 2 + entrySize * word16 b at → leb x (length b - at) ≡ fits b u at
+  pub fits-size : listStart b u ≡ at → at ≤ length b → (x : ℕ) → x ≡ listSize (word16 b at) → leb x (length b - at) ≡ fits b u at
   unfolding listPart listCount
   fits-size e h x q = leb-shift x at (length b) h ∙ rw (e, eq-eqb at at refl, ← q)
 
-  pub fit-count : fits b u at ≡ true → at + 2 ≤ length b
+  pub fit-count : fits b u at ≡ true → at + countSize ≤ length b
   unfolding listPart
-  fit-count e = let l : at + (2 + entrySize * listCount b u) ≤ length b = leb-true _ _ (both {b = eqb (listStart b u) at} e .1) in omega arith
+  fit-count e = let l : at + listSize (listCount b u) ≤ length b = leb-true _ _ (both {b = eqb (listStart b u) at} e .1) in omega arith
 
 -- ---- the loop
 
@@ -90,15 +75,15 @@ module _ (b : Bytes) (at u n : ℕ) (h : u < n) where
   unfolding listPart
   list-unfit e = gapless-step (listPart b) at u n (length b) h ∙ step (eqb (listStart b u) at) e
     where
-      step : (t : Bool) → t && leb (at + (2 + entrySize * listCount b u)) (length b) ≡ false → t && listsLeft b (at + (2 + entrySize * listCount b u)) (u + 1) n ≡ false
+      step : (t : Bool) → t && leb (at + listSize (listCount b u)) (length b) ≡ false → t && listsLeft b (at + listSize (listCount b u)) (u + 1) n ≡ false
       step false e = refl
       step true e = gapless-beyond _ (length b) _ (leb-false _ _ e)
 
-  pub list-fit : fits b u at ≡ true → (x : ℕ) → x ≡ 2 + entrySize * word16 b at → (at + x ≤ length b) × (listsLeft b at u n ≡ listsLeft b (at + x) (u + 1) n)
+  pub list-fit : fits b u at ≡ true → (x : ℕ) → x ≡ listSize (word16 b at) → (at + x ≤ length b) × (listsLeft b at u n ≡ listsLeft b (at + x) (u + 1) n)
   unfolding listPart listCount
   list-fit e x q =
       let p = both {b = eqb (listStart b u) at} e in
       let s : listStart b u ≡ at = eqb-true (listStart b u) at (p .0) in
-      let z : 2 + entrySize * word16 b (listStart b u) ≡ x = rw s (sym q) in
-      let l : at + (2 + entrySize * word16 b (listStart b u)) ≤ length b = leb-true _ _ (p .1) in
+      let z : listSize (word16 b (listStart b u)) ≡ x = rw s (sym q) in
+      let l : at + listSize (word16 b (listStart b u)) ≤ length b = leb-true _ _ (p .1) in
       (omega arith, gapless-step (listPart b) at u n (length b) h ∙ rw (p .0, z))

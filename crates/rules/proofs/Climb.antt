@@ -8,7 +8,7 @@ use lib.ListN.{length}
 use lib.Dec.{leb, leb·zero}
 use borrow.Author.Tests.{eq-eqb, le-leb, lt-leb}
 use Rattle.model.specs.Lists.{any, rising}
-use Rattle.model.specs.Bytes.{Bytes, word16, words16}
+use Rattle.model.specs.Bytes.{Bytes, word16, numberSize, words16}
 use Rattle.model.specs.Network.{numbersBroken}
 use Rattle.theory.specs.RangeLaws.{rest, rest-step, rest-end, rest-all}
 
@@ -33,11 +33,11 @@ numbersLeft limit f n least i = not (risingFrom least (map f (rest i n))) || any
 
 -- The numbers of a body.
 abbrev pub numberAt : Bytes → ℕ → ℕ
-numberAt b i = word16 b (2 * i)
+numberAt b i = word16 b (numberSize * i)
 
-pub numbers-all : (limit : ℕ) (b : Bytes) → length b % 2 ≡ 0 → numbersBroken limit b ≡ numbersLeft limit (numberAt b) (length b / 2) 0 0
+pub numbers-all : (limit : ℕ) (b : Bytes) → length b % numberSize ≡ 0 → numbersBroken limit b ≡ numbersLeft limit (numberAt b) (length b / numberSize) 0 0
 unfolding numbersBroken words16
-numbers-all limit b e = simp (eq-eqb _ _ e) (rw (← rest-all (length b / 2), rising-from))
+numbers-all limit b e = simp (eq-eqb _ _ e) (rw (← rest-all (length b / numberSize), rising-from))
 
 module _ (limit : ℕ) (f : ℕ → ℕ) (n least i : ℕ) where
   pub numbers-end : n ≤ i → numbersLeft limit f n least i ≡ false

@@ -1,6 +1,5 @@
 -- The laws that the proofs cite.
 mod Flags
-mod Scan
 mod Climb
 mod TableLaws
 mod AccessLayout

@@ -1,30 +1,15 @@
--- Loops that look for a number below n that passes a test, and the table of values. Assumes nothing.
-use Prim.Native.Nat.{ℕ, _+_, _*_, _≤_, _<_}
+-- The table of values: its size, and the values that are left. Assumes nothing.
+use Prim.Native.Nat.{ℕ, _*_, _≤_}
 use native.Mathlib.Nat.{mul-le-mul}
 use mathlib.Core.Path.{_≡_}
-use mathlib.Core.Bool.{Bool, true, false}
+use mathlib.Core.Bool.{true}
 use lib.ListN.{length}
 use borrow.Author.Tests.{eq-eqb, ne-eqb}
 use Rattle.model.specs.Lists.{any}
 use Rattle.model.specs.Bytes.{Bytes}
 use Rattle.model.specs.Network.{maxNodes}
 use Rattle.model.specs.Oracle.{valueSize, cellBroken, tableBroken}
-use Rattle.theory.specs.RangeLaws.{rest, rest-all, rest-step, rest-end}
-
-module _ (p : ℕ → Bool) (i n : ℕ) where
-  pub some-here : i < n → p i ≡ true → any p (rest i n) ≡ true
-  unfolding any
-  some-here h e = rw (rest-step i n h, e)
-
-  pub some-later : i < n → p i ≡ false → any p (rest i n) ≡ any p (rest (i + 1) n)
-  unfolding any
-  some-later h e = rw (rest-step i n h, e)
-
-  pub some-end : n ≤ i → any p (rest i n) ≡ false
-  unfolding any
-  some-end h = rw (rest-end i n h)
-
--- ---- the table
+use Rattle.theory.specs.RangeLaws.{rest, rest-all}
 
 pub square-most : (t : ℕ) → t ≤ maxNodes → t * t ≤ maxNodes * maxNodes
 square-most t h = mul-le-mul {n₁ = t} {m₁ = t} {n₂ = maxNodes} {m₂ = maxNodes} h h

@@ -6,23 +6,24 @@ ghost use Prim.Native.Nat.{_+_, _*_, _≤_};
 ghost use lib.ListN.{length};
 ghost use lib.Dec.{eqb, leb, ltb};
 ghost use Rattle.model.specs.Lists.{any, gapless, upTo};
-ghost use Rattle.model.specs.Bytes.{word16};
+ghost use Rattle.model.specs.Bytes.{word16, numberSize};
 ghost use Rattle.model.specs.Network.{maxNodes};
-ghost use Rattle.model.specs.Oracle.{startSize, entrySize, listStart, listPart, valueBroken, listBroken, accessBroken};
+ghost use Rattle.model.specs.Oracle.{startSize, countSize, entrySize, listSize, listStart, listPart, valueBroken, listBroken, accessBroken};
 use crate::table::value_broken;
 use codec::bytes::read16;
-use codec::bytes::read32;
+use codec::lists::list_size;
+use codec::lists::list_start;
 use codec::records::COUNT_SIZE;
 use codec::records::LIST_ENTRY_SIZE;
 use codec::records::NUMBER_SIZE;
 use codec::records::START_SIZE;
 
 // The size of the list at `at`.
-fn list_size(b: &[u8], at: usize) -> usize
-    requires { ⌜ at + 2 ≤ length (now b) ⌝ }
-    ensures { λ r. ⌜ r ≡ 2 + entrySize * word16 (now (b .entry)) at ⌝ }
+fn size_at(b: &[u8], at: usize) -> usize
+    requires { ⌜ at + countSize ≤ length (now b) ⌝ }
+    ensures { λ r. ⌜ r ≡ listSize (word16 (now (b .entry)) at) ⌝ }
 {
-    COUNT_SIZE + LIST_ENTRY_SIZE * read16(b, at) as usize
+    list_size(read16(b, at) as usize)
 }
 
 // The list of node u starts at `at` and ends inside the body.
@@ -30,13 +31,13 @@ fn list_fits(b: &[u8], u: usize, at: usize) -> bool
     requires { ⌜ (startSize * u + startSize ≤ length (now b)) × (at ≤ length (now b)) ⌝ }
     ensures { λ r. ⌜ r ≡ eqb (listStart (now (b .entry)) u) at && leb (at + listPart (now (b .entry)) u .size) (length (now (b .entry))) ⌝ }
 {
-    if read32(b, START_SIZE * u) as usize != at {
+    if list_start(b, u) != at {
         return false;
     }
     if b.len() - at < COUNT_SIZE {
         return false;
     }
-    list_size(b, at) <= b.len() - at
+    size_at(b, at) <= b.len() - at
 }
 
 // The lists stand in node order without gaps, from behind the starts to the body's end.
@@ -53,7 +54,7 @@ fn lists_gapless(n: usize, b: &[u8]) -> bool
         if !list_fits(b, u, at) {
             return false;
         }
-        at += list_size(b, at);
+        at += size_at(b, at);
         u += 1;
     }
     at == b.len()
@@ -62,7 +63,7 @@ fn lists_gapless(n: usize, b: &[u8]) -> bool
 // The entry at `at` has an index below `least` or not below T, or a value out of range.
 fn entry_broken(transit: usize, least: usize, b: &[u8], at: usize) -> bool
     requires { ⌜ at + entrySize ≤ length (now b) ⌝ }
-    ensures { λ r. ⌜ r ≡ ltb (word16 (now (b .entry)) at) least || (leb transit (word16 (now (b .entry)) at) || valueBroken (now (b .entry)) (at + 2)) ⌝ }
+    ensures { λ r. ⌜ r ≡ ltb (word16 (now (b .entry)) at) least || (leb transit (word16 (now (b .entry)) at) || valueBroken (now (b .entry)) (at + numberSize)) ⌝ }
 {
     let index = read16(b, at) as usize;
     if index < least {
@@ -79,7 +80,7 @@ fn list_broken(transit: usize, b: &[u8], u: usize) -> bool
     requires { ⌜ (startSize * u + startSize ≤ length (now b)) × (listStart (now b) u + listPart (now b) u .size ≤ length (now b)) ⌝ }
     ensures { λ r. ⌜ r ≡ listBroken transit (now (b .entry)) u ⌝ }
 {
-    let start = read32(b, START_SIZE * u) as usize;
+    let start = list_start(b, u);
     let count = read16(b, start) as usize;
     let mut least = 0;
     let mut i = 0;

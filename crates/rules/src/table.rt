@@ -4,17 +4,17 @@ ghost use Prim.Native.Nat.{_+_, _≤_};
 ghost use lib.ListN.{length};
 ghost use Rattle.model.specs.Network.{maxNodes};
 ghost use Rattle.model.specs.Oracle.{valueSize, valueBroken, tableBroken};
-use codec::bytes::read32;
 use codec::records::MAX_VALUE;
 use codec::records::NO_WALK;
 use codec::records::VALUE_SIZE;
+use codec::values::read_value;
 
 // The value at i is out of range.
 pub fn value_broken(b: &[u8], i: usize) -> bool
     requires { ⌜ i + valueSize ≤ length (now b) ⌝ }
     ensures { λ r. ⌜ r ≡ valueBroken (now (b .entry)) i ⌝ }
 {
-    let v = read32(b, i);
+    let v = read_value(b, i);
     v != NO_WALK && MAX_VALUE < v
 }
 

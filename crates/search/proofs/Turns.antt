@@ -13,13 +13,13 @@ use Rattle.model.specs.Walk.{Arc}
 use Rattle.algorithms.specs.Dijkstra.{at, relax-all, at-set}
 use Rattle.algorithms.specs.Rounds.{Found, State, state-first, state-turn, state-found}
 use Rattle.arcs.specs.Arcs.{arcsIn, leaving}
-use Rattle.arcs.proofs.Bodies.{arcs-within, arcs-cost}
-use Rattle.arcs.proofs.Leaving.{leaving-out}
-use Rattle.search.specs.Regions.{timesIn, orderIn, Distinct, settledIn, settleOrder}
+use Rattle.arcs.proofs.Bodies.{arcs-within, arcs-cost, leaving-out}
 use Rattle.search.specs.Holds.{Holds, Relaxed, SettledWithin, SettledFirst}
 use Rattle.search.specs.Held.{time-in}
 use Rattle.search.specs.Round.{Settles, Round}
 use Rattle.search.proofs.Keeps.{unsettled-below}
+use Rattle.words.specs.Regions.{timesIn, orderIn, settledIn}
+use Rattle.search.specs.Order.{Distinct, settleOrder}
 
 -- ---- a round: u is settled, from w to w₁
 module _ (n k e u : ℕ) (w w₁ : List ℕ) (t : Settles n k e w w₁ u) where

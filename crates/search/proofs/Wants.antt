@@ -1,5 +1,5 @@
 -- A search up to the wanted nodes: how many are lacking between its rounds, and what is found at its stop. Assumes nothing.
-use Prim.Native.Nat.{ℕ, _+_, _-_, _*_, _≤_, _<_}
+use Prim.Native.Nat.{ℕ, _+_, _-_, _≤_, _<_}
 use native.Mathlib.Decide.{ℕ-discrete}
 use native.Mathlib.Omega.{arith}
 use mathlib.Core.Path.{_≡_, refl, sym, ap, _∙_}
@@ -19,28 +19,30 @@ use Rattle.arcs.proofs.Bodies.{arcs-within, arcs-cost, arcs-positive}
 use Rattle.bitset.specs.Bits.{isIn, flags}
 use Rattle.bitset.proofs.Members.{flag-in, flag-out}
 use Rattle.heap.specs.Words.{low}
-use Rattle.search.specs.Regions.{frontIn, timesIn, orderIn, settledIn, settleOrder, wantIn}
+use Rattle.words.specs.Frames.{KeptFrom}
 use Rattle.search.specs.Round.{Round}
-use Rattle.search.proofs.Parts.{back-part}
 use Rattle.search.proofs.Turns.{Standing, next, last}
+use Rattle.words.specs.Regions.{frontIn, timesIn, orderIn, settledIn, wantIn, searchWords}
+use Rattle.search.specs.Order.{settleOrder}
+use Rattle.words.proofs.Parts.{back-part}
 
 -- ---- the bit of a node in the wanted set
 module _ (n : ℕ) (w : List ℕ) (v : ℕ) (i : v < n) where
-  pub want-set : isIn (midOf (3 * n) (length w - 3 * n) w) v ≡ true → at (wantIn n w) v ≡ 1
+  pub want-set : isIn (midOf (searchWords n) (length w - searchWords n) w) v ≡ true → at (wantIn n w) v ≡ 1
   unfolding wantIn
-  want-set e = flag-in n (drop (3 * n) w) v i (rw back-part at e)
+  want-set e = flag-in n (drop (searchWords n) w) v i (rw back-part at e)
 
-  pub want-not-set : isIn (midOf (3 * n) (length w - 3 * n) w) v ≡ false → at (wantIn n w) v ≡ 0
+  pub want-not-set : isIn (midOf (searchWords n) (length w - searchWords n) w) v ≡ false → at (wantIn n w) v ≡ 0
   unfolding wantIn
-  want-not-set e = flag-out n (drop (3 * n) w) v i (rw back-part at e)
+  want-not-set e = flag-out n (drop (searchWords n) w) v i (rw back-part at e)
 
   want-most : at (wantIn n w) v ≤ 1
   unfolding wantIn
-  want-most = pick (isIn (drop (3 * n) w) v) refl
+  want-most = pick (isIn (drop (searchWords n) w) v) refl
     where
-      pick : (b : Bool) → isIn (drop (3 * n) w) v ≡ b → at (flags n (drop (3 * n) w)) v ≤ 1
-      pick true e = omega (arith, flag-in n (drop (3 * n) w) v i e)
-      pick false e = omega (arith, flag-out n (drop (3 * n) w) v i e)
+      pick : (b : Bool) → isIn (drop (searchWords n) w) v ≡ b → at (flags n (drop (searchWords n) w)) v ≤ 1
+      pick true e = omega (arith, flag-in n (drop (searchWords n) w) v i e)
+      pick false e = omega (arith, flag-out n (drop (searchWords n) w) v i e)
 
 -- ---- the node that was settled last, as it stands in the words
 last-settled : (n e u : ℕ) (w l : List ℕ) → e < n → settleOrder n e (frontIn n w) ≡ u ∷ l → low (getD w (n + e) 0) ≡ u
@@ -49,7 +51,7 @@ last-settled n e u w l h q =
     let f = frontIn n w in
     let z : e + 0 ≡ e = omega arith in
     let there : getD (orderIn n e f) 0 0 ≡ getD w (n + e) 0 =
-    getD-drop e (take n (drop n f)) 0 0 ∙ rw z (getD-take n (drop n f) e 0 h ∙ getD-drop n f e 0 ∙ getD-take (3 * n) w (n + e) 0 (omega arith)) in
+    getD-drop e (take n (drop n f)) 0 0 ∙ rw z (getD-take n (drop n f) e 0 h ∙ getD-drop n f e 0 ∙ getD-take (searchWords n) w (n + e) 0 (omega arith)) in
     sym (List·getD-map low (orderIn n e f) 0 0 ∙ ap low there) ∙ ap (λ (x : List ℕ). getD x 0 0) q
 
 -- ---- between the rounds
@@ -59,7 +61,7 @@ pub record Wanting (arcs : List Arc) (n s k e left : ℕ) (want w : List ℕ) : 
   pub few : lacking want (settledIn n w) ≤ left
 
 -- No node is settled. The words w are those that were lent, w₁ those in which the search has begun.
-pub wanting-begun : (arcs : List Arc) (n s k left : ℕ) (w w₁ : List ℕ) → drop (3 * n) w₁ ≡ drop (3 * n) w → Standing arcs n s k n (frontIn n w₁) → settledIn n (frontIn n w₁) ≡ replicate n 0
+pub wanting-begun : (arcs : List Arc) (n s k left : ℕ) (w w₁ : List ℕ) → KeptFrom (searchWords n) w w₁ → Standing arcs n s k n (frontIn n w₁) → settledIn n (frontIn n w₁) ≡ replicate n 0
     → lacking (wantIn n w) (replicate n 0) ≤ left → Wanting arcs n s k n left (wantIn n w₁) (frontIn n w₁)
 unfolding wantIn
 wanting-begun arcs n s k left w w₁ p g q h = record { standing = g; few = rw (q, p) h }
@@ -93,14 +95,15 @@ module _ (b closed : Bytes) (n s : ℕ) (small : n ≤ maxNodes) (s-in : s < n) 
     stop z w′ p q = (pick z, g .standing .holds .queue .room)
       where
         pick : (k ≡ 0) ⊎ (left ≡ 0) → Stopped arcs n s want (timesIn n w′) (orderIn n e w′)
-        pick (inl y) = found-stopped arcs n s (arcs-within n b h closed) s-in maxSeconds (arcs-cost n b h closed) (omega arith) (timesIn n w′) (orderIn n e w′) (last b closed n s small s-in h k e w (g .standing) y w′ p q .0) want
+        pick (inl y) = found-stopped arcs n s (arcs-within n b h closed) s-in maxSeconds (arcs-cost n b h closed) (omega arith) (timesIn n w′) (orderIn n e w′)
+            (last b closed n s small s-in h k e w (g .standing) y w′ p q .0) want
         pick (inr y) =
             rw (p, q)
             (state-stopped arcs n s (arcs-within n b h closed) s-in (arcs-positive n b h closed) want (timesIn n w) done (settleOrder n e w) (g .standing .state)
             (λ v i l. lacking-none want done (omega (arith, g .few)) v (omega (arith, g .standing .state .inv .flags)) l))
 
   -- A round in the lent words, from w to w′. The wanted set stands behind the words of the search, where nothing is written.
-  module _ (k e left : ℕ) (w₀ w w′ : List ℕ) (some : 0 < k) (same : drop (3 * n) w′ ≡ drop (3 * n) w₀) (g : Wanting arcs n s k e left (wantIn n w₀) (frontIn n w))
+  module _ (k e left : ℕ) (w₀ w w′ : List ℕ) (some : 0 < k) (same : KeptFrom (searchWords n) w₀ w′) (g : Wanting arcs n s k e left (wantIn n w₀) (frontIn n w))
       (r : ℕ) (t : Round arcs n e (frontIn n w) (frontIn n w′) r) where
     pub room : (0 < e) × (e ≤ n)
     room = (omega (arith, g .standing .holds .queue .held, some), g .standing .holds .queue .room)
@@ -120,7 +123,7 @@ module _ (b closed : Bytes) (n s : ℕ) (small : n ≤ maxNodes) (s-in : s < n) 
         wanting-next k e left (wantIn n w₀) (frontIn n w) g (frontIn n w′) r t left′ (want-most n w₀ (t .node) (t .near .inside)) (rw (node-read, same-want) at q)
 
   -- The end, where the search began in w₁ and has come to w.
-  pub stop-wanted : (k e left : ℕ) (w₀ w₁ : List ℕ) → drop (3 * n) w₁ ≡ drop (3 * n) w₀ → (w : List ℕ) → Wanting arcs n s k e left (wantIn n w₁) w → (k ≡ 0) ⊎ (left ≡ 0)
+  pub stop-wanted : (k e left : ℕ) (w₀ w₁ : List ℕ) → KeptFrom (searchWords n) w₀ w₁ → (w : List ℕ) → Wanting arcs n s k e left (wantIn n w₁) w → (k ≡ 0) ⊎ (left ≡ 0)
       → (w′ : List ℕ) → timesIn n w′ ≡ timesIn n w → orderIn n e w′ ≡ settleOrder n e w → Stopped arcs n s (wantIn n w₀) (timesIn n w′) (orderIn n e w′) × (e ≤ n)
   unfolding wantIn
-  stop-wanted k e left w₀ w₁ p w g = rw (← p) (stop k e left (flags n (drop (3 * n) w₁)) w g)
+  stop-wanted k e left w₀ w₁ p w g = rw (← p) (stop k e left (flags n (drop (searchWords n) w₁)) w g)

@@ -6,10 +6,12 @@ ghost use Rattle.model.specs.Network.{maxNodes};
 ghost use Rattle.model.specs.Oracle.{noWalk};
 ghost use Rattle.arcs.specs.Arcs.{arcsIn};
 ghost use Rattle.index.specs.Index.{Roads};
-ghost use Rattle.search.specs.Regions.{frontIn, timesIn, orderIn, settledIn, settleOrder};
+ghost use Rattle.words.specs.Frames.{Enough, KeptFrom};
 ghost use Rattle.search.specs.Holds.{Holds, SettledFirst};
 ghost use Rattle.search.specs.Round.{Round};
-use crate::regions::REGIONS;
+ghost use Rattle.words.specs.Regions.{frontIn, timesIn, orderIn, settledIn, searchWords};
+ghost use Rattle.search.specs.Order.{settleOrder};
+use words::regions::SEARCH;
 use crate::regions::plain_order;
 use crate::regions::reset;
 use crate::regions::settle_nearest;
@@ -17,35 +19,35 @@ use crate::relax::relax;
 
 // Only s is reached, and no node is settled. The number of nodes held.
 pub fn begin(work: &mut [u32], n: usize, s: usize) -> usize
-    requires { ⌜ (n ≤ maxNodes) × (s < n) × (3 * n ≤ length (now work)) ⌝ }
+    requires { ⌜ (n ≤ maxNodes) × (s < n) × (searchWords n ≤ length (now work)) ⌝ }
     ensures holds { λ r. ⌜ Holds n r n (frontIn n (now (work .exit))) ⌝ }
     ensures times { λ _. ⌜ timesIn n (frontIn n (now (work .exit))) ≡ set (replicate n noWalk) s 0 ⌝ }
     ensures settled { λ _. ⌜ settledIn n (frontIn n (now (work .exit))) ≡ replicate n 0 ⌝ }
-    ensures others { λ _. ⌜ drop (3 * n) (now (work .exit)) ≡ drop (3 * n) (now (work .entry)) ⌝ }
+    ensures others { λ _. ⌜ KeptFrom (searchWords n) (now (work .entry)) (now (work .exit)) ⌝ }
 {
-    let m = REGIONS * n;
+    let m = SEARCH * n;
     reset(&mut work[..m], n, s)
 }
 
 // Settles a nearest of the k nodes held, and relaxes the arcs out of it. The number of nodes held then.
 pub fn round(edges: &[u8], closed: &[u8], n: usize, k: usize, e: usize, work: &mut [u32]) -> usize
     requires { ⌜ Holds n k e (frontIn n (now work)) × (0 < k) × SettledFirst n (frontIn n (now work)) ⌝ }
-    requires { ⌜ Roads (now edges) (now closed) n (now work) × (8 * n ≤ length (now work)) ⌝ }
+    requires { ⌜ Roads (now edges) (now closed) n (now work) × Enough n (now work) ⌝ }
     ensures round { λ r. ⌜ Round (arcsIn (now (edges .entry)) (now (closed .entry))) n e (frontIn n (now (work .entry))) (frontIn n (now (work .exit))) r ⌝ }
-    ensures others { λ _. ⌜ drop (3 * n) (now (work .exit)) ≡ drop (3 * n) (now (work .entry)) ⌝ }
+    ensures others { λ _. ⌜ KeptFrom (searchWords n) (now (work .entry)) (now (work .exit)) ⌝ }
 {
-    let m = REGIONS * n;
+    let m = SEARCH * n;
     let u = settle_nearest(&mut work[..m], n, k, e);
     relax(edges, closed, work, n, k - 1, e - 1, u)
 }
 
 // What a search leaves: the settled nodes alone, from position e on.
 pub fn finish(work: &mut [u32], n: usize, e: usize)
-    requires { ⌜ (3 * n ≤ length (now work)) × (e ≤ n) ⌝ }
+    requires { ⌜ (searchWords n ≤ length (now work)) × (e ≤ n) ⌝ }
     ensures times { λ _. ⌜ timesIn n (now (work .exit)) ≡ timesIn n (frontIn n (now (work .entry))) ⌝ }
     ensures order { λ _. ⌜ orderIn n e (now (work .exit)) ≡ settleOrder n e (frontIn n (now (work .entry))) ⌝ }
-    ensures others { λ _. ⌜ drop (3 * n) (now (work .exit)) ≡ drop (3 * n) (now (work .entry)) ⌝ }
+    ensures others { λ _. ⌜ KeptFrom (searchWords n) (now (work .entry)) (now (work .exit)) ⌝ }
 {
-    let m = REGIONS * n;
+    let m = SEARCH * n;
     plain_order(&mut work[..m], n, e);
 }

@@ -8,20 +8,21 @@ ghost use Rattle.algorithms.specs.Stops.{Stopped, lacking};
 ghost use Rattle.arcs.specs.Arcs.{arcsIn};
 ghost use Rattle.heap.specs.Words.{low};
 ghost use Rattle.index.specs.Index.{Roads};
-ghost use Rattle.search.specs.Regions.{timesIn, orderIn, wantIn};
-use crate::regions::REGIONS;
+ghost use Rattle.words.specs.Regions.{timesIn, orderIn, wantIn, searchWords};
+ghost use Rattle.words.specs.Frames.{Enough, KeptFrom};
+use words::regions::SEARCH;
 use crate::rounds::begin;
 use crate::rounds::finish;
 use crate::rounds::round;
 use bitset::bits::contains;
-use heap::words::HALF;
+use heap::positions::HALF;
 
 // How many wanted nodes are lacking, where `left` were before the node at position e of the order was settled.
 fn left_then(work: &[u32], n: usize, e: usize, left: usize) -> usize
-    requires { ⌜ (e < n) × (0 < left) × (8 * n ≤ length (now work)) × (low (getD (now work) (n + e) 0) < n) ⌝ }
+    requires { ⌜ (e < n) × (0 < left) × Enough n (now work) × (low (getD (now work) (n + e) 0) < n) ⌝ }
     ensures { λ r. ⌜ r ≡ left - at (wantIn n (now (work .entry))) (low (getD (now (work .entry)) (n + e) 0)) ⌝ }
 {
-    let m = REGIONS * n;
+    let m = SEARCH * n;
     let u = (work[n + e] % HALF) as usize;
     if contains(&work[m..], u) {
         return left - 1;
@@ -40,10 +41,10 @@ pub fn search_wanted(
     left: usize,
     work: &mut [u32],
 ) -> usize
-    requires { ⌜ (n ≤ maxNodes) × (s < n) × (8 * n ≤ length (now work)) × (lacking (wantIn n (now work)) (replicate n 0) ≤ left) ⌝ }
+    requires { ⌜ (n ≤ maxNodes) × (s < n) × Enough n (now work) × (lacking (wantIn n (now work)) (replicate n 0) ≤ left) ⌝ }
     requires { ⌜ Roads (now edges) (now closed) n (now work) ⌝ }
     ensures found { λ e. ⌜ Stopped (arcsIn (now (edges .entry)) (now (closed .entry))) n s (wantIn n (now (work .entry))) (timesIn n (now (work .exit))) (orderIn n e (now (work .exit))) × (e ≤ n) ⌝ }
-    ensures others { λ _. ⌜ drop (3 * n) (now (work .exit)) ≡ drop (3 * n) (now (work .entry)) ⌝ }
+    ensures others { λ _. ⌜ KeptFrom (searchWords n) (now (work .entry)) (now (work .exit)) ⌝ }
 {
     let mut k = begin(work, n, s);
     let mut e = n;

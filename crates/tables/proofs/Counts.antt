@@ -6,7 +6,7 @@ use mathlib.Core.Path.{_≡_, _∙_}
 use lib.ListN.{length, take, drop, length-map}
 use Rattle.model.specs.Lists.{upTo}
 use Rattle.model.specs.Bytes.{Bytes, cut}
-use Rattle.model.specs.Oracle.{entrySize, listStart, listCount, listPart, accessEntry, accessList}
+use Rattle.model.specs.Oracle.{listSize, listStart, listCount, listPart, accessEntry, accessList}
 use Rattle.theory.specs.RangeLaws.{length-range}
 
 pub length-list : (b : Bytes) (u : ℕ) → length (accessList b u) ≡ listCount b u
@@ -20,8 +20,9 @@ product-fits m n p q =
     omega arith
 
 -- The bytes from a list's start to its end.
-pub part-between : (b : Bytes) (u start end : ℕ) → start ≡ listStart b u → end ≡ start + (2 + entrySize * listCount b u) → take (end - start) (drop start b) ≡ cut (listPart b u) b
+pub part-between : (b : Bytes) (u start end : ℕ) → start ≡ listStart b u → end ≡ start + listSize (listCount b u)
+    → take (end - start) (drop start b) ≡ cut (listPart b u) b
 unfolding cut listPart
 part-between b u start end p q =
-    let size : end - start ≡ 2 + entrySize * listCount b u = omega arith in
+    let size : end - start ≡ listSize (listCount b u) = omega arith in
     rw (size, p)

@@ -9,20 +9,22 @@ use lib.ListN.{length, getD, length-map}
 use lib.Dec.{eqb, ltb, leb}
 use borrow.Author.Tests.{eqb-true, ne-eqb, ltb-true, ltb-false, leb-false}
 use Rattle.model.specs.Lists.{Part, gapless, any, range, rising, upTo}
-use Rattle.model.specs.Bytes.{Bytes, word32}
-use Rattle.model.specs.Oracle.{startSize, entrySize, valueSize, noWalk, maxValue, valueBroken, listStart, listCount, listPart, accessAt, accessEntry, accessList, indexes, entryBroken, listBroken, accessBroken, cellBroken, tableBroken}
+use Rattle.model.specs.Bytes.{Bytes, numberSize}
+use Rattle.model.specs.Oracle.{startSize, entrySize, listSize, valueSize, noWalk, maxValue, decoded, value, valueBroken, tableEntry, listStart, listCount, listPart, accessAt, accessEntry, accessList, indexes, entryBroken, listBroken, accessBroken, cellBroken, tableBroken}
 use Rattle.theory.specs.Tests.{both}
 use Rattle.theory.specs.RangeLaws.{length-range, getD-map-range}
 use Rattle.theory.specs.Members.{none-any, →upTo}
-use Rattle.theory.specs.Joined.{gapless-within}
+use Rattle.theory.specs.ReadLaws.{value-number}
+use Rattle.theory.specs.Joined as joined
 use Rattle.theory.specs.Passed.{or-false, not-false}
 use Rattle.tables.specs.Premises.{HasList, InRange}
 
 -- ---- values
 
-pub in-range : (b : Bytes) (p : ℕ) → valueBroken b p ≡ false → InRange (word32 b p)
+-- A value that was read at a position where none is out of range.
+in-range : (b : Bytes) (p v : ℕ) → valueBroken b p ≡ false → decoded v ≡ value b p → InRange v
 unfolding valueBroken
-in-range b p h ne = ltb-false maxValue (word32 b p) (rw (ne-eqb (word32 b p) noWalk ne) at h)
+in-range b p v h e ne = ltb-false maxValue v (rw (← value-number b p v e, ne-eqb v noWalk ne) at h)
 
 -- ---- a list of the access body
 
@@ -64,9 +66,8 @@ module _ (T : ℕ) (b : Bytes) (u : ℕ) (has : HasList T b u) where
   its-part : getD parts u (listPart b 0) ≡ listPart b u
   its-part = getD-map-range (listPart b) (listPart b 0) 0 (has .nodes) u (has .below) ∙ rw zero-add
 
-  pub list-within : listStart b u + (2 + entrySize * listCount b u) ≤ length b
-  unfolding listPart
-  list-within = rw its-part at (gapless-within (startSize * has .nodes) (length b) parts u (listPart b 0) (rule-10 .0) in-parts)
+  pub list-within : listStart b u + listSize (listCount b u) ≤ length b
+  list-within = joined.list-within (has .nodes) T b u (has .kept) (has .below)
 
   pub start-within : startSize * u + startSize ≤ length b
   unfolding listPart
@@ -85,15 +86,16 @@ module _ (T : ℕ) (b : Bytes) (u : ℕ) (has : HasList T b u) where
     unfolding accessAt
     entry-within = omega (arith, list-within)
 
-    its-entry : (leb T (accessEntry b u i .index) ≡ false) × (valueBroken b (accessAt b u i + 2) ≡ false)
+    its-entry : (leb T (accessEntry b u i .index) ≡ false) × (valueBroken b (accessAt b u i + numberSize) ≡ false)
     unfolding entryBroken
     its-entry = or-false _ _ (none-any (entryBroken T b u) (upTo (listCount b u)) (its-entries .1) (→upTo (listCount b u) i l))
 
     pub index-below : accessEntry b u i .index < T
     index-below = leb-false T (accessEntry b u i .index) (its-entry .0)
 
-    pub value-in-range : InRange (word32 b (accessAt b u i + 2))
-    value-in-range = in-range b (accessAt b u i + 2) (its-entry .1)
+    pub value-in-range : (v : ℕ) → decoded v ≡ accessEntry b u i .distance → InRange v
+    unfolding accessEntry
+    value-in-range v e = in-range b (accessAt b u i + numberSize) v (its-entry .1) e
 
   -- The indexes rise and stay below T, so that a list has at most T entries.
   pub list-few : listCount b u ≤ T
@@ -113,6 +115,6 @@ module _ (T : ℕ) (b : Bytes) (kept : tableBroken T b ≡ false) (i j : ℕ) (p
   pub cell-within : valueSize * (i * T + j) + valueSize ≤ length b
   cell-within = omega (arith, cell, rule-11 .0)
 
-  pub cell-in-range : InRange (word32 b (valueSize * (i * T + j)))
-  unfolding cellBroken
-  cell-in-range = in-range b (valueSize * (i * T + j)) (none-any (cellBroken b) (upTo (T * T)) (rule-11 .1) (→upTo (T * T) (i * T + j) cell))
+  pub cell-in-range : (v : ℕ) → decoded v ≡ tableEntry b T i j → InRange v
+  unfolding cellBroken tableEntry
+  cell-in-range v e = in-range b (valueSize * (i * T + j)) v (none-any (cellBroken b) (upTo (T * T)) (rule-11 .1) (→upTo (T * T) (i * T + j) cell)) e

@@ -5,17 +5,17 @@ ghost use Rattle.model.specs.Bytes.{cut};
 ghost use Rattle.model.specs.Oracle.{decoded, listStart, listCount, listPart, accessAt, accessEntry};
 ghost use Rattle.tables.specs.Premises.{Listed, HasEntry, InRange};
 use codec::bytes::read16;
-use codec::bytes::read32;
+use codec::lists::list_size;
 use codec::records::COUNT_SIZE;
 use codec::records::LIST_ENTRY_SIZE;
 use codec::records::NUMBER_SIZE;
-use codec::records::START_SIZE;
+use codec::values::read_value;
 
 pub fn list_start(access: &[u8], u: usize) -> usize
     requires { ⌜ Listed (now access) u ⌝ }
     ensures { λ r. ⌜ r ≡ listStart (now (access .entry)) u ⌝ }
 {
-    read32(access, START_SIZE * u) as usize
+    codec::lists::list_start(access, u)
 }
 
 // The number of entries of the list of node u.
@@ -45,7 +45,7 @@ pub fn entry_value(access: &[u8], u: usize, i: usize) -> u32
     requires { ⌜ HasEntry (now access) u i ⌝ }
     ensures { λ r. ⌜ (decoded r ≡ accessEntry (now (access .entry)) u i .distance) × InRange r ⌝ }
 {
-    read32(access, entry_at(access, u, i) + NUMBER_SIZE)
+    read_value(access, entry_at(access, u, i) + NUMBER_SIZE)
 }
 
 // The list of node u, "its count included".
@@ -54,6 +54,6 @@ pub fn list_part(access: &[u8], u: usize) -> &[u8]
     ensures { λ r. ⌜ now r ≡ cut (listPart (now (access .entry)) u) (now (access .entry)) ⌝ }
 {
     let start = list_start(access, u);
-    let end = start + COUNT_SIZE + LIST_ENTRY_SIZE * list_count(access, u);
+    let end = start + list_size(list_count(access, u));
     &access[start..end]
 }

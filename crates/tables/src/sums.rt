@@ -5,16 +5,16 @@ ghost use Prim.Native.Nat.{_<_};
 ghost use Rattle.model.specs.Distance.{plus, sooner};
 ghost use Rattle.model.specs.Oracle.{decoded, tableEntry, tableBroken};
 ghost use Rattle.tables.specs.Premises.{InRange};
-use codec::bytes::read32;
 use codec::records::NO_WALK;
 use codec::records::VALUE_SIZE;
+use codec::values::read_value;
 
 // The value in the row of transit node i and the column of transit node j.
 pub fn table_value(t: usize, table: &[u8], i: usize, j: usize) -> u32
     requires { ⌜ (tableBroken t (now table) ≡ false) × (i < t) × (j < t) ⌝ }
     ensures { λ r. ⌜ (decoded r ≡ tableEntry (now (table .entry)) t i j) × InRange r ⌝ }
 {
-    read32(table, VALUE_SIZE * (i * t + j))
+    read_value(table, VALUE_SIZE * (i * t + j))
 }
 
 // 'No walk' is no time: a sum with such a part is 'no walk'.

@@ -10,7 +10,7 @@ use Rattle.model.specs.Lists.{any, member, upTo}
 use Rattle.model.specs.Walk.{Arc, Walk, Least}
 use Rattle.model.specs.Distance.{Distance, unreachable, finite, plus, agree}
 use Rattle.model.specs.Network.{Edge, Network, order, arcs, distance}
-use Rattle.model.specs.Grid.{Cell, innerRadius, outerRadius}
+use Rattle.model.specs.Grid.{Grid, Cell}
 use Rattle.model.specs.Access.{crossingEnd, crosses, crossings, between, accessNodes}
 use Rattle.theory.specs.Tests.{and, both, eqb-true, true-eqb}
 use Rattle.theory.specs.Members.{filter→, →filter, any→, →any, map→, member→, →member, →upTo}
@@ -26,13 +26,13 @@ pub record OnLeast (arcs : List Arc) (p q a : ℕ) : Type 0 where
   pub whole : Least arcs p q (i + j)
 
 -- "An access place of C is a crossing place a of inner for which some crossing place p of C and some crossing place q of outer have d(p, q) finite
--- and d(p, a) + d(a, q) = d(p, q)." `cs` are the nodes' cells.
-pub record AccessNode (net : Network) (cs : List Cell) (c : Cell) (a : ℕ) : Type 0 where
-  pub inner : List·Memᴰ a (crossings cs (net .edges) innerRadius c)
+-- and d(p, a) + d(a, q) = d(p, q)." `cs` are the nodes' cells in the grid.
+pub record AccessNode (net : Network) (grid : Grid) (cs : List Cell) (c : Cell) (a : ℕ) : Type 0 where
+  pub inner : List·Memᴰ a (crossings cs (net .edges) (grid .inner) c)
   pub p : ℕ
   pub q : ℕ
   pub start : List·Memᴰ p (crossings cs (net .edges) 0 c)
-  pub end : List·Memᴰ q (crossings cs (net .edges) outerRadius c)
+  pub end : List·Memᴰ q (crossings cs (net .edges) (grid .outer) c)
   pub on : OnLeast (arcs net) p q a
 
 -- Three distances of which the first two add up to the third, and all are finite.
@@ -73,35 +73,35 @@ module _ (net : Network) (ends : (e : Edge) → List·Memᴰ e (net .edges) → 
       let i = filter→ (crosses cs r c) (net .edges) (e .1) in
       omega (arith, e .2, ends (e .0) (i .0))
 
-  module _ (cs : List Cell) (size : length cs ≡ order net) (c : Cell) (a : ℕ) where
+  module _ (grid : Grid) (cs : List Cell) (size : length cs ≡ order net) (c : Cell) (a : ℕ) where
     abbrev ps : List ℕ
     ps = crossings cs (net .edges) 0 c
 
     abbrev qs : List ℕ
-    qs = crossings cs (net .edges) outerRadius c
+    qs = crossings cs (net .edges) (grid .outer) c
 
     abbrev inside : List ℕ
-    inside = crossings cs (net .edges) innerRadius c
+    inside = crossings cs (net .edges) (grid .inner) c
 
     abbrev test : ℕ → Bool
     test a = member a inside && any (λ p. any (λ q. between (distance net) p q a) qs) ps
 
     -- The access nodes of any cell, with nodes or without.
-    pub access-exact : List·Memᴰ a (accessNodes (distance net) cs (net .edges) c) ↔ AccessNode net cs c a
+    pub access-exact : List·Memᴰ a (accessNodes (distance net) grid cs (net .edges) c) ↔ AccessNode net grid cs c a
     unfolding accessNodes
-    access-exact = (λ m. found (filter→ test (upTo (length cs)) m .1), λ n. →filter test (upTo (length cs)) (→upTo (length cs) a (rw size (crossing-node cs innerRadius c (n .inner)))) (passes n))
+    access-exact = (λ m. found (filter→ test (upTo (length cs)) m .1), λ n. →filter test (upTo (length cs)) (→upTo (length cs) a (rw size (crossing-node cs (grid .inner) c (n .inner)))) (passes n))
       where
-        found : test a ≡ true → AccessNode net cs c a
+        found : test a ≡ true → AccessNode net grid cs c a
         found h =
             let b = both {b = member a inside} h in
             let m = member→ a inside (b .0) in
             let p = any→ (λ p. any (λ q. between (distance net) p q a) qs) ps (b .1) in
             let q = any→ (λ q. between (distance net) (p .0) q a) qs (p .2) in
-            record { inner = m; p = p .0; q = q .0; start = p .1; end = q .1; on = between-walks (p .0) (q .0) a (crossing-node cs 0 c (p .1)) (crossing-node cs innerRadius c m) .0 (q .2) }
+            record { inner = m; p = p .0; q = q .0; start = p .1; end = q .1; on = between-walks (p .0) (q .0) a (crossing-node cs 0 c (p .1)) (crossing-node cs (grid .inner) c m) .0 (q .2) }
 
-        passes : AccessNode net cs c a → test a ≡ true
+        passes : AccessNode net grid cs c a → test a ≡ true
         passes n =
             and (→member a inside (n .inner))
             (→any (λ p. any (λ q. between (distance net) p q a) qs) ps (n .start)
             (→any (λ q. between (distance net) (n .p) q a) qs (n .end)
-            (between-walks (n .p) (n .q) a (crossing-node cs 0 c (n .start)) (crossing-node cs innerRadius c (n .inner)) .1 (n .on))))
+            (between-walks (n .p) (n .q) a (crossing-node cs 0 c (n .start)) (crossing-node cs (grid .inner) c (n .inner)) .1 (n .on))))

@@ -14,10 +14,11 @@ use Rattle.model.specs.Lists.{range, concatMap, upTo}
 use Rattle.model.specs.Bytes.{Bytes, byte, word16, bytes16, cut}
 use Rattle.model.specs.Contents.{oracleEdition, oracleEntries, body, bodyPart, gridBody, transitBody, accessBody, tableBody, file, nodeBody, edgeBody, closedBody}
 use Rattle.model.specs.Network.{network, order, distance}
-use Rattle.model.specs.Grid.{gridOver, gridNumber, gridBroken}
+use Rattle.model.specs.Grid.{gridOver, gridBroken, division, divisionSize, divisionBytes}
 use Rattle.model.specs.Access.{accessLists, transitNodes}
 use Rattle.model.specs.Oracle.{oracle, accessBytes, tableBytes, gridBodyBroken}
 use Rattle.model.specs.Rules.{wellShaped}
+use Rattle.model.specs.declared.Division.{Division}
 use Rattle.theory.specs.Passed.{or-false, not-false, Shaped, all-shaped}
 use Rattle.theory.specs.Built.{bodies-of}
 use Rattle.theory.specs.Accepted.{good-of}
@@ -33,8 +34,8 @@ part-bytes f small k i = pick (decLt i (bodyPart f k .size))
     pick (no h) = rw (List·getD-eq-default (take (bodyPart f k .size) (drop (bodyPart f k .start) f)) 0 {n = i} (omega (arith, length-take (bodyPart f k .size) (drop (bodyPart f k .start) f)))) (omega arith)
 
 -- Two bytes are those of the number that they are.
-two : (b : Bytes) → length b ≡ 2 → AreBytes b → b ≡ bytes16 (gridNumber b)
-unfolding gridNumber word16 bytes16
+two : (b : Bytes) → length b ≡ divisionSize → AreBytes b → b ≡ divisionBytes (division b)
+unfolding division divisionBytes word16 bytes16
 two [] e s = absurd (omega arith)
 two (x ∷ []) e s = absurd (omega arith)
 two (x ∷ (y ∷ [])) e s =
@@ -45,11 +46,11 @@ two (x ∷ (y ∷ [])) e s =
 two (x ∷ (y ∷ (z ∷ b))) e s = absurd (omega arith)
 
 module _ (o : Bytes) (shaped : wellShaped o ≡ true) where
-  abbrev g : ℕ
-  g = gridNumber (gridBody o)
+  abbrev dv : Division
+  dv = division (gridBody o)
 
   abbrev lists : List (List ℕ)
-  lists = accessLists (network o) (gridOver g (network o .nodes))
+  lists = accessLists (network o) (gridOver dv (network o .nodes))
 
   abbrev transit : List ℕ
   transit = transitNodes (order (network o)) lists
@@ -70,31 +71,31 @@ module _ (o : Bytes) (shaped : wellShaped o ≡ true) where
   p : Shaped o
   p = all-shaped o shaped
 
-  keeps : gridBroken g ≡ false
+  keeps : gridBroken (dv .g) ≡ false
   unfolding gridBodyBroken
-  keeps = or-false (not (eqb (length (gridBody o)) 2)) (gridBroken g) (p .grid) .1
+  keeps = or-false (not (eqb (length (gridBody o)) divisionSize)) (gridBroken (dv .g)) (p .grid) .1
 
   -- A built oracle has them.
-  pub is-built : o ≡ oracle o g → AsBuilt
+  pub is-built : o ≡ oracle o dv → AsBuilt
   is-built e =
-      let fine = good-of o g (p .sound) keeps in (
-        ap (λ (x : Bytes). body x 4) e ∙ bodies-of o g fine 4 (omega arith),
-        ap (λ (x : Bytes). body x 5) e ∙ bodies-of o g fine 5 (omega arith),
-        ap (λ (x : Bytes). body x 6) e ∙ bodies-of o g fine 6 (omega arith),
+      let fine = good-of o dv (p .sound) keeps in (
+        ap (λ (x : Bytes). body x 4) e ∙ bodies-of o dv fine 4 (omega arith),
+        ap (λ (x : Bytes). body x 5) e ∙ bodies-of o dv fine 5 (omega arith),
+        ap (λ (x : Bytes). body x 6) e ∙ bodies-of o dv fine 6 (omega arith),
       )
 
   -- And with them it is built: nothing else stands in the file.
   module _ (small : AreBytes o) where
-    grid-bytes : gridBody o ≡ bytes16 g
+    grid-bytes : gridBody o ≡ divisionBytes dv
     unfolding gridBodyBroken
-    grid-bytes = two (gridBody o) (eqb-true (length (gridBody o)) 2 (not-false (or-false (not (eqb (length (gridBody o)) 2)) (gridBroken g) (p .grid) .0))) (part-bytes o small 3)
+    grid-bytes = two (gridBody o) (eqb-true (length (gridBody o)) divisionSize (not-false (or-false (not (eqb (length (gridBody o)) divisionSize)) (gridBroken (dv .g)) (p .grid) .0))) (part-bytes o small 3)
 
-    parts : transitBody o ≡ builtTransit → accessBody o ≡ builtAccess → tableBody o ≡ builtTable → file oracleEdition (map (body o) (upTo oracleEntries)) ≡ oracle o g
+    parts : transitBody o ≡ builtTransit → accessBody o ≡ builtAccess → tableBody o ≡ builtTable → file oracleEdition (map (body o) (upTo oracleEntries)) ≡ oracle o dv
     unfolding oracle range
     parts t a x = λ i. file oracleEdition (nodeBody o ∷ edgeBody o ∷ closedBody o ∷ grid-bytes i ∷ t i ∷ a i ∷ x i ∷ [])
 
-    pub built-is : AsBuilt → o ≡ oracle o g
+    pub built-is : AsBuilt → o ≡ oracle o dv
     built-is (t, a, x) = whole-file o small oracleEdition oracleEntries (p .contents) (p .bodies) ∙ parts t a x
 
-    pub audit-bodies : (o ≡ oracle o g) ↔ AsBuilt
+    pub audit-bodies : (o ≡ oracle o dv) ↔ AsBuilt
     audit-bodies = (is-built, built-is)

@@ -4,21 +4,22 @@ use native.Mathlib.Omega.{arith}
 use mathlib.Core.Path.{_≡_, refl, sym, _∙_, ap}
 use mathlib.Core.Logic.{_↔_}
 use mathlib.Core.Bool.{true, not, true≢false, cond, Bool, false}
-use mathlib.Core.List.{List, [], _∷_, append-nil, _++_}
+use mathlib.Core.List.{List, [], _∷_, _++_}
 use lib.ListN.{length, getD, length-append}
 use borrow.Author.Tests.{le-ltb, eq-eqb, eqb-true}
 use Rattle.model.specs.Lists.{equal, concatMap, concat}
-use Rattle.model.specs.Bytes.{Bytes, word16, bytes16}
+use Rattle.model.specs.Bytes.{Bytes, bytes16}
 use Rattle.model.specs.Contents.{file, oracleEdition, nodeBody, edgeBody, closedBody, gridBody, networkEdition, body, entryAt}
 use Rattle.model.specs.Network.{Network, network, order, distance}
-use Rattle.model.specs.Grid.{gridOver, gridNumber, gridBroken}
+use Rattle.model.specs.Grid.{gridOver, gridBroken, division, divisionSize, divisionBytes}
 use Rattle.model.specs.Access.{accessLists, transitNodes}
 use Rattle.model.specs.Oracle.{oracle, accessBytes, tableBytes, gridBodyBroken}
 use Rattle.model.specs.Rules.{firstBroken, shapeRules, auditRules, workTooSmall, wordsNeeded, differsFromBuilt, accepted, wellShaped}
 use Rattle.model.specs.Calls.{auditRefusal}
-use Rattle.theory.specs.FileLaws.{word16-read, length-file, body-file}
+use Rattle.model.specs.declared.Division.{Division}
+use Rattle.theory.specs.FileLaws.{length-file, body-file}
 use Rattle.theory.specs.Tests.{and, both}
-use Rattle.theory.specs.Built.{Good, bodies-of, same-network}
+use Rattle.theory.specs.Built.{Good, bodies-of, same-division, same-network}
 use Rattle.theory.specs.Passed.{all-passed, shape-counted, or-false, not-false, Shaped, all-shaped, passed-all}
 use Rattle.theory.specs.Firsts.{first-append}
 use Rattle.theory.specs.Accepted.{good}
@@ -44,33 +45,31 @@ equal→ (x ∷ l) (y ∷ m) h =
     λ i. head i ∷ tail i
 
 -- Rule 16 is kept just when the oracle is the one built from its own bodies 1 to 4.
-pub rule16 : (o : Bytes) → (differsFromBuilt o ≡ false) ↔ (o ≡ oracle o (gridNumber (gridBody o)))
+pub rule16 : (o : Bytes) → (differsFromBuilt o ≡ false) ↔ (o ≡ oracle o (division (gridBody o)))
 unfolding differsFromBuilt
-rule16 o = (λ h. equal→ o (oracle o (gridNumber (gridBody o))) (not-false h), λ e. ap (λ (m : Bytes). not (equal o m)) (sym e) ∙ ap not (equal-self o))
+rule16 o = (λ h. equal→ o (oracle o (division (gridBody o))) (not-false h), λ e. ap (λ (m : Bytes). not (equal o m)) (sym e) ∙ ap not (equal-self o))
 
 -- The oracle as a function of what it goes by.
-from : Network → Bytes → Bytes → Bytes → ℕ → Bytes
-from net a b c g =
-    let lists = accessLists net (gridOver g (net .nodes)) in
+from : Network → Bytes → Bytes → Bytes → Division → Bytes
+from net a b c dv =
+    let lists = accessLists net (gridOver dv (net .nodes)) in
     let transit = transitNodes (order net) lists in
-    file oracleEdition (a ∷ b ∷ c ∷ bytes16 g ∷ concatMap bytes16 transit ∷ accessBytes (distance net) transit lists ∷ tableBytes (distance net) transit ∷ [])
+    let d = distance net in
+    file oracleEdition (a ∷ b ∷ c ∷ divisionBytes dv ∷ concatMap bytes16 transit ∷ accessBytes d transit lists ∷ tableBytes d transit ∷ [])
 
-oracle-from : (f : Bytes) (g : ℕ) → oracle f g ≡ from (network f) (nodeBody f) (edgeBody f) (closedBody f) g
+oracle-from : (f : Bytes) (dv : Division) → oracle f dv ≡ from (network f) (nodeBody f) (edgeBody f) (closedBody f) dv
 unfolding oracle from
-oracle-from f g = refl
+oracle-from f dv = refl
 
-module _ (f : Bytes) (g : ℕ) (ok : accepted f g ≡ true) where
-  fine : Good f g
-  fine = good f g (all-passed f g ok)
+module _ (f : Bytes) (dv : Division) (ok : accepted f dv ≡ true) where
+  fine : Good f dv
+  fine = good f dv (all-passed f dv ok)
 
-  pub number : gridNumber (gridBody (oracle f g)) ≡ g
-  unfolding gridNumber
-  number = rw (bodies-of f g fine 3 (omega arith)) (ap (λ (b : Bytes). word16 b 0) (sym (append-nil (bytes16 g))) ∙ word16-read g [] (fine .g-fits))
-
-  pub built-again : oracle (oracle f g) (gridNumber (gridBody (oracle f g))) ≡ oracle f g
+  pub built-again : oracle (oracle f dv) (division (gridBody (oracle f dv))) ≡ oracle f dv
   built-again =
-      oracle-from (oracle f g) _ ∙
-      (rw (same-network f g fine, bodies-of f g fine 0 (omega arith), bodies-of f g fine 1 (omega arith), bodies-of f g fine 2 (omega arith), number) (sym (oracle-from f g)))
+      let same = bodies-of f dv fine in
+      oracle-from (oracle f dv) _ ∙
+      (rw (same-network f dv fine, same 0 (omega arith), same 1 (omega arith), same 2 (omega arith), same-division f dv fine) (sym (oracle-from f dv)))
 
 -- ---- the network in an oracle
 -- Bodies 1 to 3, as a file.
@@ -78,8 +77,8 @@ unfoldable pub networkIn : Bytes → Bytes
 networkIn o = file networkEdition (nodeBody o ∷ edgeBody o ∷ closedBody o ∷ [])
 
 module _ (o : Bytes) (shaped : wellShaped o ≡ true) where
-  abbrev g : ℕ
-  g = gridNumber (gridBody o)
+  abbrev dv : Division
+  dv = division (gridBody o)
 
   p : Shaped o
   p = all-shaped o shaped
@@ -109,8 +108,8 @@ module _ (o : Bytes) (shaped : wellShaped o ≡ true) where
   unfolding network
   network-in = rw (body-in 0 (omega arith), body-in 1 (omega arith), body-in 2 (omega arith))
 
-  pub accepted-in : accepted (networkIn o) g ≡ true
-  accepted-in = passed-all (networkIn o) g (record {
+  pub accepted-in : accepted (networkIn o) dv ≡ true
+  accepted-in = passed-all (networkIn o) dv (record {
     contents = unfold networkIn in contents-fine networkEdition three small;
     bodies = unfold networkIn in bodies-fine networkEdition three small;
     sound = record {
@@ -120,11 +119,12 @@ module _ (o : Bytes) (shaped : wellShaped o ≡ true) where
       some-edge = rw (body-in 0 (omega arith), body-in 1 (omega arith)) (p .sound .some-edge);
       closed = rw (body-in 1 (omega arith), body-in 2 (omega arith)) (p .sound .closed);
     };
-    grid = unfold gridBodyBroken in or-false (not (eqb (length (gridBody o)) 2)) (gridBroken g) (p .grid) .1;
+    grid = unfold gridBodyBroken in or-false (not (eqb (length (gridBody o)) divisionSize)) (gridBroken (dv .g)) (p .grid) .1;
   })
 
-  pub oracle-in : oracle (networkIn o) g ≡ oracle o g
-  oracle-in = oracle-from (networkIn o) g ∙ (rw (network-in, body-in 0 (omega arith), body-in 1 (omega arith), body-in 2 (omega arith)) (sym (oracle-from o g)))
+  pub oracle-in : oracle (networkIn o) dv ≡ oracle o dv
+  oracle-in =
+      oracle-from (networkIn o) dv ∙ (rw (network-in, body-in 0 (omega arith), body-in 1 (omega arith), body-in 2 (omega arith)) (sym (oracle-from o dv)))
 
   -- ---- the audit, both ways
   module _ (work : List ℕ) (enough : wordsNeeded o ≤ length work) where
@@ -134,7 +134,7 @@ module _ (o : Bytes) (shaped : wellShaped o ≡ true) where
         first-append (shapeRules o) _ (shape-counted o) (eqb-true _ _ shaped) ∙
         (unfold firstBroken workTooSmall in rw (le-ltb (length work) (wordsNeeded o) enough))
 
-    pub audit-own : (auditRefusal o work ≡ 0) ↔ (o ≡ oracle o g)
+    pub audit-own : (auditRefusal o work ≡ 0) ↔ (o ≡ oracle o dv)
     audit-own = (λ h. rule16 o .0 (kept (differsFromBuilt o) (sym refusal ∙ h)), λ e. refusal ∙ rw (rule16 o .1 e))
       where
         kept : (b : Bool) → _≡_ {A = ℕ} (cond b 16 0) 0 → b ≡ false
@@ -143,14 +143,15 @@ module _ (o : Bytes) (shaped : wellShaped o ≡ true) where
 
 -- A built oracle passes the audit, and an oracle that passes was built.
 pub audit-built : (o : Bytes) → wellShaped o ≡ true → (work : List ℕ) → wordsNeeded o ≤ length work
-    → (auditRefusal o work ≡ 0) ↔ ((f : Bytes) × (g : ℕ) × (accepted f g ≡ true) × (o ≡ oracle f g))
+    → (auditRefusal o work ≡ 0) ↔ ((f : Bytes) × (dv : Division) × (accepted f dv ≡ true) × (o ≡ oracle f dv))
 audit-built o shaped work enough = (
-  λ h. (networkIn o, gridNumber (gridBody o), accepted-in o shaped, audit-own o shaped work enough .0 h ∙ sym (oracle-in o shaped)),
-  λ (f, g, ok, e). audit-own o shaped work enough .1 (again f g ok e),
+  λ h. (networkIn o, division (gridBody o), accepted-in o shaped, audit-own o shaped work enough .0 h ∙ sym (oracle-in o shaped)),
+  λ (f, dv, ok, e). audit-own o shaped work enough .1 (again f dv ok e),
 )
   where
-    again : (f : Bytes) (g : ℕ) → accepted f g ≡ true → o ≡ oracle f g → o ≡ oracle o (gridNumber (gridBody o))
-    again f g ok e = e ∙ (sym (built-again f g ok) ∙ ap (λ (x : Bytes). oracle x (gridNumber (gridBody x))) (sym e))
+    again : (f : Bytes) (dv : Division) → accepted f dv ≡ true → o ≡ oracle f dv → o ≡ oracle o (division (gridBody o))
+    again f dv ok e = e ∙ (sym (built-again f dv ok) ∙ ap (λ (x : Bytes). oracle x (division (gridBody x))) (sym e))
 
-pub audit-passes : (f : Bytes) (g : ℕ) → accepted f g ≡ true → (work : List ℕ) → wordsNeeded (oracle f g) ≤ length work → auditRefusal (oracle f g) work ≡ 0
-audit-passes f g ok work enough = audit-built (oracle f g) (built-well-shaped f g ok) work enough .1 (f, g, ok, refl)
+pub audit-passes : (f : Bytes) (dv : Division) → accepted f dv ≡ true → (work : List ℕ) → wordsNeeded (oracle f dv) ≤ length work
+    → auditRefusal (oracle f dv) work ≡ 0
+audit-passes f dv ok work enough = audit-built (oracle f dv) (built-well-shaped f dv ok) work enough .1 (f, dv, ok, refl)

@@ -1,7 +1,6 @@
--- A built oracle refuses nothing of the questions, where memory and output suffice. Assumes nothing.
+-- A well-shaped oracle refuses nothing of the questions, where memory and output suffice. Assumes nothing.
 use Prim.Native.Nat.{ℕ, _*_, _≤_, _<_}
-use native.Mathlib.Omega.{arith}
-use mathlib.Core.Path.{_≡_, refl, sym, ap}
+use mathlib.Core.Path.{_≡_, refl, sym}
 use mathlib.Core.Bool.{true, false}
 use mathlib.Core.List.{List}
 use lib.ListN.{length}
@@ -9,16 +8,12 @@ use borrow.Author.Tests.{eqb-true, lt-leb, le-ltb}
 use Rattle.model.specs.Bytes.{Bytes}
 use Rattle.model.specs.Contents.{nodeBody}
 use Rattle.model.specs.Network.{network, nodeCount}
-use Rattle.model.specs.Oracle.{oracle}
-use Rattle.model.specs.Query.{timeAnswer, farAnswer, kindBetween, way}
-use Rattle.model.specs.Rules.{firstBroken, networkRules, shapeRules, pairRules, timeRules, farRules, wayRules, listRules, noSuchNode, localPair, isLocal, workTooSmall, wordsNeeded, outputTooSmall, accepted, wellShaped}
-use Rattle.model.specs.Calls.{answerAfter, timeRefusal, timeResult, farResult, listRefusal, wayRefusal}
+use Rattle.model.specs.Query.{kindBetween, way}
+use Rattle.model.specs.Rules.{firstBroken, networkRules, shapeRules, pairRules, timeRules, farRules, wayRules, listRules, noSuchNode, localPair, isLocal, workTooSmall, wordsNeeded, outputTooSmall, wellShaped}
+use Rattle.model.specs.Calls.{timeRefusal, listRefusal, wayRefusal}
 use Rattle.model.specs.declared.Kind.the-variants.{Far}
 use Rattle.theory.specs.Firsts.{counted, one-kept}
-use Rattle.theory.specs.Passed.{shape-counted, all-passed}
-use Rattle.theory.specs.Accepted.{good}
-use Rattle.theory.specs.Built.{bodies-of}
-use Rattle.theory.specs.WellShaped.{built-well-shaped}
+use Rattle.theory.specs.Passed.{shape-counted}
 
 pub pair-counted : (o : Bytes) (s t : ℕ) → counted (pairRules o s t) ≡ true
 unfolding pairRules counted shapeRules networkRules
@@ -28,7 +23,6 @@ pub time-counted : (o : Bytes) (s t words : ℕ) → counted (timeRules o s t wo
 unfolding timeRules pairRules counted shapeRules networkRules
 time-counted o s t words = refl
 
--- ---- any oracle that is well-shaped
 module _ (o : Bytes) (shaped : wellShaped o ≡ true) where
   abbrev N : ℕ
   N = nodeCount (nodeBody o)
@@ -62,20 +56,3 @@ module _ (o : Bytes) (shaped : wellShaped o ≡ true) where
     unfolding wayRefusal wayRules outputTooSmall
     way-kept work out h k =
         sym (one-kept (timeRules o s t (length work)) 15 (time-counted o s t (length work)) (unfold timeRefusal in time-kept work h) (le-ltb (length out) (2 * length (way (network o) s t)) k))
-
--- ---- an oracle that was built
-module _ (f : Bytes) (g : ℕ) (ok : accepted f g ≡ true) (s t : ℕ) where
-  abbrev o : Bytes
-  o = oracle f g
-
-  same-count : nodeCount (nodeBody o) ≡ nodeCount (nodeBody f)
-  same-count = ap nodeCount (bodies-of f g (good f g (all-passed f g ok)) 0 (omega arith))
-
-  module _ (hs : s < nodeCount (nodeBody f)) (ht : t < nodeCount (nodeBody f)) where
-    pub time-given : (work : List ℕ) → wordsNeeded f ≤ length work → timeResult o s t work ≡ timeAnswer o s t
-    unfolding timeResult answerAfter
-    time-given work h = rw (time-kept o (built-well-shaped f g ok) s t (rw same-count hs) (rw same-count ht) work (unfold wordsNeeded in rw same-count (unfold wordsNeeded in h)))
-
-    pub far-given : kindBetween o s t ≡ Far → farResult o s t ≡ farAnswer o s t
-    unfolding farResult answerAfter
-    far-given e = rw (far-kept o (built-well-shaped f g ok) s t (rw same-count hs) (rw same-count ht) e)

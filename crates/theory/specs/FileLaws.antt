@@ -1,13 +1,13 @@
 -- Reading back what `file` writes: each body of a file is the body that went in. Assumes nothing.
 use Prim.Native.Nat.{ℕ, zero, suc, _+_, _*_, _≤_, _<_}
-use native.Mathlib.Nat.{add-assoc}
+use native.Mathlib.Nat.{add-assoc, zero-add}
 use native.Mathlib.Omega.{arith}
 use mathlib.Core.Path.{_≡_, refl, _∙_, ap}
 use mathlib.Core.List.{List, [], _∷_, _++_}
 use lib.ListN.{length, getD, take, drop, length-append}
 use lib.Seq.{getD-append-add, drop-append-add, take-append-seam}
 use Rattle.model.specs.Lists.{concat}
-use Rattle.model.specs.Bytes.{Bytes, word16, word32, bytes16, bytes32, cut}
+use Rattle.model.specs.Bytes.{Bytes, word16, word32, bytes16, bytes32, cut, splice}
 use Rattle.model.specs.Contents.{entry, entryAt, bodyPart, body, entries, file}
 
 -- ---- numbers
@@ -28,6 +28,12 @@ word16-read n l h = omega arith
 pub word32-read : (n : ℕ) (l : Bytes) → n < 4294967296 → word32 (bytes32 n ++ l) 0 ≡ n
 unfolding word32 word16 bytes32 bytes16
 word32-read n l h = omega arith
+
+-- ---- bytes written at the front
+
+pub splice-front : (xs out : Bytes) → splice 0 xs out ≡ xs ++ drop (length xs) out
+unfolding splice
+splice-front xs out = rw zero-add
 
 -- ---- the contents
 

@@ -1,5 +1,6 @@
 -- The first broken rule of a list of rules. Assumes nothing.
 use Prim.Native.Nat.{ℕ, _<_}
+use native.Mathlib.Decide.{ℕ-discrete}
 use native.Mathlib.Omega.{arith}
 use mathlib.Core.Path.{_≡_, refl, sym, _∙_}
 use mathlib.Core.Bool.{Bool, true, false, _&&_, cond}
@@ -59,3 +60,11 @@ module _ (xs : List Rule) (n : ℕ) {b : Bool} (c : counted xs ≡ true) (h : fi
 
   pub one-kept : b ≡ false → 0 ≡ firstBroken (xs ++ (rule n b ∷ []))
   one-kept e = goes n [] e none ∙ sym (first-append xs (rule n b ∷ []) c h)
+
+-- A list of rules that is kept, and one rule more: both are kept.
+pub split : (xs : List Rule) (n : ℕ) (b : Bool) → counted xs ≡ true → 0 < n → firstBroken (xs ++ (rule n b ∷ [])) ≡ 0 → (firstBroken xs ≡ 0) × (b ≡ false)
+split xs n b c p h = pick (ℕ-discrete (firstBroken xs) 0)
+  where
+    pick : Dec (firstBroken xs ≡ 0) → (firstBroken xs ≡ 0) × (b ≡ false)
+    pick (yes e) = (e, passed n b [] p (sym (first-append xs (rule n b ∷ []) c e) ∙ h) .0)
+    pick (no m) = absurd (m (sym (first-stays xs (rule n b ∷ []) m) ∙ h))

@@ -1,6 +1,7 @@
 -- ---- lists, numbers and bytes
 pub mod Tests
 pub mod RangeLaws
+pub mod Scans
 pub mod Members
 pub mod Extremes
 pub mod FileLaws
@@ -33,11 +34,9 @@ pub mod WellShaped
 pub mod Audits
 pub mod Whole
 pub mod AuditBodies
-pub mod FarBodies
-pub mod FarSums
+pub mod Given
 pub mod Times
 pub mod BuiltCalls
 -- ---- the way
 pub mod Way
 pub mod Ways
-pub mod Theorems

@@ -11,6 +11,7 @@ use Rattle.model.specs.Network.{nodeCount, edgeCount, nodesBroken, someEdgeBrok
 use Rattle.model.specs.Grid.{gridBroken}
 use Rattle.model.specs.Oracle.{gridBodyBroken, accessBroken, tableBroken, transitCount}
 use Rattle.model.specs.Rules.{Rule, rule, firstBroken, networkRules, acceptRules, accepted, shapeRules, wellShaped}
+use Rattle.model.specs.declared.Division.{Division}
 use Rattle.theory.specs.Firsts.{passed, counted}
 
 pub or-false : (b c : Bool) → b || c ≡ false → (b ≡ false) × (c ≡ false)
@@ -63,21 +64,21 @@ network-passed edition entries f rs e0 =
     }
 
 -- ---- an accepted network: the rules that building checks before 14
-pub record Passed (f : Bytes) (g : ℕ) : Type 0 where
+pub record Passed (f : Bytes) (dv : Division) : Type 0 where
   pub contents : contentsBroken networkEdition networkEntries f ≡ false
   pub bodies : bodiesBroken networkEntries f ≡ false
   pub sound : Sound f
-  pub grid : gridBroken g ≡ false
+  pub grid : gridBroken (dv .g) ≡ false
 
-pub all-passed : (f : Bytes) (g : ℕ) → accepted f g ≡ true → Passed f g
+pub all-passed : (f : Bytes) (dv : Division) → accepted f dv ≡ true → Passed f dv
 unfolding accepted acceptRules
-all-passed f g h =
-    let r = network-passed networkEdition networkEntries f (rule 8 (gridBroken g) ∷ []) (eqb-true _ _ h) in
-    record { contents = r .contents; bodies = r .bodies; sound = r .sound; grid = passed 8 (gridBroken g) [] (omega arith) (r .rest) .0 }
+all-passed f dv h =
+    let r = network-passed networkEdition networkEntries f (rule 8 (gridBroken (dv .g)) ∷ []) (eqb-true _ _ h) in
+    record { contents = r .contents; bodies = r .bodies; sound = r .sound; grid = passed 8 (gridBroken (dv .g)) [] (omega arith) (r .rest) .0 }
 
-pub passed-all : (f : Bytes) (g : ℕ) → Passed f g → accepted f g ≡ true
+pub passed-all : (f : Bytes) (dv : Division) → Passed f dv → accepted f dv ≡ true
 unfolding accepted acceptRules networkRules firstBroken
-passed-all f g p =
+passed-all f dv p =
     let s = p .sound in
     rw (p .contents, p .bodies, s .nodes-rule, s .coordinates, s .edges-rule, s .some-edge, s .closed, p .grid)
 

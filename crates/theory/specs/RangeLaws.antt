@@ -3,11 +3,11 @@ use Prim.Native.Nat.{ℕ, zero, suc, _+_, _-_, _≤_, _<_}
 use native.Mathlib.Omega.{arith}
 use native.Mathlib.Numerals.{add-one}
 use mathlib.Core.Path.{_≡_, refl, ap}
-use mathlib.Core.Bool.{Bool, true, false, _||_, _&&_}
+use mathlib.Core.Bool.{Bool, true, _&&_}
 use mathlib.Core.List.{List, [], _∷_, map}
 use lib.ListN.{length, getD}
 use lib.Dec.{eqb}
-use Rattle.model.specs.Lists.{range, upTo, any, all, Part, gapless}
+use Rattle.model.specs.Lists.{range, upTo, all, Part, gapless}
 
 -- The numbers from i up to n.
 abbrev pub rest : ℕ → ℕ → List ℕ
@@ -25,15 +25,6 @@ rest-end i n h = let e : n - i ≡ 0 = omega arith in rw e
 
 pub rest-all : (n : ℕ) → upTo n ≡ rest 0 n
 rest-all n = let e : n - 0 ≡ n = omega arith in rw e
-
-module _ {A : Type 0} (f : ℕ → A) (i n : ℕ) where
-  pub any-step : (p : A → Bool) → i < n → any p (map f (rest i n)) ≡ p (f i) || any p (map f (rest (i + 1) n))
-  unfolding any
-  any-step p h = rw (rest-step i n h)
-
-  pub any-end : (p : A → Bool) → n ≤ i → any p (map f (rest i n)) ≡ false
-  unfolding any
-  any-end p h = rw (rest-end i n h)
 
 module _ (p : ℕ → Bool) (i n : ℕ) where
   pub all-step : i < n → all p (rest i n) ≡ p i && all p (rest (i + 1) n)

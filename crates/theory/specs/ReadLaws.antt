@@ -10,9 +10,9 @@ use mathlib.Core.Bool.{Bool, true, false, cond}
 use lib.Dec.{eqb}
 use borrow.Author.Tests.{ne-eqb, eqb-true}
 use Rattle.model.specs.Lists.{concat, concatMap, indexOf, range, upTo}
-use Rattle.model.specs.Bytes.{Bytes, word16, word32, bytes16, bytes32}
+use Rattle.model.specs.Bytes.{Bytes, word16, word32, bytes16, bytes32, numberSize}
 use Rattle.model.specs.Distance.{Distance, unreachable, finite}
-use Rattle.model.specs.Oracle.{noWalk, coded, valueSize, valueBytes, decoded, value, tableBytes, tableEntry, starts, entrySize, entryBytes, listBytes, accessBytes, listStart, listCount, AccessEntry, accessAt, accessEntry, accessList}
+use Rattle.model.specs.Oracle.{noWalk, coded, valueSize, valueBytes, decoded, value, tableBytes, tableEntry, startSize, starts, countSize, entrySize, listSize, entryBytes, listBytes, accessBytes, listStart, listCount, AccessEntry, accessAt, accessEntry, accessList}
 use Rattle.theory.specs.FileLaws.{word16-append, word32-append, word16-read, word32-read, drop-concat, startOf, start-step, concat-bound}
 use Rattle.theory.specs.RangeLaws.{length-range, getD-map-range}
 
@@ -42,6 +42,9 @@ module _ {A : Type 0} (f : A → Bytes) (c : ℕ) (size : (x : A) → length (f 
       let e : c * suc i ≡ length (f x) + c * i = omega (arith, mul-suc c i, size x) in
       rw e (drop-append-add (f x) (concatMap f xs) (c * i) ∙ drop-concatMap i xs d (omega arith))
 
+pub length-numbers : (l : List ℕ) → length (concatMap bytes16 l) ≡ numberSize * length l
+length-numbers l = length-concatMap bytes16 numberSize (λ n. unfold bytes16 in refl) l
+
 -- ---- distances
 
 -- A distance that a 32-bit number tells from 'no walk'.
@@ -62,6 +65,19 @@ coded-decoded v = step (eqb v noWalk) refl
     step : (b : Bool) → eqb v noWalk ≡ b → coded (cond b unreachable (finite v)) ≡ v
     step true e = sym (eqb-true v noWalk e)
     step false e = refl
+
+-- The bytes of a value are those of its number, and a value that was read is the number that stands there.
+pub value-bytes : (v : ℕ) → valueBytes (decoded v) ≡ bytes32 v
+unfolding valueBytes
+value-bytes v = ap bytes32 (coded-decoded v)
+
+pub value-recoded : (x : Distance) → valueBytes (decoded (coded x)) ≡ valueBytes x
+unfolding valueBytes
+value-recoded x = value-bytes (coded x)
+
+pub value-number : (b : Bytes) (p v : ℕ) → decoded v ≡ value b p → v ≡ word32 b p
+unfolding value
+value-number b p v e = sym (coded-decoded v) ∙ (ap coded e ∙ coded-decoded (word32 b p))
 
 pub length-value : (x : Distance) → length (valueBytes x) ≡ valueSize
 unfolding valueBytes bytes32 bytes16
@@ -99,29 +115,37 @@ value-at {A} f l rest i a h s =
 
 -- ---- the table
 
+length-row : (d : ℕ → Distance) (l : List ℕ) → length (concatMap (λ b. valueBytes (d b)) l) ≡ valueSize * length l
+length-row d l = length-concatMap (λ b. valueBytes (d b)) valueSize (λ b. length-value (d b)) l
+
+pub length-table : (d : ℕ → ℕ → Distance) (l : List ℕ) → length (tableBytes d l) ≡ valueSize * length l * length l
+unfolding tableBytes
+length-table d l = length-concatMap (λ a. concatMap (λ b. valueBytes (d a b)) l) (valueSize * length l) (λ a. length-row (d a) l) l
+
 pub table-read : (d : ℕ → ℕ → Distance) (transit : List ℕ) (i j : ℕ) → i < length transit → j < length transit → Small (d (getD transit i 0) (getD transit j 0))
     → tableEntry (tableBytes d transit) (length transit) i j ≡ d (getD transit i 0) (getD transit j 0)
 unfolding tableEntry tableBytes
 table-read d transit i j p q s =
     let row : ℕ → Bytes = λ a. concatMap (λ b. valueBytes (d a b)) transit in
-    let size : (a : ℕ) → length (row a) ≡ valueSize * length transit = λ a. length-concatMap (λ b. valueBytes (d a b)) valueSize (λ b. length-value (d a b)) transit in
-    let e : valueSize * (i * length transit + j) ≡ valueSize * length transit * i + valueSize * j = mul-add 4 (i * length transit) j ∙ ap (λ (k : ℕ). k + 4 * j) (ap (λ (k : ℕ). 4 * k) (mul-comm i (length transit)) ∙ sym (mul-assoc 4 (length transit) i)) in
+    let size : (a : ℕ) → length (row a) ≡ valueSize * length transit = λ a. length-row (d a) transit in
+    let e : valueSize * (i * length transit + j) ≡ valueSize * length transit * i + valueSize * j = mul-add valueSize (i * length transit) j ∙ ap (λ (k : ℕ). k + valueSize * j) (ap (λ (k : ℕ). valueSize * k) (mul-comm i (length transit)) ∙ sym (mul-assoc valueSize (length transit) i)) in
     rw e (value-drop (concatMap row transit) (valueSize * length transit * i) (valueSize * j) ∙ rw (drop-concatMap row (valueSize * length transit) size i transit 0 p) (value-at (d (getD transit i 0)) transit _ j 0 q s))
 
 -- ---- the access body
 
-pub length-starts : (at : ℕ) (ls : List Bytes) → length (starts at ls) ≡ 4 * length ls
+pub length-starts : (at : ℕ) (ls : List Bytes) → length (starts at ls) ≡ startSize * length ls
 unfolding starts bytes32 bytes16
 length-starts at [] = refl
 length-starts at (l ∷ ls) = omega (arith, length-starts (at + length l) ls)
 
-pub start-read : (at j : ℕ) (ls : List Bytes) (rest : Bytes) → j < length ls → startOf at ls j < 4294967296 → word32 (starts at ls ++ rest) (4 * j) ≡ startOf at ls j
+pub start-read : (at j : ℕ) (ls : List Bytes) (rest : Bytes) → j < length ls → startOf at ls j < 4294967296
+    → word32 (starts at ls ++ rest) (startSize * j) ≡ startOf at ls j
 start-read at j [] rest h s = absurd (omega arith)
 start-read at zero (l ∷ ls) rest h s = unfold starts bytes32 bytes16 word32 word16 concat in omega arith
 start-read at (suc j) (l ∷ ls) rest h s =
-    let e : 4 * suc j ≡ length (bytes32 at) + 4 * j = unfold bytes32 bytes16 in omega arith in
+    let e : startSize * suc j ≡ length (bytes32 at) + startSize * j = unfold bytes32 bytes16 in omega arith in
     let a : starts at (l ∷ ls) ++ rest ≡ bytes32 at ++ (starts (at + length l) ls ++ rest) = unfold starts in append-assoc (bytes32 at) (starts (at + length l) ls) rest in
-    rw (e, a) (word32-append (bytes32 at) (starts (at + length l) ls ++ rest) (4 * j) ∙ start-read (at + length l) j ls rest (omega arith) (omega (arith, start-step at j l ls)) ∙ start-step at j l ls)
+    rw (e, a) (word32-append (bytes32 at) (starts (at + length l) ls ++ rest) (startSize * j) ∙ start-read (at + length l) j ls rest (omega arith) (omega (arith, start-step at j l ls)) ∙ start-step at j l ls)
 
 -- Records of an index and a distance.
 abbrev pub recordBytes : {A : Type 0} → (A → ℕ) → (A → Distance) → A → Bytes
@@ -143,9 +167,15 @@ module _ {A : Type 0} (index : A → ℕ) (dist : A → Distance) (l : List A) (
       let e : entrySize * i ≡ entrySize * i + 0 = omega arith in
       rw e (word16-drop (concatMap (recordBytes index dist) l ++ rest) (entrySize * i) 0 ∙ rw from-record (word16-read (index (getD l i a)) _ s))
 
-  pub record-distance : Small (dist (getD l i a)) → value (concatMap (recordBytes index dist) l ++ rest) (entrySize * i + 2) ≡ dist (getD l i a)
+  pub record-distance : Small (dist (getD l i a)) → value (concatMap (recordBytes index dist) l ++ rest) (entrySize * i + numberSize) ≡ dist (getD l i a)
   unfolding bytes16
-  record-distance s = value-drop (concatMap (recordBytes index dist) l ++ rest) (entrySize * i) 2 ∙ rw from-record (value-append (bytes16 (index (getD l i a))) _ 0 ∙ value-read (dist (getD l i a)) _ s)
+  record-distance s = value-drop (concatMap (recordBytes index dist) l ++ rest) (entrySize * i) numberSize ∙ rw from-record (value-append (bytes16 (index (getD l i a))) _ 0 ∙ value-read (dist (getD l i a)) _ s)
+
+pub length-list : (d : ℕ → ℕ → Distance) (transit : List ℕ) (u : ℕ) (access : List ℕ) → length (listBytes d transit u access) ≡ listSize (length access)
+unfolding listBytes bytes16
+length-list d transit u access =
+    let size : (a : ℕ) → length (entryBytes transit a (d u a)) ≡ entrySize = λ a. unfold entryBytes in omega (arith, length-value (d u a)) in
+    omega (arith, length-concatMap (λ a. entryBytes transit a (d u a)) entrySize size access)
 
 -- A list made by index is the list made by element.
 pub map-range : {A B : Type 0} (f : ℕ → A) (g : B → A) (b : B) (s : ℕ) (l : List B) → ((i : ℕ) → i < length l → f (s + i) ≡ g (getD l i b)) → map f (range s (length l)) ≡ map g l
@@ -171,8 +201,8 @@ module _ (d : ℕ → ℕ → Distance) (transit : List ℕ) (lists : List (List
   pub count-lists : length ls ≡ length lists
   count-lists = length-map (upTo (length lists)) (λ u. listBytes d transit u (getD lists u [])) ∙ length-range 0 (length lists)
 
-  pub length-front : length (starts (4 * length lists) ls) ≡ 4 * length lists
-  length-front = length-starts (4 * length lists) ls ∙ ap (λ (n : ℕ). 4 * n) count-lists
+  pub length-front : length (starts (startSize * length lists) ls) ≡ startSize * length lists
+  length-front = length-starts (startSize * length lists) ls ∙ ap (λ (n : ℕ). startSize * n) count-lists
 
   module _ (u : ℕ) (h : u < length lists) (small : length all-bytes < 4294967296) where
     abbrev pub its : List ℕ
@@ -184,16 +214,16 @@ module _ (d : ℕ → ℕ → Distance) (transit : List ℕ) (lists : List (List
     pub its-list : getD ls u [] ≡ listBytes d transit u its
     its-list = getD-map-range (λ u. listBytes d transit u (getD lists u [])) [] 0 (length lists) u h ∙ rw zero-add
 
-    pub list-start : listStart all-bytes u ≡ startOf (4 * length lists) ls u
+    pub list-start : listStart all-bytes u ≡ startOf (startSize * length lists) ls u
     unfolding listStart accessBytes
-    list-start = start-read (4 * length lists) u ls (concat ls) in-ls (omega (arith, small, length-append (starts (4 * length lists) ls) (concat ls), length-front, concat-bound u ls in-ls))
+    list-start = start-read (startSize * length lists) u ls (concat ls) in-ls (omega (arith, small, length-append (starts (startSize * length lists) ls) (concat ls), length-front, concat-bound u ls in-ls))
 
     pub from-list : drop (listStart all-bytes u) all-bytes ≡ listBytes d transit u its ++ concat (drop (suc u) ls)
     unfolding accessBytes
     from-list =
         ap (λ (m : ℕ). drop m all-bytes) list-start ∙
         (ap (λ (m : ℕ). drop (m + length (concat (take u ls))) all-bytes) (sym length-front) ∙
-        (drop-append-add (starts (4 * length lists) ls) (concat ls) (length (concat (take u ls))) ∙
+        (drop-append-add (starts (startSize * length lists) ls) (concat ls) (length (concat (take u ls))) ∙
         (drop-concat u ls in-ls ∙ ap (λ (x : Bytes). x ++ concat (drop (suc u) ls)) its-list)))
 
     -- the entries, behind the count
@@ -214,23 +244,23 @@ module _ (d : ℕ → ℕ → Distance) (transit : List ℕ) (lists : List (List
     unfolding accessEntry accessAt
     entry-read i q s t = λ k. record { index = ix k; distance = dx k }
       where
-        e : listStart all-bytes u + 2 + entrySize * i ≡ listStart all-bytes u + (2 + entrySize * i)
+        e : listStart all-bytes u + countSize + entrySize * i ≡ listStart all-bytes u + (countSize + entrySize * i)
         e = omega arith
 
-        ix : word16 all-bytes (listStart all-bytes u + 2 + entrySize * i) ≡ indexOf (getD its i 0) transit
+        ix : word16 all-bytes (listStart all-bytes u + countSize + entrySize * i) ≡ indexOf (getD its i 0) transit
         ix =
             ap (word16 all-bytes) e ∙
-            (word16-drop all-bytes (listStart all-bytes u) (2 + entrySize * i) ∙
+            (word16-drop all-bytes (listStart all-bytes u) (countSize + entrySize * i) ∙
             rw from-count (unfold bytes16 in word16-append (bytes16 (length its)) behind (entrySize * i) ∙ record-index (λ a. indexOf a transit) (d u) its _ i 0 q s))
 
-        e2 : listStart all-bytes u + 2 + entrySize * i + 2 ≡ listStart all-bytes u + (2 + (entrySize * i + 2))
+        e2 : listStart all-bytes u + countSize + entrySize * i + numberSize ≡ listStart all-bytes u + (countSize + (entrySize * i + numberSize))
         e2 = omega arith
 
-        dx : value all-bytes (listStart all-bytes u + 2 + entrySize * i + 2) ≡ d u (getD its i 0)
+        dx : value all-bytes (listStart all-bytes u + countSize + entrySize * i + numberSize) ≡ d u (getD its i 0)
         dx =
             ap (value all-bytes) e2 ∙
-            (value-drop all-bytes (listStart all-bytes u) (2 + (entrySize * i + 2)) ∙
-            rw from-count (unfold bytes16 in value-append (bytes16 (length its)) behind (entrySize * i + 2) ∙ record-distance (λ a. indexOf a transit) (d u) its _ i 0 q t))
+            (value-drop all-bytes (listStart all-bytes u) (countSize + (entrySize * i + numberSize)) ∙
+            rw from-count (unfold bytes16 in value-append (bytes16 (length its)) behind (entrySize * i + numberSize) ∙ record-distance (λ a. indexOf a transit) (d u) its _ i 0 q t))
 
     -- the whole list
     pub list-read : length its < 65536 → ((i : ℕ) → i < length its → indexOf (getD its i 0) transit < 65536) → ((i : ℕ) → i < length its → Small (d u (getD its i 0)))

@@ -1,5 +1,5 @@
 -- What rules 3 to 7 give of nodes, open edges and arcs. Assumes nothing.
-use Prim.Native.Nat.{ℕ, _+_, _/_, _%_, _≤_, _<_}
+use Prim.Native.Nat.{ℕ, _+_, _*_, _/_, _%_, _≤_, _<_}
 use native.Mathlib.Omega.{arith}
 use mathlib.Core.Path.{_≡_, refl, _∙_, subst, sym}
 use mathlib.Core.Logic.{_⊎_, inl, inr}
@@ -7,19 +7,19 @@ use mathlib.Core.Bool.{true, false, not, _||_}
 use mathlib.Core.List.{List, [], _∷_, map, List·Memᴰ, List·Memᴰ·cases-cons, List·Memᴰ·eq-of-singleton}
 use lib.ListN.{length, length-map}
 use lib.Dec.{eqb, ltb, leb}
-use borrow.Author.Tests.{leb-false, ltb-false, ltb-true, eqb-true}
+use borrow.Author.Tests.{leb-false, ltb-false, ltb-true, eqb-true, eqb-false}
 use Rattle.model.specs.Lists.{any, rising, upTo, concatMap}
-use Rattle.model.specs.Bytes.{Bytes, words16}
+use Rattle.model.specs.Bytes.{Bytes, numberSize, words16}
 use Rattle.model.specs.Contents.{nodeBody, edgeBody, closedBody}
 use Rattle.model.specs.Walk.{Arc, Mem}
 use Rattle.theory.specs.Walks.{Costs, Within, Positive}
 use Rattle.model.specs.Distance.{Distance, unreachable, finite}
 use Rattle.theory.specs.Exact.{dist-bound}
-use Rattle.model.specs.Network.{Edge, network, nodes, edges, edge, openEdges, order, nodeCount, edgeCount, arcs, arcsOf, distance, nodesBroken, edgeBroken, someEdgeBroken, edgesBroken, numbersBroken, maxNodes, maxSeconds, minSeconds, nodeSize}
+use Rattle.model.specs.Network.{Edge, network, nodes, edges, edge, openEdges, order, nodeCount, edgeCount, arcs, arcsOf, distance, nodesBroken, edgeBroken, someEdgeBroken, edgesBroken, numbersBroken, maxNodes, maxEdges, maxSeconds, minSeconds, nodeSize, edgeSize}
 use Rattle.theory.specs.RangeLaws.{length-range}
 use Rattle.theory.specs.ReadLaws.{Small}
 use Rattle.theory.specs.Tests.{both}
-use Rattle.theory.specs.Members.{none-any, filter→, map→, →map, concatMap→}
+use Rattle.theory.specs.Members.{none-any, filter→, map→, →map, →upTo, concatMap→}
 use Rattle.theory.specs.Passed.{or-false, not-false, Sound}
 
 -- ---- a rising list of numbers below m has at most m
@@ -37,39 +37,51 @@ few-rising m [] h a = omega arith
 few-rising m (x ∷ l) h a = omega (arith, rising-few m x l h a)
 
 -- Numbers that keep rule 7 or 9 are no more than what they may name.
-pub few-numbers : (m : ℕ) (b : Bytes) → numbersBroken m b ≡ false → length b / 2 ≤ m
+pub few-numbers : (m : ℕ) (b : Bytes) → numbersBroken m b ≡ false → length b / numberSize ≤ m
 unfolding numbersBroken words16
 few-numbers m b h =
     let ws : List ℕ = words16 b in
-    let p = or-false (not (eqb (length b % 2) 0) || not (rising ws)) (any (leb m) ws) h in
-    let q = or-false (not (eqb (length b % 2) 0)) (not (rising ws)) (p .0) in
-    let count : length ws ≡ length b / 2 = length-map (upTo (length b / 2)) _ ∙ length-range 0 (length b / 2) in
+    let p = or-false (not (eqb (length b % numberSize) 0) || not (rising ws)) (any (leb m) ws) h in
+    let q = or-false (not (eqb (length b % numberSize) 0)) (not (rising ws)) (p .0) in
+    let count : length ws ≡ length b / numberSize = length-map (upTo (length b / numberSize)) _ ∙ length-range 0 (length b / numberSize) in
     omega (arith, few-rising m ws (not-false (q .1)) (p .1))
 
--- ---- open edges
+-- ---- edges
 -- An edge that keeps rule 6.
 pub record Fine (n : ℕ) (e : Edge) : Type 0 where
   pub first-in : e .first < n
   pub second-in : e .second < n
+  pub apart : e .first ≡ e .second → ⊥
   pub at-most : e .seconds ≤ maxSeconds
   pub at-least : minSeconds ≤ e .seconds
 
-edge-fine : (n : ℕ) (e : Edge) → edgeBroken n e ≡ false → Fine n e
+kept-fine : (n : ℕ) (e : Edge) → edgeBroken n e ≡ false → Fine n e
 unfolding edgeBroken
-edge-fine n e a =
+kept-fine n e a =
     let p = or-false (leb n (e .first) || leb n (e .second) || eqb (e .first) (e .second) || ltb (e .seconds) minSeconds) (ltb maxSeconds (e .seconds)) a in
     let q = or-false (leb n (e .first) || leb n (e .second) || eqb (e .first) (e .second)) (ltb (e .seconds) minSeconds) (p .0) in
     let r = or-false (leb n (e .first) || leb n (e .second)) (eqb (e .first) (e .second)) (q .0) in
     let s = or-false (leb n (e .first)) (leb n (e .second)) (r .0) in
-    record { first-in = leb-false n (e .first) (s .0); second-in = leb-false n (e .second) (s .1); at-most = ltb-false maxSeconds (e .seconds) (p .1); at-least = ltb-false (e .seconds) minSeconds (q .1) }
+    record {
+      first-in = leb-false n (e .first) (s .0);
+      second-in = leb-false n (e .second) (s .1);
+      apart = eqb-false (e .first) (e .second) (r .1);
+      at-most = ltb-false maxSeconds (e .seconds) (p .1);
+      at-least = ltb-false (e .seconds) minSeconds (q .1);
+    }
 
--- Each open edge is one of the edges, so it keeps rule 6.
+module _ (n : ℕ) (b : Bytes) (ok : someEdgeBroken n b ≡ false) where
+  pub edge-fine : (i : ℕ) → i < edgeCount b → Fine n (edge b i)
+  unfolding someEdgeBroken edges
+  edge-fine i l = kept-fine n (edge b i) (none-any (edgeBroken n) (edges b) ok (→map (edge b) (upTo (edgeCount b)) (→upTo (edgeCount b) i l)))
+
+-- Each open edge is one of the edges.
 pub open-fine : (n : ℕ) (b : Bytes) (closed : List ℕ) → someEdgeBroken n b ≡ false → (e : Edge) → List·Memᴰ e (openEdges b closed) → Fine n e
 unfolding openEdges someEdgeBroken edges
 open-fine n b closed ok e m =
     let r = map→ (edge b) _ m in
     let i = filter→ _ (upTo (edgeCount b)) (r .1) in
-    edge-fine n e (none-any (edgeBroken n) (map (edge b) (upTo (edgeCount b))) ok (rw (r .2) (→map (edge b) (upTo (edgeCount b)) (i .0))))
+    kept-fine n e (none-any (edgeBroken n) (map (edge b) (upTo (edgeCount b))) ok (rw (r .2) (→map (edge b) (upTo (edgeCount b)) (i .0))))
 
 -- ---- arcs
 -- What holds of each edge's ends and seconds, in either order of the ends, holds of each arc.
@@ -122,7 +134,7 @@ module _ (f : Bytes) (ok : Sound f) where
   unfolding arcs
   positive = arcs-positive (order (network f)) (network f .edges) fine
 
-  pub node-bytes : (n ≤ maxNodes) × (0 < n) × (length (nodeBody f) ≤ 32768)
+  pub node-bytes : (n ≤ maxNodes) × (0 < n) × (length (nodeBody f) ≤ nodeSize * maxNodes)
   unfolding nodesBroken nodeCount
   node-bytes =
       let p = or-false (not (eqb (length (nodeBody f) % nodeSize) 0) || ltb n 1) (ltb maxNodes n) (ok .nodes-rule) in
@@ -143,17 +155,17 @@ module _ (f : Bytes) (ok : Sound f) where
       step unreachable e = tt
       step (finite k) e = omega (arith, few, dist-bound (arcs (network f)) (order (network f)) u t within h maxSeconds k costs e)
 
-  pub edge-bytes : (edgeCount (edgeBody f) ≤ 16384) × (length (edgeBody f) ≤ 131072)
+  pub edge-bytes : (edgeCount (edgeBody f) ≤ maxEdges) × (length (edgeBody f) ≤ edgeSize * maxEdges)
   unfolding edgesBroken edgeCount
   edge-bytes =
-      let p = or-false (not (eqb (length (edgeBody f) % 8) 0)) (ltb 16384 (length (edgeBody f) / 8)) (ok .edges-rule) in
-      let a : length (edgeBody f) / 8 ≤ 16384 = ltb-false 16384 _ (p .1) in
-      let b : length (edgeBody f) % 8 ≡ 0 = eqb-true _ _ (not-false (p .0)) in
+      let p = or-false (not (eqb (length (edgeBody f) % edgeSize) 0)) (ltb maxEdges (length (edgeBody f) / edgeSize)) (ok .edges-rule) in
+      let a : length (edgeBody f) / edgeSize ≤ maxEdges = ltb-false maxEdges _ (p .1) in
+      let b : length (edgeBody f) % edgeSize ≡ 0 = eqb-true _ _ (not-false (p .0)) in
       (a, omega arith)
 
-  pub closed-bytes : length (closedBody f) ≤ 32768
+  pub closed-bytes : length (closedBody f) ≤ numberSize * maxEdges
   unfolding numbersBroken
   closed-bytes =
-      let even = or-false (not (eqb (length (closedBody f) % 2) 0) || not (rising (words16 (closedBody f)))) (any (leb (edgeCount (edgeBody f))) (words16 (closedBody f))) (ok .closed) .0 in
-      let e : length (closedBody f) % 2 ≡ 0 = eqb-true _ _ (not-false (or-false (not (eqb (length (closedBody f) % 2) 0)) (not (rising (words16 (closedBody f)))) even .0)) in
+      let even = or-false (not (eqb (length (closedBody f) % numberSize) 0) || not (rising (words16 (closedBody f)))) (any (leb (edgeCount (edgeBody f))) (words16 (closedBody f))) (ok .closed) .0 in
+      let e : length (closedBody f) % numberSize ≡ 0 = eqb-true _ _ (not-false (or-false (not (eqb (length (closedBody f) % numberSize) 0)) (not (rising (words16 (closedBody f)))) even .0)) in
       omega (arith, few-numbers (edgeCount (edgeBody f)) (closedBody f) (ok .closed), edge-bytes .0)

@@ -9,8 +9,9 @@ use lib.ListN.{length, length-map}
 use lib.Dec.{leb}
 use Rattle.model.specs.Lists.{filter, any, member, upTo, concatMap}
 use Rattle.model.specs.Network.{Edge, Network, order, distance}
-use Rattle.model.specs.Grid.{Cell, gridOver, cells, cellOf, cellAt, gap, within, innerRadius}
+use Rattle.model.specs.Grid.{Grid, Cell, gridOver, cells, cellOf, cellAt, gap, within}
 use Rattle.model.specs.Access.{crossingEnd, crosses, crossings, accessNodes, accessLists, transitNodes}
+use Rattle.model.specs.declared.Division.{Division}
 use Rattle.theory.specs.Tests.{both, leb-true, same-test}
 use Rattle.theory.specs.Members.{filter→, any→, →any, map→, →map, →concatMap, getD-mem, member→, →member, →upTo}
 use Rattle.theory.specs.GridLaws.{column-below, row-below}
@@ -50,24 +51,27 @@ in-grid g c x y =
     →concatMap (λ x. map (λ y. record { column = x; row = y }) (upTo g)) (upTo g) (→upTo g (c .column) x)
     (→map (λ y. record { column = c .column; row = y }) (upTo g) (→upTo g (c .row) y))
 
-module _ (net : Network) (ends : (e : Edge) → List·Memᴰ e (net .edges) → (e .first < order net) × (e .second < order net)) (g : ℕ) (p : 0 < g) where
+module _ (net : Network) (ends : (e : Edge) → List·Memᴰ e (net .edges) → (e .first < order net) × (e .second < order net)) (dv : Division) (p : 0 < dv .g) where
+  abbrev pub grid : Grid
+  grid = gridOver dv (net .nodes)
+
   abbrev cs : List Cell
-  cs = cells (gridOver g (net .nodes)) (net .nodes)
+  cs = cells grid (net .nodes)
 
   -- The access nodes of any cell.
   abbrev pub accessOf : Cell → List ℕ
-  accessOf c = accessNodes (distance net) cs (net .edges) c
+  accessOf c = accessNodes (distance net) grid cs (net .edges) c
 
   cell-of-node : (v : ℕ) → v < order net → List·Memᴰ (cellAt cs v) cs
   unfolding cellAt cells order
-  cell-of-node v h = getD-mem cs v (record { column = 0; row = 0 }) (rw (length-map (net .nodes) (cellOf (gridOver g (net .nodes)))) h)
+  cell-of-node v h = getD-mem cs v (record { column = 0; row = 0 }) (rw (length-map (net .nodes) (cellOf grid)) h)
 
   -- A cell with an access node has a node.
   has-node : (c : Cell) (a : ℕ) → List·Memᴰ a (accessOf c) → List·Memᴰ c cs
   unfolding accessNodes crossings crosses
   has-node c a m =
       let passed = filter→ _ (upTo (length cs)) m in
-      let found = any→ _ (crossings cs (net .edges) 0 c) (both {b = member a (crossings cs (net .edges) innerRadius c)} (passed .1) .1) in
+      let found = any→ _ (crossings cs (net .edges) 0 c) (both {b = member a (crossings cs (net .edges) (grid .inner) c)} (passed .1) .1) in
       let edge = map→ crossingEnd _ (found .1) in
       let crossing = filter→ (crosses cs 0 c) (net .edges) (edge .1) in
       let e = edge .0 in
@@ -77,11 +81,11 @@ module _ (net : Network) (ends : (e : Edge) → List·Memᴰ e (net .edges) → 
       (one-of (within 0 c (cellAt cs (e .first))) (within 0 c (cellAt cs (e .second))) (crossing .1))
 
   -- A node's cell is one of the grid.
-  node-in-grid : (c : Cell) → List·Memᴰ c cs → List·Memᴰ c (allCells g)
+  node-in-grid : (c : Cell) → List·Memᴰ c cs → List·Memᴰ c (allCells (dv .g))
   unfolding cells
   node-in-grid c m =
-      let v = map→ (cellOf (gridOver g (net .nodes))) (net .nodes) m in
-      Memᴰ·cast (v .2) (in-grid g (cellOf (gridOver g (net .nodes)) (v .0)) (column-below g (net .nodes) p (v .0) (v .1)) (row-below g (net .nodes) p (v .0) (v .1)))
+      let v = map→ (cellOf grid) (net .nodes) m in
+      Memᴰ·cast (v .2) (in-grid (dv .g) (cellOf grid (v .0)) (column-below dv (net .nodes) p (v .0) (v .1)) (row-below dv (net .nodes) p (v .0) (v .1)))
 
   listed : (xs ys : List Cell) → ((c : Cell) (a : ℕ) → List·Memᴰ c xs → List·Memᴰ a (accessOf c) → List·Memᴰ c ys) → (a : ℕ) → any (member a) (map accessOf xs) ≡ true → any (member a) (map accessOf ys) ≡ true
   listed xs ys k a h =
@@ -90,6 +94,6 @@ module _ (net : Network) (ends : (e : Edge) → List·Memᴰ e (net .edges) → 
       let m : List·Memᴰ a (accessOf (c .0)) = member→ a (accessOf (c .0)) (rw (← c .2) (l .2)) in
       →any (member a) (map accessOf ys) (→map accessOf ys (k (c .0) a (c .1) m)) (→member a (accessOf (c .0)) m)
 
-  pub transit-all : transitNodes (order net) (map accessOf (allCells g)) ≡ transitNodes (order net) (accessLists net (gridOver g (net .nodes)))
+  pub transit-all : transitNodes (order net) (map accessOf (allCells (dv .g))) ≡ transitNodes (order net) (accessLists net grid)
   unfolding transitNodes accessLists
-  transit-all = filter-same _ _ (upTo (order net)) (λ a. same-test (listed (allCells g) cs (λ c a m n. has-node c a n) a) (listed cs (allCells g) (λ c a m n. node-in-grid c m) a))
+  transit-all = filter-same _ _ (upTo (order net)) (λ a. same-test (listed (allCells (dv .g)) cs (λ c a m n. has-node c a n) a) (listed cs (allCells (dv .g)) (λ c a m n. node-in-grid c m) a))

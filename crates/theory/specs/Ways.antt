@@ -14,6 +14,7 @@ use Rattle.theory.specs.DistanceLaws.{Real, dist-real}
 use Rattle.model.specs.Network.{network, order, arcs, distance}
 use Rattle.model.specs.Oracle.{oracle}
 use Rattle.model.specs.Rules.{accepted}
+use Rattle.model.specs.declared.Division.{Division}
 use Rattle.theory.specs.Way.{Exact, exact-of, way, way-walk, way-order, way-none}
 use Rattle.theory.specs.FarModel.{exact}
 use Rattle.theory.specs.Built.{same-network}
@@ -58,5 +59,5 @@ module _ (f : Bytes) (ok : Sound f) (t : ℕ) (ht : t < order (network f)) where
   way-empty {u} h = same u ∙ way-none net-arcs t (λ v. distance (network f) v t) right (positive f ok) h
 
 -- the way over the built oracle is that of the network
-pub way-built : (f : Bytes) (g : ℕ) → accepted f g ≡ true → (u t : ℕ) → query.way (network (oracle f g)) u t ≡ query.way (network f) u t
-way-built f g ok u t = rw (same-network f g (good f g (all-passed f g ok)))
+pub way-built : (f : Bytes) (dv : Division) → accepted f dv ≡ true → (u t : ℕ) → query.way (network (oracle f dv)) u t ≡ query.way (network f) u t
+way-built f dv ok u t = rw (same-network f dv (good f dv (all-passed f dv ok)))

@@ -9,22 +9,22 @@ use lib.ListN.{length, getD, length-append}
 use lib.Dec.{leb}
 use borrow.Author.Tests.{lt-leb, eq-eqb}
 use Rattle.model.specs.Lists.{gapless, rising, upTo, indexOf, concat, concatMap}
-use Rattle.model.specs.Bytes.{Bytes, word16, bytes16, words16}
+use Rattle.model.specs.Bytes.{Bytes, word16, bytes16, numberSize, words16}
 use Rattle.model.specs.Contents.{contentsBroken, bodiesBroken, oracleEdition, oracleEntries, nodeBody, edgeBody, closedBody, gridBody, transitBody, accessBody, tableBody}
 use Rattle.model.specs.Distance.{Distance, unreachable, finite}
 use Rattle.theory.specs.Exact.{dist-bound}
 use Rattle.model.specs.Network.{network, order, arcs, distance, nodeCount, edgeCount, nodesBroken, coordinatesBroken, edgesBroken, someEdgeBroken, numbersBroken}
-use Rattle.model.specs.Grid.{gridNumber}
+use Rattle.model.specs.Grid.{divisionBytes}
 use Rattle.model.specs.Access.{accessNodes, transitNodes}
-use Rattle.model.specs.Oracle.{indexes, cellBroken, oracle, value, valueBroken, valueBytes, valueSize, entrySize, listBytes, entryBytes, accessBytes, tableBytes, transitCount, listCount, listPart, accessAt, accessEntry, accessList, gridBodyBroken, entryBroken, listBroken, accessBroken, tableBroken, tableEntry}
+use Rattle.model.specs.Oracle.{indexes, cellBroken, oracle, value, valueBroken, valueBytes, valueSize, startSize, accessBytes, tableBytes, transitCount, listCount, listPart, accessAt, accessEntry, accessList, gridBodyBroken, entryBroken, listBroken, accessBroken, tableBroken, tableEntry}
 use Rattle.model.specs.Rules.{firstBroken, shapeRules, accepted, wellShaped}
-use Rattle.theory.specs.FileLaws.{word16-read}
+use Rattle.model.specs.declared.Division.{Division}
 use Rattle.theory.specs.Members.{range→, filter→, map→, concatMap→, getD-mem, index-of}
 use Rattle.theory.specs.FarModel.{inside}
 use Rattle.theory.specs.Built.{Good, bodies-of, transit-of, lists-of, cells-of, access-of, count-lists, list-of, few-transit, few-access, in-transit, count-transit}
 use Rattle.theory.specs.Passed.{Passed, all-passed, shaped-all}
 use Rattle.theory.specs.Sound.{ends, costs, few, count-nodes}
-use Rattle.theory.specs.Accepted.{good, g-fits}
+use Rattle.theory.specs.Accepted.{good}
 use Rattle.theory.specs.Shape.{gapless-parts, Bounded, value-fine, rising-range, rising-filter, rising-index, any-none, contents-fine, bodies-fine}
 use Rattle.theory.specs.ReadLaws as read
 use Rattle.theory.specs.Numbers.{words-read}
@@ -53,12 +53,12 @@ unfolding concatMap
 flat f t [] = refl
 flat f t (a ∷ l) = rw (concatMap-append (λ p. f (p .0) (p .1)) (map (pair a) t) (concatMap (λ a. map (pair a) t) l), concatMap-map (λ p. f (p .0) (p .1)) (pair a) t, flat f t l)
 
-module _ (f : Bytes) (g : ℕ) (ok : Passed f g) where
+module _ (f : Bytes) (dv : Division) (ok : Passed f dv) where
   abbrev o : Bytes
-  o = oracle f g
+  o = oracle f dv
 
-  abbrev fine : Good f g
-  fine = good f g ok
+  abbrev fine : Good f dv
+  fine = good f dv ok
 
   abbrev N : ℕ
   N = order (network f)
@@ -67,7 +67,7 @@ module _ (f : Bytes) (g : ℕ) (ok : Passed f g) where
   d = distance (network f)
 
   abbrev t : List ℕ
-  t = transit-of f g
+  t = transit-of f dv
 
   bounded : (u v : ℕ) → u < N → Bounded (d u v)
   unfolding distance
@@ -78,7 +78,7 @@ module _ (f : Bytes) (g : ℕ) (ok : Passed f g) where
       step (finite k) e = omega (arith, few f (ok .sound), dist-bound (arcs (network f)) N u v (inside (network f) (ends f (ok .sound))) h 100000 k (costs f (ok .sound)) e)
 
   same-count : nodeCount (nodeBody o) ≡ N
-  same-count = ap nodeCount (bodies-of f g fine 0 (omega arith)) ∙ sym (count-nodes f)
+  same-count = ap nodeCount (bodies-of f dv fine 0 (omega arith)) ∙ sym (count-nodes f)
 
   rule1 : contentsBroken oracleEdition oracleEntries o ≡ false
   unfolding oracle
@@ -89,25 +89,23 @@ module _ (f : Bytes) (g : ℕ) (ok : Passed f g) where
   rule2 = bodies-fine oracleEdition _ (unfold oracle in fine .small)
 
   rule3 : nodesBroken (nodeBody o) ≡ false
-  rule3 = ap nodesBroken (bodies-of f g fine 0 (omega arith)) ∙ ok .sound .nodes-rule
+  rule3 = ap nodesBroken (bodies-of f dv fine 0 (omega arith)) ∙ ok .sound .nodes-rule
 
   rule4 : coordinatesBroken (nodeBody o) ≡ false
-  rule4 = ap coordinatesBroken (bodies-of f g fine 0 (omega arith)) ∙ ok .sound .coordinates
+  rule4 = ap coordinatesBroken (bodies-of f dv fine 0 (omega arith)) ∙ ok .sound .coordinates
 
   rule5 : edgesBroken (edgeBody o) ≡ false
-  rule5 = ap edgesBroken (bodies-of f g fine 1 (omega arith)) ∙ ok .sound .edges-rule
+  rule5 = ap edgesBroken (bodies-of f dv fine 1 (omega arith)) ∙ ok .sound .edges-rule
 
   rule6 : someEdgeBroken (nodeCount (nodeBody o)) (edgeBody o) ≡ false
-  rule6 = rw (bodies-of f g fine 0 (omega arith), bodies-of f g fine 1 (omega arith)) (ok .sound .some-edge)
+  rule6 = rw (bodies-of f dv fine 0 (omega arith), bodies-of f dv fine 1 (omega arith)) (ok .sound .some-edge)
 
   rule7 : numbersBroken (edgeCount (edgeBody o)) (closedBody o) ≡ false
-  rule7 = rw (bodies-of f g fine 1 (omega arith), bodies-of f g fine 2 (omega arith)) (ok .sound .closed)
+  rule7 = rw (bodies-of f dv fine 1 (omega arith), bodies-of f dv fine 2 (omega arith)) (ok .sound .closed)
 
   rule8 : gridBodyBroken (gridBody o) ≡ false
-  unfolding gridBodyBroken gridNumber
-  rule8 =
-      let e : word16 (bytes16 g) 0 ≡ g = ap (λ (b : Bytes). word16 b 0) (sym (append-nil (bytes16 g))) ∙ word16-read g [] (fine .g-fits) in
-      rw (bodies-of f g fine 3 (omega arith), e) (unfold bytes16 in ok .grid)
+  unfolding gridBodyBroken
+  rule8 = rw (bodies-of f dv fine 3 (omega arith), fine .reads) (unfold divisionBytes bytes16 in ok .grid)
 
   -- transit nodes rise and are nodes
   transit-rises : rising t ≡ true
@@ -122,89 +120,81 @@ module _ (f : Bytes) (g : ℕ) (ok : Passed f g) where
   unfolding numbersBroken
   rule9 =
       let ws : words16 (concatMap bytes16 t) ≡ t = words-read t (λ i q. omega (arith, transit-node (getD-mem t i 0 q), fine .few)) in
-      let even : length (concatMap bytes16 t) % 2 ≡ 0 = omega (arith, read.length-concatMap bytes16 2 (λ n. unfold bytes16 in refl) t) in
-      rw (same-count, bodies-of f g fine 4 (omega arith), ws, eq-eqb (length (concatMap bytes16 t) % 2) 0 even, transit-rises)
+      let even : length (concatMap bytes16 t) % numberSize ≡ 0 = omega (arith, read.length-numbers t) in
+      rw (same-count, bodies-of f dv fine 4 (omega arith), ws, eq-eqb (length (concatMap bytes16 t) % numberSize) 0 even, transit-rises)
       (any-none (leb N) t (λ a m. lt-leb N a (transit-node m)))
 
   -- ---- rule 10
   abbrev b : Bytes
-  b = accessBytes d t (lists-of f g)
+  b = accessBytes d t (lists-of f dv)
 
   abbrev pieces : List Bytes
-  pieces = read.ls d t (lists-of f g)
+  pieces = read.ls d t (lists-of f dv)
 
-  small-list : (u : ℕ) → u < N → length (getD (lists-of f g) u []) < 65536
-  small-list u h = rw (list-of f g u h) (omega (arith, few-access f g u, fine .few))
+  small-list : (u : ℕ) → u < N → length (getD (lists-of f dv) u []) < 65536
+  small-list u h = rw (list-of f dv u h) (omega (arith, few-access f dv u, fine .few))
 
-  in-lists : (u : ℕ) → u < N → u < length (lists-of f g)
-  in-lists u h = rw (count-lists f g) h
+  in-lists : (u : ℕ) → u < N → u < length (lists-of f dv)
+  in-lists u h = rw (count-lists f dv) h
 
-  listed : (u : ℕ) → u < N → (i : ℕ) → i < length (getD (lists-of f g) u []) → List·Memᴰ (getD (getD (lists-of f g) u []) i 0) t
-  listed u h i q = in-transit f g fine u h (subst (λ (l : List ℕ). List·Memᴰ (getD (getD (lists-of f g) u []) i 0) l) (list-of f g u h) (getD-mem (getD (lists-of f g) u []) i 0 q))
+  listed : (u : ℕ) → u < N → (i : ℕ) → i < length (getD (lists-of f dv) u []) → List·Memᴰ (getD (getD (lists-of f dv) u []) i 0) t
+  listed u h i q = in-transit f dv fine u h (subst (λ (l : List ℕ). List·Memᴰ (getD (getD (lists-of f dv) u []) i 0) l) (list-of f dv u h) (getD-mem (getD (lists-of f dv) u []) i 0 q))
 
-  list-length : (u : ℕ) (l : List ℕ) → length (listBytes d t u l) ≡ 2 + entrySize * length l
-  unfolding listBytes bytes16
-  list-length u l =
-      let size : (a : ℕ) → length (entryBytes t a (d u a)) ≡ 6 = λ a. entry-length a (d u a) in
-      omega (arith, read.length-concatMap (λ a. entryBytes t a (d u a)) 6 size l)
-    where
-      entry-length : (a : ℕ) (x : Distance) → length (entryBytes t a x) ≡ 6
-      entry-length a x = unfold entryBytes bytes16 in omega (arith, read.length-value x)
-
-  layout : gapless (4 * N) (map (listPart b) (upTo N)) (length b) ≡ true
+  layout : gapless (startSize * N) (map (listPart b) (upTo N)) (length b) ≡ true
   layout =
-      let count : length pieces ≡ N = read.count-lists d t (lists-of f g) ∙ count-lists f g in
-      let end : length b ≡ 4 * length (lists-of f g) + length (concat pieces) = unfold accessBytes in omega (arith, length-append (Rattle.model.specs.Oracle.starts (4 * length (lists-of f g)) pieces) (concat pieces), read.length-front d t (lists-of f g)) in
-      let all = gapless-parts (4 * length (lists-of f g)) 0 (listPart b) pieces
+      let count : length pieces ≡ N = read.count-lists d t (lists-of f dv) ∙ count-lists f dv in
+      let end : length b ≡ startSize * length (lists-of f dv) + length (concat pieces) = unfold accessBytes in omega (arith, length-append (Rattle.model.specs.Oracle.starts (startSize * length (lists-of f dv)) pieces) (concat pieces), read.length-front d t (lists-of f dv)) in
+      let all = gapless-parts (startSize * length (lists-of f dv)) 0 (listPart b) pieces
       (λ u h. begins u (rw count at h)) (λ u h. lasts u (rw count at h)) in
-      let whole : gapless (4 * length (lists-of f g)) (map (listPart b) (upTo (length (lists-of f g)))) (4 * length (lists-of f g) + length (concat pieces)) ≡ true = subst (λ (n : ℕ). gapless (4 * length (lists-of f g)) (map (listPart b) (upTo n)) (4 * length (lists-of f g) + length (concat pieces)) ≡ true) (read.count-lists d t (lists-of f g)) all in
-      subst (λ (n : ℕ). gapless (4 * n) (map (listPart b) (upTo n)) (length b) ≡ true) (count-lists f g)
-      (subst (λ (m : ℕ). gapless (4 * length (lists-of f g)) (map (listPart b) (upTo (length (lists-of f g)))) m ≡ true) (sym end) whole)
+      let whole : gapless (startSize * length (lists-of f dv)) (map (listPart b) (upTo (length (lists-of f dv)))) (startSize * length (lists-of f dv) + length (concat pieces)) ≡ true = subst (λ (n : ℕ). gapless (startSize * length (lists-of f dv)) (map (listPart b) (upTo n)) (startSize * length (lists-of f dv) + length (concat pieces)) ≡ true) (read.count-lists d t (lists-of f dv)) all in
+      subst (λ (n : ℕ). gapless (startSize * n) (map (listPart b) (upTo n)) (length b) ≡ true) (count-lists f dv)
+      (subst (λ (m : ℕ). gapless (startSize * length (lists-of f dv)) (map (listPart b) (upTo (length (lists-of f dv)))) m ≡ true) (sym end) whole)
     where
-      begins : (u : ℕ) → u < N → listPart b (0 + u) .start ≡ Rattle.theory.specs.FileLaws.startOf (4 * length (lists-of f g)) pieces u
-      begins u h = unfold listPart in rw zero-add (read.list-start d t (lists-of f g) u (in-lists u h) (Rattle.theory.specs.Built.access-small f g fine))
+      begins : (u : ℕ) → u < N → listPart b (0 + u) .start ≡ Rattle.theory.specs.FileLaws.startOf (startSize * length (lists-of f dv)) pieces u
+      begins u h = unfold listPart in rw zero-add (read.list-start d t (lists-of f dv) u (in-lists u h) (Rattle.theory.specs.Built.access-small f dv fine))
 
       lasts : (u : ℕ) → u < N → listPart b (0 + u) .size ≡ length (getD pieces u [])
       lasts u h =
           unfold listPart in
-          rw (zero-add, read.list-count d t (lists-of f g) u (in-lists u h) (Rattle.theory.specs.Built.access-small f g fine) (small-list u h))
-          (sym (ap length (read.its-list d t (lists-of f g) u (in-lists u h) (Rattle.theory.specs.Built.access-small f g fine)) ∙ list-length u (getD (lists-of f g) u [])))
+          rw (zero-add, read.list-count d t (lists-of f dv) u (in-lists u h) (Rattle.theory.specs.Built.access-small f dv fine) (small-list u h))
+          (sym (ap length (read.its-list d t (lists-of f dv) u (in-lists u h) (Rattle.theory.specs.Built.access-small f dv fine)) ∙ read.length-list d t u (getD (lists-of f dv) u [])))
 
-  entry-is : (u : ℕ) → u < N → (i : ℕ) → i < length (getD (lists-of f g) u []) → accessEntry b u i ≡ read.entryOf d t u (getD (getD (lists-of f g) u []) i 0)
+  entry-is : (u : ℕ) → u < N → (i : ℕ) → i < length (getD (lists-of f dv) u []) → accessEntry b u i ≡ read.entryOf d t u (getD (getD (lists-of f dv) u []) i 0)
   entry-is u h i q =
-      read.entry-read d t (lists-of f g) u (in-lists u h) (Rattle.theory.specs.Built.access-small f g fine) i q
-      (omega (arith, index-of (getD (getD (lists-of f g) u []) i 0) t (listed u h i q) .0, few-transit f g, fine .few)) (fine .near u _ h)
+      read.entry-read d t (lists-of f dv) u (in-lists u h) (Rattle.theory.specs.Built.access-small f dv fine) i q
+      (omega (arith, index-of (getD (getD (lists-of f dv) u []) i 0) t (listed u h i q) .0, few-transit f dv, fine .few)) (fine .near u _ h)
 
-  entry-fine : (u : ℕ) → u < N → (i : ℕ) → i < length (getD (lists-of f g) u []) → entryBroken (length t) b u i ≡ false
+  entry-fine : (u : ℕ) → u < N → (i : ℕ) → i < length (getD (lists-of f dv) u []) → entryBroken (length t) b u i ≡ false
   unfolding entryBroken
   entry-fine u h i q =
       let e = entry-is u h i q in
-      let x : leb (length t) (accessEntry b u i .index) ≡ false = rw e (lt-leb (length t) _ (index-of (getD (getD (lists-of f g) u []) i 0) t (listed u h i q) .0)) in
-      let y : value b (accessAt b u i + 2) ≡ d u (getD (getD (lists-of f g) u []) i 0) = ap (λ z. z .distance) (entry-same i) ∙ ap (λ z. z .distance) e in
-      rw x (value-fine b (accessAt b u i + 2) _ y (bounded u _ h))
+      let x : leb (length t) (accessEntry b u i .index) ≡ false = rw e (lt-leb (length t) _ (index-of (getD (getD (lists-of f dv) u []) i 0) t (listed u h i q) .0)) in
+      let y : value b (accessAt b u i + numberSize) ≡ d u (getD (getD (lists-of f dv) u []) i 0) =
+      ap (λ z. z .distance) (entry-same i) ∙ ap (λ z. z .distance) e in
+      rw x (value-fine b (accessAt b u i + numberSize) _ y (bounded u _ h))
     where
-      entry-same : (i : ℕ) → record { index = word16 b (accessAt b u i); distance = value b (accessAt b u i + 2) } ≡ accessEntry b u i
+      entry-same : (i : ℕ) → record { index = word16 b (accessAt b u i); distance = value b (accessAt b u i + numberSize) } ≡ accessEntry b u i
       entry-same i = unfold accessEntry in refl
 
-  access-rises : (u : ℕ) → rising (access-of f g u) ≡ true
+  access-rises : (u : ℕ) → rising (access-of f dv u) ≡ true
   unfolding accessNodes
-  access-rises u = rising-filter _ (upTo (length (cells-of f g))) (rising-range 0 (length (cells-of f g)))
+  access-rises u = rising-filter _ (upTo (length (cells-of f dv))) (rising-range 0 (length (cells-of f dv)))
 
   list-fine : (u : ℕ) → u < N → listBroken (length t) b u ≡ false
   unfolding listBroken indexes rising
   list-fine u h =
-      let L = getD (lists-of f g) u [] in
-      let small = Rattle.theory.specs.Built.access-small f g fine in
-      let read-back : accessList b u ≡ map (read.entryOf d t u) L = read.list-read d t (lists-of f g) u (in-lists u h) small (small-list u h)
-      (λ i q. omega (arith, index-of (getD L i 0) t (listed u h i q) .0, few-transit f g, fine .few)) (λ i q. fine .near u _ h) in
-      let count : listCount b u ≡ length L = read.list-count d t (lists-of f g) u (in-lists u h) small (small-list u h) in
+      let L = getD (lists-of f dv) u [] in
+      let small = Rattle.theory.specs.Built.access-small f dv fine in
+      let read-back : accessList b u ≡ map (read.entryOf d t u) L = read.list-read d t (lists-of f dv) u (in-lists u h) small (small-list u h)
+      (λ i q. omega (arith, index-of (getD L i 0) t (listed u h i q) .0, few-transit f dv, fine .few)) (λ i q. fine .near u _ h) in
+      let count : listCount b u ≡ length L = read.list-count d t (lists-of f dv) u (in-lists u h) small (small-list u h) in
       let indexes : map (λ e. e .index) (map (read.entryOf d t u) L) ≡ map (λ a. indexOf a t) L = map-map (λ e. e .index) (read.entryOf d t u) L in
-      let rises : rising (map (λ a. indexOf a t) L) ≡ true = rising-index t L transit-rises (rw (list-of f g u h) (access-rises u)) (λ x m. in-transit f g fine u h (rw (list-of f g u h) at m)) in
+      let rises : rising (map (λ a. indexOf a t) L) ≡ true = rising-index t L transit-rises (rw (list-of f dv u h) (access-rises u)) (λ x m. in-transit f dv fine u h (rw (list-of f dv u h) at m)) in
       rw (read-back, indexes, rises, count) (any-none (entryBroken (length t) b u) (upTo (length L)) (λ i m. entry-fine u h i (omega (arith, range→ 0 (length L) i m))))
 
   rule10 : accessBroken (nodeCount (nodeBody o)) (transitCount (transitBody o)) (accessBody o) ≡ false
   unfolding accessBroken
-  rule10 = rw (same-count, count-transit f g fine, bodies-of f g fine 5 (omega arith), layout) (any-none (listBroken (length t) b) (upTo N) (λ u m. list-fine u (omega (arith, range→ 0 N u m))))
+  rule10 = rw (same-count, count-transit f dv fine, bodies-of f dv fine 5 (omega arith), layout) (any-none (listBroken (length t) b) (upTo N) (λ u m. list-fine u (omega (arith, range→ 0 N u m))))
 
   -- ---- rule 11
   abbrev pairs : List (ℕ × ℕ)
@@ -218,13 +208,12 @@ module _ (f : Bytes) (g : ℕ) (ok : Passed f g) where
   squares = flat (λ a c. valueBytes (d a c)) t t
 
   table-length : length (tableBytes d t) ≡ valueSize * (length t * length t)
-  unfolding tableBytes
-  table-length =
-      read.length-concatMap (λ a. concatMap (λ c. valueBytes (d a c)) t) (4 * length t) (λ a. read.length-concatMap (λ c. valueBytes (d a c)) 4 (λ c. read.length-value (d a c)) t) t ∙
-      mul-assoc 4 (length t) (length t)
+  table-length = read.length-table d t ∙ mul-assoc valueSize (length t) (length t)
 
   count-pairs : length pairs ≡ length t * length t
-  count-pairs = omega (arith, table-length, ap length squares, read.length-concatMap (λ p. valueBytes (of-pair p)) 4 (λ p. read.length-value (of-pair p)) pairs)
+  count-pairs =
+      let size = read.length-concatMap (λ p. valueBytes (of-pair p)) valueSize (λ p. read.length-value (of-pair p)) pairs in
+      omega (arith, table-length, ap length squares, size)
 
   pair-node : {p : ℕ × ℕ} → List·Memᴰ p pairs → p .0 < N
   pair-node {p} m =
@@ -243,7 +232,7 @@ module _ (f : Bytes) (g : ℕ) (ok : Passed f g) where
   rule11 : tableBroken (transitCount (transitBody o)) (tableBody o) ≡ false
   unfolding tableBroken cellBroken
   rule11 =
-      rw (count-transit f g fine, bodies-of f g fine 6 (omega arith), eq-eqb (length (tableBytes d t)) (valueSize * (length t * length t)) table-length)
+      rw (count-transit f dv fine, bodies-of f dv fine 6 (omega arith), eq-eqb (length (tableBytes d t)) (valueSize * (length t * length t)) table-length)
       (any-none (cellBroken (tableBytes d t)) (upTo (length t * length t)) (λ i m. square-fine i (omega (arith, range→ 0 (length t * length t) i m))))
 
   pub no-rule : firstBroken (shapeRules o) ≡ 0
@@ -258,17 +247,17 @@ module _ (f : Bytes) (g : ℕ) (ok : Passed f g) where
   })
 
 -- ---- what a reader of the oracle finds
-module _ (f : Bytes) (g : ℕ) (ok : Passed f g) where
-  pub transit-read : words16 (transitBody (oracle f g)) ≡ transit-of f g
-  transit-read = ap words16 (bodies-of f g (good f g ok) 4 (omega arith)) ∙ words-read (transit-of f g) (λ i q. omega (arith, transit-node f g ok (getD-mem (transit-of f g) i 0 q), few f (ok .sound)))
+module _ (f : Bytes) (dv : Division) (ok : Passed f dv) where
+  pub transit-read : words16 (transitBody (oracle f dv)) ≡ transit-of f dv
+  transit-read = ap words16 (bodies-of f dv (good f dv ok) 4 (omega arith)) ∙ words-read (transit-of f dv) (λ i q. omega (arith, transit-node f dv ok (getD-mem (transit-of f dv) i 0 q), few f (ok .sound)))
 
-  pub table-built : (i j : ℕ) → i < length (transit-of f g) → j < length (transit-of f g)
-      → tableEntry (tableBody (oracle f g)) (transitCount (transitBody (oracle f g))) i j ≡ distance (network f) (getD (transit-of f g) i 0) (getD (transit-of f g) j 0)
+  pub table-built : (i j : ℕ) → i < length (transit-of f dv) → j < length (transit-of f dv)
+      → tableEntry (tableBody (oracle f dv)) (transitCount (transitBody (oracle f dv))) i j ≡ distance (network f) (getD (transit-of f dv) i 0) (getD (transit-of f dv) j 0)
   table-built i j p q =
-      rw (bodies-of f g (good f g ok) 6 (omega arith), count-transit f g (good f g ok))
-      (read.table-read (distance (network f)) (transit-of f g) i j p q (good f g ok .near _ _ (transit-node f g ok (getD-mem (transit-of f g) i 0 p))))
+      rw (bodies-of f dv (good f dv ok) 6 (omega arith), count-transit f dv (good f dv ok))
+      (read.table-read (distance (network f)) (transit-of f dv) i j p q (good f dv ok .near _ _ (transit-node f dv ok (getD-mem (transit-of f dv) i 0 p))))
 
 -- The theorem.
-pub built-well-shaped : (f : Bytes) (g : ℕ) → accepted f g ≡ true → wellShaped (oracle f g) ≡ true
+pub built-well-shaped : (f : Bytes) (dv : Division) → accepted f dv ≡ true → wellShaped (oracle f dv) ≡ true
 unfolding wellShaped
-built-well-shaped f g h = rw (no-rule f g (all-passed f g h))
+built-well-shaped f dv h = rw (no-rule f dv (all-passed f dv h))

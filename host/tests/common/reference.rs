@@ -17,9 +17,26 @@ const OUTER: i64 = 4;
 pub const WORDS: usize = 8;
 /// A block has so many rows and columns.
 pub const SIDE: usize = 12;
-/// The entries of a network and of an oracle.
+/// The editions, and the entries of a network and of an oracle.
+const NETWORK_EDITION: u8 = 1;
+const ORACLE_EDITION: u8 = 1;
 const NETWORK: usize = 3;
 const ORACLE: usize = 7;
+
+/// Sizes in bytes: a place, a road, a 16-bit number, the grid body; in body 6 a start, a list's count and an entry; a value of bodies 6 and 7.
+const PLACE: usize = 8;
+const ROAD: usize = 8;
+const NUMBER: usize = 2;
+const GRID: usize = 2;
+const START: usize = 4;
+const COUNT: usize = 2;
+const VALUE: usize = 4;
+const ENTRY: usize = NUMBER + VALUE;
+
+/// The edition and the entry count, then 9 bytes an entry: where entry k stands, and behind the last where body 1 begins.
+const fn entry_at(k: usize) -> usize {
+    2 + 9 * k
+}
 
 // ---- Bytes ----
 
@@ -47,7 +64,7 @@ pub fn bytes_32(number: usize) -> [u8; 4] {
 }
 
 fn numbers_16(b: &[u8]) -> Vec<u32> {
-    (0..b.len() / 2).map(|i| number_16(b, 2 * i)).collect()
+    b.chunks_exact(NUMBER).map(|c| number_16(c, 0)).collect()
 }
 
 fn rising(numbers: &[u32]) -> bool {
@@ -56,8 +73,9 @@ fn rising(numbers: &[u32]) -> bool {
 
 /// The file of these bodies: edition, number of entries, entries, and the bodies one after another.
 pub fn file(bodies: &[Vec<u8>]) -> Vec<u8> {
-    let mut bytes = vec![1, bodies.len() as u8];
-    let mut offset = 2 + 9 * bodies.len();
+    let edition = if bodies.len() == NETWORK { NETWORK_EDITION } else { ORACLE_EDITION };
+    let mut bytes = vec![edition, bodies.len() as u8];
+    let mut offset = entry_at(bodies.len());
     for (k, body) in bodies.iter().enumerate() {
         bytes.push(k as u8 + 1);
         bytes.extend(bytes_32(offset));
@@ -70,7 +88,7 @@ pub fn file(bodies: &[Vec<u8>]) -> Vec<u8> {
 
 /// Where body `kind` (from 1) of a file begins and ends. The file breaks neither rule 1 nor rule 2.
 pub fn body_ends(f: &[u8], kind: usize) -> (usize, usize) {
-    let entry = 2 + 9 * (kind - 1);
+    let entry = entry_at(kind - 1);
     let (offset, length) = (number_32(f, entry + 1) as usize, number_32(f, entry + 5) as usize);
     (offset, offset + length)
 }
@@ -83,14 +101,15 @@ pub fn body(f: &[u8], kind: usize) -> &[u8] {
 // ---- Rules 1 to 11. Each predicate may count on the rules before it. ----
 
 fn breaks_1(f: &[u8], entries: usize) -> bool {
-    f.len() < 2 || f[0] != 1 || f[1] as usize != entries || f.len() < 2 + 9 * entries
+    let edition = if entries == NETWORK { NETWORK_EDITION } else { ORACLE_EDITION };
+    f.len() < 2 || f[0] != edition || f[1] as usize != entries || f.len() < entry_at(entries)
 }
 
 fn breaks_2(f: &[u8], entries: usize) -> bool {
     // 64 bits, so that no sum of lengths comes round to the file's length.
-    let mut next = 2 + 9 * entries as u64;
+    let mut next = entry_at(entries) as u64;
     for k in 0..entries {
-        let entry = &f[2 + 9 * k..2 + 9 * k + 9];
+        let entry = &f[entry_at(k)..entry_at(k + 1)];
         if entry[0] as usize != k + 1 || number_32(entry, 1) as u64 != next {
             return true;
         }
@@ -100,19 +119,19 @@ fn breaks_2(f: &[u8], entries: usize) -> bool {
 }
 
 fn breaks_3(places: &[u8]) -> bool {
-    !places.len().is_multiple_of(8) || !(1..=4096).contains(&(places.len() / 8))
+    !places.len().is_multiple_of(PLACE) || !(1..=4096).contains(&(places.len() / PLACE))
 }
 
 fn breaks_4(places: &[u8]) -> bool {
-    (0..places.len() / 4).any(|i| !(-1_000_000..=1_000_000).contains(&signed_32(places, 4 * i)))
+    places.chunks(PLACE / 2).any(|c| !(-1_000_000..=1_000_000).contains(&signed_32(c, 0)))
 }
 
 fn breaks_5(roads: &[u8]) -> bool {
-    !roads.len().is_multiple_of(8) || roads.len() / 8 > 16_384
+    !roads.len().is_multiple_of(ROAD) || roads.len() / ROAD > 16_384
 }
 
 fn breaks_6(roads: &[u8], n: usize) -> bool {
-    roads.chunks(8).any(|r| {
+    roads.chunks(ROAD).any(|r| {
         let (first, second, seconds) = (number_16(r, 0) as usize, number_16(r, 2) as usize, number_32(r, 4));
         first >= n || second >= n || first == second || !(1..=100_000).contains(&seconds)
     })
@@ -120,7 +139,7 @@ fn breaks_6(roads: &[u8], n: usize) -> bool {
 
 /// Rules 7 and 9: numbers of 16 bits that rise, each below `limit`.
 fn breaks_7_or_9(numbers: &[u8], limit: usize) -> bool {
-    !numbers.len().is_multiple_of(2) || !rising(&numbers_16(numbers)) || numbers_16(numbers).iter().any(|&k| k as usize >= limit)
+    !numbers.len().is_multiple_of(NUMBER) || !rising(&numbers_16(numbers)) || numbers_16(numbers).iter().any(|&k| k as usize >= limit)
 }
 
 fn breaks_8(g: u32) -> bool {
@@ -128,31 +147,39 @@ fn breaks_8(g: u32) -> bool {
 }
 
 fn breaks_8_as_body(grid: &[u8]) -> bool {
-    grid.len() != 2 || breaks_8(number_16(grid, 0))
+    grid.len() != GRID || breaks_8(number_16(grid, 0))
 }
 
 fn out_of_range(value: u32) -> bool {
     value > MOST_SECONDS && value != NO_WALK
 }
 
+/// The size of a list that stands at a position, its count included.
+fn list_size(b: &[u8], at: usize) -> usize {
+    COUNT + ENTRY * number_16(b, at) as usize
+}
+
+/// The entries of a list, its count included: index and value.
+fn list_entries(list: &[u8]) -> Vec<(u32, u32)> {
+    list[COUNT..].chunks(ENTRY).map(|e| (number_16(e, 0), number_32(e, NUMBER))).collect()
+}
+
 fn breaks_10(access: &[u8], n: usize, t: usize) -> bool {
-    if access.len() < 4 * n {
+    if access.len() < START * n {
         return true;
     }
     // The lists stand without gaps, so each start is where the list before has ended.
-    let mut next = 4 * n;
+    let mut next = START * n;
     for u in 0..n {
-        if number_32(access, 4 * u) as usize != next || access.len() < next + 2 {
+        if number_32(access, START * u) as usize != next || access.len() < next + COUNT {
             return true;
         }
-        let end = next + 2 + 6 * number_16(access, next) as usize;
+        let end = next + list_size(access, next);
         if access.len() < end {
             return true;
         }
-        let entries = &access[next + 2..end];
-        let indices: Vec<u32> = entries.chunks(6).map(|e| number_16(e, 0)).collect();
-        let mut values = entries.chunks(6).map(|e| number_32(e, 2));
-        if !rising(&indices) || indices.iter().any(|&i| i as usize >= t) || values.any(out_of_range) {
+        let (indices, values): (Vec<u32>, Vec<u32>) = list_entries(&access[next..end]).into_iter().unzip();
+        if !rising(&indices) || indices.iter().any(|&i| i as usize >= t) || values.into_iter().any(out_of_range) {
             return true;
         }
         next = end;
@@ -161,7 +188,7 @@ fn breaks_10(access: &[u8], n: usize, t: usize) -> bool {
 }
 
 fn breaks_11(table: &[u8], t: usize) -> bool {
-    table.len() != 4 * t * t || table.chunks(4).any(|v| out_of_range(number_32(v, 0)))
+    table.len() != VALUE * t * t || table.chunks(VALUE).any(|v| out_of_range(number_32(v, 0)))
 }
 
 /// The first of rules 1 to 7 that a file with so many entries breaks.
@@ -182,10 +209,10 @@ fn network_rule(f: &[u8], entries: usize) -> Option<u32> {
     if breaks_5(roads) {
         return Some(5);
     }
-    if breaks_6(roads, places.len() / 8) {
+    if breaks_6(roads, places.len() / PLACE) {
         return Some(6);
     }
-    if breaks_7_or_9(closed, roads.len() / 8) {
+    if breaks_7_or_9(closed, roads.len() / ROAD) {
         return Some(7);
     }
     None
@@ -196,8 +223,8 @@ fn oracle_rule(f: &[u8]) -> Option<u32> {
     if let Some(rule) = network_rule(f, ORACLE) {
         return Some(rule);
     }
-    let n = body(f, 1).len() / 8;
-    let t = body(f, 5).len() / 2;
+    let n = body(f, 1).len() / PLACE;
+    let t = body(f, 5).len() / NUMBER;
     if breaks_8_as_body(body(f, 4)) {
         return Some(8);
     }
@@ -232,8 +259,8 @@ pub struct Map {
 impl Map {
     fn of(f: &[u8]) -> Map {
         let closed = numbers_16(body(f, 3));
-        let places: Vec<(i64, i64)> = body(f, 1).chunks(8).map(|p| (signed_32(p, 0), signed_32(p, 4))).collect();
-        let roads = body(f, 2).chunks(8).enumerate().map(|(i, r)| Road {
+        let places: Vec<(i64, i64)> = body(f, 1).chunks(PLACE).map(|p| (signed_32(p, 0), signed_32(p, 4))).collect();
+        let roads = body(f, 2).chunks(ROAD).enumerate().map(|(i, r)| Road {
             ends: (number_16(r, 0) as usize, number_16(r, 2) as usize),
             seconds: number_32(r, 4) as u64,
             open: closed.binary_search(&(i as u32)).is_err(),
@@ -349,7 +376,7 @@ pub struct Oracle {
     pub transit: Vec<usize>,
 }
 
-fn value(d: Option<u64>) -> [u8; 4] {
+fn value(d: Option<u64>) -> [u8; VALUE] {
     bytes_32(d.unwrap_or(NO_WALK as u64) as usize)
 }
 
@@ -365,7 +392,7 @@ fn built(bodies: [&[u8]; 3], map: &Map, g: u32) -> Oracle {
     let (mut starts, mut lists) = (Vec::new(), Vec::new());
     for u in 0..n {
         let chosen = &access[&cells.0[u]];
-        starts.extend(bytes_32(4 * n + lists.len()));
+        starts.extend(bytes_32(START * n + lists.len()));
         lists.extend(bytes_16(chosen.len()));
         for &a in chosen {
             lists.extend(bytes_16(index(a)));
@@ -536,24 +563,24 @@ impl Questions {
     /// The access list of u as a part of the file.
     fn part(&self, u: usize) -> Part {
         let (from, _) = body_ends(&self.bytes, 6);
-        let start = from + number_32(&self.bytes, from + 4 * u) as usize;
-        Part { start, size: 2 + 6 * number_16(&self.bytes, start) as usize }
+        let start = from + number_32(&self.bytes, from + START * u) as usize;
+        Part { start, size: list_size(&self.bytes, start) }
     }
 
     /// The entries of the list of u: index and value.
     fn entries(&self, u: usize) -> Vec<(usize, u32)> {
         let part = self.part(u);
-        let entries = self.bytes[part.start..part.start + part.size][2..].chunks(6);
-        entries.map(|e| (number_16(e, 0) as usize, number_32(e, 2))).collect()
+        let entries = list_entries(&self.bytes[part.start..][..part.size]);
+        entries.into_iter().map(|(index, value)| (index as usize, value)).collect()
     }
 
     fn far_answer(&self, s: usize, t: usize) -> Answer {
         let (from, to, table) = (self.entries(s), self.entries(t), body(&self.bytes, 7));
-        let transit = body(&self.bytes, 5).len() / 2;
+        let transit = body(&self.bytes, 5).len() / NUMBER;
         let mut least: Option<u64> = None;
         for &(i, first) in &from {
             for &(j, last) in &to {
-                let parts = [first, number_32(table, 4 * (transit * i + j)), last];
+                let parts = [first, number_32(table, VALUE * (transit * i + j)), last];
                 if !parts.contains(&NO_WALK) {
                     let sum: u64 = parts.iter().map(|&p| p as u64).sum();
                     least = Some(least.map_or(sum, |known| known.min(sum)));
@@ -647,7 +674,7 @@ impl Questions {
             return Outcome::refused(14);
         }
         let places = shaped.map.way(s as usize, t as usize);
-        if room < 2 * places.len() {
+        if room < NUMBER * places.len() {
             return Outcome { result: Err(15), zeroed: needed, written: Vec::new() };
         }
         Outcome { result: Ok(places.len()), zeroed: needed, written: places.iter().flat_map(|&u| bytes_16(u)).collect() }

@@ -84,7 +84,8 @@ module _ {M : Type 1} (𝓤 : URA M) (H : Heap 𝓤) (A : Atoms 𝓤) (W : Given
 
 module _ {M : Type 1} (𝓤 : URA M) (H : Heap 𝓤) (A : Atoms 𝓤) (W : Given 𝓤 H A) (mem : Memory → SProp 𝓤) (run : Routine → Fun 𝓤) where
   block-record-walks : (C : Calls 𝓤 H) (Λ : Loops 𝓤 H) → Walks 𝓤 H A block-record.ended stayed (WpFn 𝓤 H C Λ code.function) (block-record.clauses 𝓤 H A mem run)
-  block-record-walks C Λ = walked 𝓤 H A block-record.ended stayed (block-record.clauses 𝓤 H A mem run) (WpFn 𝓤 H C Λ code.function) (λ κs. (uint-vals w32, (array-vals (array-vals (uint-vals w32)), tt)))
+  block-record-walks C Λ =
+      walked 𝓤 H A block-record.ended stayed (block-record.clauses 𝓤 H A mem run) (WpFn 𝓤 H C Λ code.function) (λ κs. (uint-vals w32, (array-vals (array-vals (uint-vals w32)), tt)))
       (λ κs. (uint-tells w32, (array-tells (Array u32 12) (array-vals (uint-vals w32)) (array-tells u32 (uint-vals w32) (uint-tells w32) 12) 12, tt)))
       (λ κs qs bounds a g are. via 𝓤 _ (fst∗ 𝓤 _ (emp 𝓤)) (walk 𝓤 H A W mem run (a .0) (a .1 .0) C Λ (are .0 .1) (are .1 .0)))
 
@@ -93,7 +94,9 @@ module _ {M : Type 1} (𝓤 : URA M) (H : Heap 𝓤) (A : Atoms 𝓤) (W : Given
 
 block-record-meets : {M : Type 1} (𝓤 : URA M) (H : Heap 𝓤) (A : Atoms 𝓤) → Given 𝓤 H A → (mem : Memory → SProp 𝓤) (run : Routine → Fun 𝓤) (𝓣 : Tables 𝓤 H)
     → Meets 𝓤 H A block-record.signature (WpFn 𝓤 H (𝓣 .C) (𝓣 .Λ) code.function) (block-record.spec 𝓤 H A mem run)
-block-record-meets 𝓤 H A W mem run 𝓣 = walk-meets 𝓤 H A block-record.ended stayed W (goes 𝓤 H A W mem run) (block-record.clauses 𝓤 H A mem run) (WpFn 𝓤 H (𝓣 .C) (𝓣 .Λ) code.function) (WpFn-mono 𝓤 H (W .laws) 𝓣 code.function) (block-record-walks 𝓤 H A W mem run (𝓣 .C) (𝓣 .Λ))
+block-record-meets 𝓤 H A W mem run 𝓣 =
+    walk-meets 𝓤 H A block-record.ended stayed W (goes 𝓤 H A W mem run) (block-record.clauses 𝓤 H A mem run) (WpFn 𝓤 H (𝓣 .C) (𝓣 .Λ) code.function)
+      (WpFn-mono 𝓤 H (W .laws) 𝓣 code.function) (block-record-walks 𝓤 H A W mem run (𝓣 .C) (𝓣 .Λ))
 
 pub block-record-spec : {M : Type 1} → stated.statement M
 unfolding code.routine tablesOf

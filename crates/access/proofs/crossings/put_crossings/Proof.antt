@@ -6,41 +6,40 @@ use mathlib.Core.Path.{_≡_, refl, sym, ap, _∙_}
 use borrow.Author.Needs.{needs}
 use lib.ListN.{length}
 use Rattle.model.specs.Network.{nodeCount}
-use Rattle.grid.specs.Stored.{modelCell}
-use Rattle.grid.proofs.Reached.{bounded}
-use Rattle.layout.proofs.Windows.{only-then}
-use Rattle.layout.proofs.Indexed.{roads-only}
 use Rattle.access.specs.Crossed.{Put}
 use Rattle.access.proofs.Squares.{Inside, inside-first, inside-next, outside-next, crossings-put}
 use Rattle.access.proofs.crossings.put_crossings.Statement.{statement}
 use Rattle.access.proofs.crossings.put_crossings.Tie as tie
+use Rattle.words.proofs.Stays.{only-then}
+use Rattle.index.proofs.Laid.{roads-only}
 
 abbrev Inv-loop : tie.InvT-loop
-Inv-loop nodes edges closed r n k work₀ square v₀ work v = (length work ≡ length work₀) × Put nodes edges closed square (Inside nodes edges closed square v) n k work₀ work
+Inv-loop nodes edges closed square n k work₀ v₀ work v = (length work ≡ length work₀) × Put nodes edges closed square (Inside nodes edges closed square v) n k work₀ work
 
 abbrev μ-loop : tie.MeasureT-loop
-μ-loop nodes edges closed r n k work₀ square v₀ work v = n - v
-
-square-requires : tie.Need-square-requires Inv-loop μ-loop
-square-requires c κs = bounded (c .before .before .before .before .pre .0 .0 .over)
+μ-loop nodes edges closed square n k work₀ v₀ work v = n - v
 
 clear-requires : tie.Need-clear-requires Inv-loop μ-loop
-clear-requires c κs = omega (arith, c .before .before .before .before .before .before .pre .0 .3, c .before .before .before .before .before .before .pre .0 .4, c .before .before .before .before .before .before .pre .0 .5)
+clear-requires c κs = let p = c .before .before .before .before .before .pre .0 in omega (arith, p .2, p .3, p .4)
 
 loop-holds : tie.Need-loop-holds Inv-loop μ-loop
 loop-holds c = (refl, inside-first _ _ _ _ _ _ _)
 
 has-requires : tie.Need-has-requires Inv-loop μ-loop
 unfolding nodeCount
-has-requires c κs = omega (arith, c .before .before .before .before .before .before .before .before .before .before .before .pre .0 .1)
+has-requires c κs = omega (arith, c .before .before .before .before .before .before .before .before .before .before .pre .0 .0)
 
 put-crossings-at-requires : tie.Need-put-crossings-at-requires Inv-loop μ-loop
 put-crossings-at-requires c κs =
-    let a = c .before .before .before .before .before .before .before .before .before .before .before .before .before .before .args in
-    let p = c .before .before .before .before .before .before .before .before .before .before .before .before .before .before .pre in
-    let l = c .before .before .before .before .loop in (
-      (p .0 .1, p .0 .2, omega (arith, l .inv .0, c .before .before .before .before .before .before .before .clear .kept .0, p .0 .3), search needs, p .0 .5),
-      roads-only (a .edges .now) (a .closed .now) (a .n) (a .work .now) (l .work) _ _ (p .0 .5) (only-then _ _ (a .work .now) _ (l .work) (c .before .before .before .before .before .before .before .clear .ensures .1) (l .inv .1 .others)) (p .1),
+    let s = c .before .before .before .before .before .before .before .before .before .before .before .before .before in
+    let a = s .args in
+    let p = s .pre in
+    let l = c .before .before .before .before .loop in
+    let cleared = c .before .before .before .before .before .before .before .clear in
+    (
+      (p .0 .0, p .0 .1, omega (arith, l .inv .0, cleared .kept .0, p .0 .2), search needs, p .0 .4),
+      roads-only (a .edges .now) (a .closed .now) (a .n) (a .work .now) (l .work) _ _ (p .0 .4)
+        (only-then _ _ (a .work .now) _ (l .work) (cleared .ensures .1) (l .inv .1 .others)) (p .1),
     )
 
 add-v : tie.Need-add-v Inv-loop μ-loop
@@ -64,10 +63,15 @@ same-length c = search needs
 
 returns : tie.Need-returns Inv-loop μ-loop
 returns c =
-    let a = c .before .before .before .before .before .before .before .before .before .before .before .args in
-    let p = c .before .before .before .before .before .before .before .before .before .before .before .pre in
+    let s = c .before .before .before .before .before .before .before .before .before .before in
+    let a = s .args in
+    let p = s .pre .0 in
     let l = c .before .loop in
-    crossings-put (p .0 .0) (a .r) (modelCell (a .c)) _ (c .before .before .before .before .before .before .square .ensures) (a .n) (p .0 .1) (a .k) _ (c .before .before .before .before .clear .ensures .0) (l .v) (search needs) (l .work) (l .inv .1) (a .work .now) (c .before .before .before .before .clear .ensures .1)
+    let cleared = c .before .before .before .before .clear .ensures in
+    (
+      λ grid cell r ground q. crossings-put ground r cell _ q (a .n) (p .0) (a .k) _ (cleared .0) (l .v) (search needs) (l .work) (l .inv .1),
+      only-then _ _ (a .work .now) _ (l .work) (cleared .1) (l .inv .1 .others),
+    )
 
 pub put-crossings-spec : {M : Type 1} → statement M
 put-crossings-spec =
@@ -75,7 +79,6 @@ put-crossings-spec =
     (tie.spec
     Inv-loop
     μ-loop
-    square-requires
     clear-requires
     loop-holds
     has-requires

@@ -2,11 +2,11 @@
 use Prim.Native.Nat.{_-_}
 use native.Mathlib.Omega.{arith}
 use borrow.Author.Needs.{needs}
-use Rattle.layout.proofs.Indexed.{roads-only}
 use Rattle.access.proofs.Gathers.{Gathering, first, next, last, roads-gathering, wanted-left}
 use Rattle.arcs.specs.Arcs.{arcsIn}
 use Rattle.access.proofs.gather.gather.Statement.{statement}
 use Rattle.access.proofs.gather.gather.Tie as tie
+use Rattle.index.proofs.Laid.{roads-only}
 
 abbrev Inv-loop : tie.InvT-loop
 Inv-loop edges closed n work₀ left p₀ work p = Gathering (arcsIn edges closed) n work₀ p work
@@ -25,10 +25,14 @@ loop-holds c = first _ _ _ (c .before .before .before .before .clear .ensures .0
 
 gather-from-requires : tie.Need-gather-from-requires Inv-loop μ-loop
 gather-from-requires c κs =
-    let a = c .before .before .before .before .before .before .before .before .before .before .before .before .args in
-    let l = c .before .before .loop in (
-      (search needs, search needs, omega (arith, l .inv .size, c .before .before .before .before .before .before .before .clear .kept .0), wanted-left _ _ _ (l .p) (l .work) (l .inv) _ (c .before .before .before .count .ensures)),
-      roads-gathering _ _ _ (l .p) (l .work) (l .inv) (a .edges .now) (a .closed .now) (roads-only (a .edges .now) (a .closed .now) (a .n) (a .work .now) _ _ _ (omega arith) (c .before .before .before .before .before .before .before .clear .ensures .1) (c .before .before .before .before .before .before .before .before .before .before .before .before .pre .1)),
+    let s = c .before .before .before .before .before .before .before .before .before .before .before .before in
+    let clear = c .before .before .before .before .before .before .before .clear in
+    let a = s .args in
+    let l = c .before .before .loop in
+    (
+      (search needs, search needs, omega (arith, l .inv .size, clear .kept .0), wanted-left _ _ _ (l .p) (l .work) (l .inv) _ (c .before .before .before .count .ensures)),
+      roads-gathering _ _ _ (l .p) (l .work) (l .inv) (a .edges .now) (a .closed .now)
+        (roads-only (a .edges .now) (a .closed .now) (a .n) (a .work .now) _ _ _ (omega arith) (clear .ensures .1) (s .pre .1)),
     )
 
 add-p : tie.Need-add-p Inv-loop μ-loop

@@ -1,8 +1,9 @@
 -- `sets::count` meets its contract.
 use borrow.Author.Needs.{needs}
-use mathlib.Core.Path.{_∙_, ap}
-use Rattle.layout.proofs.Windows.{flags-part}
+use mathlib.Core.Path.{_∙_, ap, sym}
+use Rattle.words.proofs.Windows.{flags-part}
 use Rattle.crossing.specs.Sets.{ones}
+use Rattle.crossing.specs.SetLaws.{ones-members}
 use Rattle.access.proofs.sets.count.Statement.{statement}
 use Rattle.access.proofs.sets.count.Tie as tie
 
@@ -33,7 +34,8 @@ count-requires c κs = search needs
 returns : tie.Need-returns
 returns c =
     let a = c .before .before .before .before .before .args in
-    c .count .ensures ∙ ap ones (flags-part (a .n) (a .k) _ _ (a .work .now) (c .before .before .before .region-at .ensures) (c .before .before .set-words .ensures))
+    let part = flags-part (a .n) (a .k) _ _ (a .work .now) (c .before .before .before .region-at .ensures) (c .before .before .set-words .ensures) in
+    c .count .ensures .0 ∙ sym (ones-members (a .n) _) ∙ ap ones part
 
 pub count-spec : {M : Type 1} → statement M
 count-spec =

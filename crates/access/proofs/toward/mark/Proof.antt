@@ -1,11 +1,10 @@
 -- `toward::mark` meets its contract: the marks with v, or those that stand.
 use mathlib.Core.Path.{sym, _∙_}
 use borrow.Author.Needs.{needs}
-use Rattle.access.proofs.Fronts.{turn-due}
-use Rattle.layout.proofs.Windows.{only-same}
-use Rattle.marks.proofs.Views.{turn-not}
+use Rattle.marks.proofs.Views.{turn-due, turn-not}
 use Rattle.access.proofs.toward.mark.Statement.{statement}
 use Rattle.access.proofs.toward.mark.Tie as tie
+use Rattle.words.proofs.Stays.{only-same}
 
 is-due-requires : tie.Need-is-due-requires
 is-due-requires c κs = search needs
@@ -17,7 +16,9 @@ same-length : tie.Need-same-length
 same-length c = search needs
 
 returns : tie.Need-returns
-returns c = (c .before .before .put .ensures .0 ∙ turn-due _ _ _ _ _ (sym (c .before .before .before .before .if1 .taken) ∙ c .before .before .before .before .before .is-due .ensures), c .before .before .put .ensures .1)
+returns c =
+    (c .before .before .put .ensures .0 ∙ turn-due _ _ _ _ _ (sym (c .before .before .before .before .if1 .taken) ∙
+      c .before .before .before .before .before .is-due .ensures), c .before .before .put .ensures .1)
 
 same-length-2 : tie.Need-same-length-2
 same-length-2 c = search needs

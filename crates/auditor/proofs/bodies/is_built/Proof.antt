@@ -1,52 +1,82 @@
--- `bodies::is_built` meets its contract: the bodies are the built ones just when the oracle is.
-use native.Mathlib.Omega.{arith}
+-- `bodies::is_built` meets its contract.
 use mathlib.Core.Path.{_∙_}
-use borrow.Author.Needs.{needs}
+use native.Mathlib.Omega.{arith}
 use Rattle.auditor.proofs.BuiltBodies.{bodies-asked, bodies-told}
+use borrow.Author.Needs.{needs}
 use Rattle.auditor.proofs.bodies.is_built.Statement.{statement}
 use Rattle.auditor.proofs.bodies.is_built.Tie as tie
 
 grid-of-requires : tie.Need-grid-of-requires
 grid-of-requires c κs = search needs
 
-oracle-body-requires : tie.Need-oracle-body-requires
-oracle-body-requires c κs = search needs
+oracle-contents-requires : tie.Need-oracle-contents-requires
+oracle-contents-requires c κs = search needs
 
-oracle-body-requires-2 : tie.Need-oracle-body-requires-2
-oracle-body-requires-2 c κs = search needs
+body-requires : tie.Need-body-requires
+body-requires c κs = c .oracle-contents .ensures _ (omega arith)
 
-oracle-body-requires-3 : tie.Need-oracle-body-requires-3
-oracle-body-requires-3 c κs = search needs
+body-requires-2 : tie.Need-body-requires-2
+body-requires-2 c κs = c .before .oracle-contents .ensures _ (omega arith)
 
-oracle-body-requires-4 : tie.Need-oracle-body-requires-4
-oracle-body-requires-4 c κs = search needs
+body-requires-3 : tie.Need-body-requires-3
+body-requires-3 c κs = c .before .before .oracle-contents .ensures _ (omega arith)
 
-oracle-body-requires-5 : tie.Need-oracle-body-requires-5
-oracle-body-requires-5 c κs = search needs
+body-requires-4 : tie.Need-body-requires-4
+body-requires-4 c κs = c .before .before .before .oracle-contents .ensures _ (omega arith)
 
-oracle-body-requires-6 : tie.Need-oracle-body-requires-6
-oracle-body-requires-6 c κs = search needs
+body-requires-5 : tie.Need-body-requires-5
+body-requires-5 c κs = c .before .before .before .before .oracle-contents .ensures _ (omega arith)
+
+body-requires-6 : tie.Need-body-requires-6
+body-requires-6 c κs = c .before .before .before .before .before .oracle-contents .ensures _ (omega arith)
 
 same-bodies-requires : tie.Need-same-bodies-requires
-same-bodies-requires c κs = let a = c .before .before .before .before .before .before .before .before .before .before .args in let p = c .before .before .before .before .before .before .before .before .before .before .pre in bodies-asked (a .o .now) (p .0) (c .before .before .before .before .before .before .before .grid-of .result) (c .before .before .before .before .before .before .before .grid-of .ensures) _ _ _ (c .before .before .before .before .before .before .oracle-body .ensures) (c .before .before .before .before .before .oracle-body2 .ensures) (c .before .before .before .before .oracle-body3 .ensures) _ (c .before .before .oracle-body5 .ensures) (a .n) _ (p .1) (p .2)
+same-bodies-requires c κs =
+    let s = c .before .before .before .before .before .before .before .before .before .before .before in
+    let a = s .args in
+    let p = s .pre in
+    let grid = c .before .before .before .before .before .before .before .before .grid-of in
+    let body = c .before .before .before .before .before .before .body in
+    let body2 = c .before .before .before .before .before .body2 in
+    let body3 = c .before .before .before .before .body3 in
+    let body5 = c .before .before .body5 in
+    bodies-asked (a .o .now) (p .0) (grid .result) (grid .ensures) _ _ _ (body .ensures) (body2 .ensures) (body3 .ensures) _ (body5 .ensures) (a .n) _ (p .1) (p .2)
 
 same-length : tie.Need-same-length
 same-length c = search needs
 
 returns : tie.Need-returns
-returns c = let a = c .before .before .before .before .before .before .before .before .before .before .before .before .before .args in let p = c .before .before .before .before .before .before .before .before .before .before .before .before .before .pre in (c .before .before .same-bodies .ensures .0 ∙ bodies-told (a .o .now) (p .0) (c .before .before .before .before .before .before .before .before .before .before .grid-of .result) (c .before .before .before .before .before .before .before .before .before .before .grid-of .ensures) _ _ _ (c .before .before .before .before .before .before .before .before .before .oracle-body .ensures) (c .before .before .before .before .before .before .before .before .oracle-body2 .ensures) (c .before .before .before .before .before .before .before .oracle-body3 .ensures) _ (c .before .before .before .before .before .oracle-body5 .ensures) (λ i. omega (arith, c .before .before .before .before .before .before .before .before .before .before .before .before .shared-slice-known .given i)) _ _ (c .before .before .before .before .before .before .oracle-body4 .ensures) (c .before .before .before .before .oracle-body6 .ensures), c .before .before .same-bodies .ensures .1)
+returns c =
+    let s = c .before .before .before .before .before .before .before .before .before .before .before .before .before .before in
+    let a = s .args in
+    let p = s .pre in
+    let shared-slice-known = c .before .before .before .before .before .before .before .before .before .before .before .before .before .shared-slice-known in
+    let grid = c .before .before .before .before .before .before .before .before .before .before .before .grid-of in
+    let body = c .before .before .before .before .before .before .before .before .before .body in
+    let body2 = c .before .before .before .before .before .before .before .before .body2 in
+    let body3 = c .before .before .before .before .before .before .before .body3 in
+    let body4 = c .before .before .before .before .before .before .body4 in
+    let body5 = c .before .before .before .before .before .body5 in
+    let body6 = c .before .before .before .before .body6 in
+    let same-bodies = c .before .before .same-bodies in
+    let bytes = shared-slice-known .given in
+    let same = same-bodies .ensures in
+    let of-grid = bodies-told (a .o .now) (p .0) (grid .result) (grid .ensures) in
+    let told = of-grid _ _ _ (body .ensures) (body2 .ensures) (body3 .ensures) _ (body5 .ensures) (λ i. omega (arith, bytes i)) _ _ (body4 .ensures) (body6 .ensures) in
+    (same .0 ∙ told, same .1)
 
 pub is-built-spec : {M : Type 1} → statement M
 is-built-spec =
     tie.close
     (tie.spec
     grid-of-requires
-    oracle-body-requires
-    oracle-body-requires-2
-    oracle-body-requires-3
-    oracle-body-requires-4
-    oracle-body-requires-5
-    oracle-body-requires-6
+    oracle-contents-requires
+    body-requires
+    body-requires-2
+    body-requires-3
+    body-requires-4
+    body-requires-5
+    body-requires-6
     same-bodies-requires
     same-length
     returns)

@@ -2,8 +2,8 @@
 use borrow.Author.Needs.{needs}
 use mathlib.Core.Path.{sym, _∙_}
 use lib.Seq.{length-take-le}
-use Rattle.layout.specs.Regions.{own, transit}
-use Rattle.layout.proofs.Windows.{set-is}
+use Rattle.words.specs.Regions.{own, transit}
+use Rattle.words.proofs.Windows.{set-is}
 use Rattle.auditor.proofs.Shown.{list-asked, list-shown}
 use Rattle.auditor.proofs.lists.is_list.Statement.{statement}
 use Rattle.auditor.proofs.lists.is_list.Tie as tie
@@ -52,13 +52,20 @@ slice-aggregate-same-list c = let a = c .before .before .before .before .before 
 
 same-list-requires : tie.Need-same-list-requires
 same-list-requires c κs =
-    let a = c .before .before .before .before .before .before .before .before .args in
-    list-asked (a .n) (a .work .now) (search needs) (search needs) _ (set-is (a .n) transit _ _ (a .work .now) (c .before .before .before .region-at2 .ensures) (c .before .before .before .before .before .set-words .ensures)) _ (set-is (a .n) own _ _ (a .work .now) (c .before .before .before .before .region-at .ensures) (c .before .before .before .before .before .set-words .ensures)) (search needs) (c .before .before .before .before .before .before .before .before .pre .2)
+    let s = c .before .before .before .before .before .before .before .before in
+    let set-words = c .before .before .before .before .before .set-words in
+    let a = s .args in
+    list-asked (a .n) (a .work .now) (search needs) (search needs) _ (set-is (a .n) transit _ _ (a .work .now) (c .before .before .before .region-at2 .ensures)
+      (set-words .ensures)) _ (set-is (a .n) own _ _ (a .work .now) (c .before .before .before .before .region-at .ensures) (set-words .ensures))
+      (search needs) (s .pre .2)
 
 returns : tie.Need-returns
 returns c =
+    let set-words = c .before .before .before .before .before .before .set-words in
     let a = c .before .before .before .before .before .before .before .before .before .args in
-    c .same-list .ensures ∙ list-shown (a .n) (a .work .now) (search needs) (search needs) _ (set-is (a .n) transit _ _ (a .work .now) (c .before .before .before .before .region-at2 .ensures) (c .before .before .before .before .before .before .set-words .ensures)) _ (set-is (a .n) own _ _ (a .work .now) (c .before .before .before .before .before .region-at .ensures) (c .before .before .before .before .before .before .set-words .ensures)) (a .b .now)
+    c .same-list .ensures ∙ list-shown (a .n) (a .work .now) (search needs) (search needs) _
+      (set-is (a .n) transit _ _ (a .work .now) (c .before .before .before .before .region-at2 .ensures) (set-words .ensures)) _
+      (set-is (a .n) own _ _ (a .work .now) (c .before .before .before .before .before .region-at .ensures) (set-words .ensures)) (a .b .now)
 
 pub is-list-spec : {M : Type 1} → statement M
 is-list-spec =

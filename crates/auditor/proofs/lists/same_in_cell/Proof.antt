@@ -14,7 +14,8 @@ use Rattle.auditor.proofs.lists.same_in_cell.Statement.{statement}
 use Rattle.auditor.proofs.lists.same_in_cell.Tie as tie
 
 abbrev Inv-loop : tie.InvT-loop
-Inv-loop nodes edges closed grid access n u left work₀ square v₀ work v = Kept n work₀ work × (all (sameBeside nodes edges closed grid access u) (upTo n) ≡ all (sameBeside nodes edges closed grid access u) (rest v n))
+Inv-loop nodes edges closed grid access n u left work₀ square v₀ work v =
+    Kept n work₀ work × (all (sameBeside nodes edges closed grid access u) (upTo n) ≡ all (sameBeside nodes edges closed grid access u) (rest v n))
 
 abbrev μ-loop : tie.MeasureT-loop
 μ-loop nodes edges closed grid access n u left work₀ square v₀ work v = n - v
@@ -27,16 +28,25 @@ loop-holds c = (kept-same _ _, left-all _ _)
 
 same-beside-requires : tie.Need-same-beside-requires Inv-loop μ-loop
 same-beside-requires c κs =
-    let a = c .before .before .before .before .before .before .before .before .before .args in
-    let p = c .before .before .before .before .before .before .before .before .before .pre in
+    let s = c .before .before .before .before .before .before .before .before .before in
+    let a = s .args in
+    let p = s .pre in
     let l = c .before .before .loop in
-    ((p .0 .0, p .0 .1, p .0 .2, p .0 .3, c .before .loop-test .taken, omega (arith, l .inv .0 .size), p .0 .5, c .before .before .before .cell-square .ensures), ((rw (transit-behind (a .n) (a .work .now) (l .work) (l .inv .0 .behind)) (p .1 .0 .0), rw (own-behind (a .n) (a .work .now) (l .work) (l .inv .0 .behind)) (p .1 .0 .1)), (sought-later (a .n) (a .left) (a .work .now) (p .1 .1 .0) (l .work) (l .inv .0 .behind), roads-behind (a .n) (a .work .now) (l .work) (l .inv .0 .behind) (a .edges .now) (a .closed .now) (p .1 .1 .1))))
+    ((p .0 .0, p .0 .1, p .0 .2, p .0 .3, c .before .loop-test .taken, omega (arith, l .inv .0 .size), p .0 .5,
+      c .before .before .before .cell-square .ensures), ((rw (transit-behind (a .n) (a .work .now) (l .work) (l .inv .0 .behind)) (p .1 .0 .0),
+      rw (own-behind (a .n) (a .work .now) (l .work) (l .inv .0 .behind)) (p .1 .0 .1)),
+      (sought-later (a .n) (a .left) (a .work .now) (p .1 .1 .0) (l .work) (l .inv .0 .behind),
+      roads-behind (a .n) (a .work .now) (l .work) (l .inv .0 .behind) (a .edges .now) (a .closed .now) (p .1 .1 .1))))
 
 same-length : tie.Need-same-length Inv-loop μ-loop
 same-length c = omega (arith, c .before .before .before .before .before .before .loop .inv .0 .size)
 
 returns : tie.Need-returns Inv-loop μ-loop
-returns c = let l = c .before .before .before .before .before .before .loop in (sym (left-fails _ _ _ (l .inv .1) (c .before .before .before .before .before .loop-test .taken) (sym (c .before .before .before .same-beside .ensures .0) ∙ not-true _ (c .if1 .taken))), c .before .before .before .same-beside .ensures .1 ∙ l .inv .0 .behind)
+returns c =
+    let same-beside = c .before .before .before .same-beside in
+    let l = c .before .before .before .before .before .before .loop in
+    (sym (left-fails _ _ _ (l .inv .1) (c .before .before .before .before .before .loop-test .taken)
+      (sym (same-beside .ensures .0) ∙ not-true _ (c .if1 .taken))), same-beside .ensures .1 ∙ l .inv .0 .behind)
 
 add-v : tie.Need-add-v Inv-loop μ-loop
 add-v c = search needs
@@ -45,7 +55,11 @@ loop-less : tie.Need-loop-less Inv-loop μ-loop
 loop-less c = search needs
 
 loop-again : tie.Need-loop-again Inv-loop μ-loop
-loop-again c = let l = c .before .before .before .before .before .before .loop in (kept-then _ _ _ _ (l .inv .0) (search needs) (c .before .before .before .same-beside .ensures .1), left-goes _ _ _ (l .inv .1) (c .before .before .before .before .before .loop-test .taken) (sym (c .before .before .before .same-beside .ensures .0) ∙ not-false _ (c .if1 .left)))
+loop-again c =
+    let same-beside = c .before .before .before .same-beside in
+    let l = c .before .before .before .before .before .before .loop in
+    (kept-then _ _ _ _ (l .inv .0) (search needs) (same-beside .ensures .1),
+      left-goes _ _ _ (l .inv .1) (c .before .before .before .before .before .loop-test .taken) (sym (same-beside .ensures .0) ∙ not-false _ (c .if1 .left)))
 
 same-length-2 : tie.Need-same-length-2 Inv-loop μ-loop
 same-length-2 c = c .before .loop .inv .0 .size

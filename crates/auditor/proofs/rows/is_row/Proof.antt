@@ -2,8 +2,8 @@
 use borrow.Author.Needs.{needs}
 use mathlib.Core.Path.{sym, _∙_}
 use lib.Seq.{length-take-le}
-use Rattle.layout.specs.Regions.{transit}
-use Rattle.layout.proofs.Windows.{set-is}
+use Rattle.words.specs.Regions.{transit}
+use Rattle.words.proofs.Windows.{set-is}
 use Rattle.auditor.proofs.Shown.{has-transit, has-times, row-shown}
 use Rattle.auditor.proofs.rows.is_row.Statement.{statement}
 use Rattle.auditor.proofs.rows.is_row.Tie as tie
@@ -33,10 +33,18 @@ slice-aggregate-same-row : tie.Need-slice-aggregate-same-row
 slice-aggregate-same-row c = let a = c .before .before .before .before .before .before .args in sym (length-take-le (a .n) (a .work .now) (search needs))
 
 same-row-requires : tie.Need-same-row-requires
-same-row-requires c κs = let a = c .before .before .before .before .before .before .args in (has-transit (a .n) (a .work .now) (search needs) (search needs) _ (set-is (a .n) transit _ _ (a .work .now) (c .before .before .before .region-at .ensures) (c .before .before .set-words .ensures)), has-times (a .n) (a .work .now) (search needs))
+same-row-requires c κs =
+    let a = c .before .before .before .before .before .before .args in
+    (has-transit (a .n) (a .work .now) (search needs) (search needs) _
+      (set-is (a .n) transit _ _ (a .work .now) (c .before .before .before .region-at .ensures) (c .before .before .set-words .ensures)),
+      has-times (a .n) (a .work .now) (search needs))
 
 returns : tie.Need-returns
-returns c = let a = c .before .before .before .before .before .before .before .args in c .same-row .ensures ∙ row-shown (a .n) (a .work .now) (search needs) (search needs) _ (set-is (a .n) transit _ _ (a .work .now) (c .before .before .before .before .region-at .ensures) (c .before .before .before .set-words .ensures)) (a .b .now)
+returns c =
+    let a = c .before .before .before .before .before .before .before .args in
+    c .same-row .ensures ∙ row-shown (a .n) (a .work .now) (search needs) (search needs) _
+      (set-is (a .n) transit _ _ (a .work .now) (c .before .before .before .before .region-at .ensures) (c .before .before .before .set-words .ensures))
+      (a .b .now)
 
 pub is-row-spec : {M : Type 1} → statement M
 is-row-spec =

@@ -27,10 +27,16 @@ is-row-requires : tie.Need-is-row-requires
 is-row-requires c κs = search needs
 
 returns-2 : tie.Need-returns-2
-returns-2 c = let a = c .before .before .before .before .before .before .args in row-same (a .table .now) (a .at) (a .size) _ _ (c .before .before .before .before .before .before .pre .1) (sym (c .before .is-row .ensures) ∙ c .if2 .taken)
+returns-2 c =
+    let s = c .before .before .before .before .before .before in
+    let a = s .args in
+    row-same (a .table .now) (a .at) (a .size) _ _ (s .pre .1) (sym (c .before .is-row .ensures) ∙ c .if2 .taken)
 
 returns-3 : tie.Need-returns-3
-returns-3 c = let a = c .before .before .before .before .before .before .args in row-other (a .table .now) (a .at) (a .size) _ _ (c .before .before .before .before .before .before .pre .1) (sym (c .before .is-row .ensures) ∙ c .if2 .left)
+returns-3 c =
+    let s = c .before .before .before .before .before .before in
+    let a = s .args in
+    row-other (a .table .now) (a .at) (a .size) _ _ (s .pre .1) (sym (c .before .is-row .ensures) ∙ c .if2 .left)
 
 pub row-at-spec : {M : Type 1} → statement M
 row-at-spec =

@@ -19,7 +19,13 @@ loop-holds : tie.Need-loop-holds Inv-loop μ-loop
 loop-holds c = rows-first _ _ _ _
 
 same-from-requires : tie.Need-same-from-requires Inv-loop μ-loop
-same-from-requires c κs = let a = c .before .before .before .before .before .before .before .args in let l = c .before .before .loop in ((search needs, search needs, omega (arith, l .inv .kept .size), size-behind (a .n) (a .work .now) (l .work) (l .inv .kept .behind) (a .size) (c .before .before .before .before .before .before .before .pre .0 .2), l .inv .left .within), roads-behind (a .n) (a .work .now) (l .work) (l .inv .kept .behind) (a .edges .now) (a .closed .now) (c .before .before .before .before .before .before .before .pre .1))
+same-from-requires c κs =
+    let s = c .before .before .before .before .before .before .before in
+    let p = s .pre in
+    let a = s .args in
+    let l = c .before .before .loop in
+    ((search needs, search needs, omega (arith, l .inv .kept .size), size-behind (a .n) (a .work .now) (l .work) (l .inv .kept .behind) (a .size) (p .0 .2),
+      l .inv .left .within), roads-behind (a .n) (a .work .now) (l .work) (l .inv .kept .behind) (a .edges .now) (a .closed .now) (p .1))
 
 enum-known-next : tie.Need-enum-known-next Inv-loop μ-loop
 enum-known-next c = search needs
@@ -31,7 +37,11 @@ same-length : tie.Need-same-length Inv-loop μ-loop
 same-length c = omega (arith, c .before .before .before .before .before .before .before .loop .inv .kept .size)
 
 returns : tie.Need-returns Inv-loop μ-loop
-returns c = let l = c .before .before .before .before .before .before .before .loop in (sym (rows-differ _ _ _ _ _ _ _ (l .inv) (c .before .before .before .before .before .before .loop-test .taken) _ (c .before .before .before .before .same-from .ensures .0) (c .enum-told .given .1)), c .before .before .before .before .same-from .ensures .1 ∙ l .inv .kept .behind)
+returns c =
+    let same-from = c .before .before .before .before .same-from in
+    let l = c .before .before .before .before .before .before .before .loop in
+    (sym (rows-differ _ _ _ _ _ _ _ (l .inv) (c .before .before .before .before .before .before .loop-test .taken) _ (same-from .ensures .0)
+      (c .enum-told .given .1)), same-from .ensures .1 ∙ l .inv .kept .behind)
 
 add-v : tie.Need-add-v Inv-loop μ-loop
 add-v c = search needs
@@ -40,7 +50,11 @@ loop-less : tie.Need-loop-less Inv-loop μ-loop
 loop-less c = search needs
 
 loop-again : tie.Need-loop-again Inv-loop μ-loop
-loop-again c = let l = c .before .before .before .before .before .before .before .before .loop in rows-next _ _ _ _ _ _ _ (l .inv) (c .before .before .before .before .before .before .before .loop-test .taken) _ (c .before .before .before .before .before .same-from .ensures .0) _ (c .before .next .given .1) _ (search needs) (c .before .before .before .before .before .same-from .ensures .1)
+loop-again c =
+    let same-from = c .before .before .before .before .before .same-from in
+    let l = c .before .before .before .before .before .before .before .before .loop in
+    rows-next _ _ _ _ _ _ _ (l .inv) (c .before .before .before .before .before .before .before .loop-test .taken) _ (same-from .ensures .0) _
+      (c .before .next .given .1) _ (search needs) (same-from .ensures .1)
 
 same-length-2 : tie.Need-same-length-2 Inv-loop μ-loop
 same-length-2 c = c .before .loop .inv .kept .size

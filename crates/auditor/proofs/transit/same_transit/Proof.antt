@@ -1,8 +1,8 @@
 -- `transit::same_transit` meets its contract: the part is the region.
 use borrow.Author.Needs.{needs}
 use mathlib.Core.Path.{_∙_}
-use Rattle.layout.specs.Regions.{transit}
-use Rattle.layout.proofs.Windows.{set-is}
+use Rattle.words.specs.Regions.{transit}
+use Rattle.words.proofs.Windows.{set-is}
 use Rattle.auditor.proofs.Shown.{numbers-shown}
 use Rattle.auditor.proofs.transit.same_transit.Statement.{statement}
 use Rattle.auditor.proofs.transit.same_transit.Tie as tie
@@ -32,7 +32,10 @@ same-numbers-requires : tie.Need-same-numbers-requires
 same-numbers-requires c κs = search needs
 
 returns : tie.Need-returns
-returns c = let a = c .before .before .before .before .before .before .args in c .same-numbers .ensures ∙ numbers-shown (a .n) (a .work .now) (search needs) (search needs) _ (set-is (a .n) transit _ _ (a .work .now) (c .before .before .before .region-at .ensures) (c .before .before .set-words .ensures)) (a .b .now)
+returns c =
+    let a = c .before .before .before .before .before .before .args in
+    c .same-numbers .ensures ∙ numbers-shown (a .n) (a .work .now) (search needs) (search needs) _
+      (set-is (a .n) transit _ _ (a .work .now) (c .before .before .before .region-at .ensures) (c .before .before .set-words .ensures)) (a .b .now)
 
 pub same-transit-spec : {M : Type 1} → statement M
 same-transit-spec =

@@ -1,6 +1,9 @@
+-- `names::listed_refusal` meets its contract.
+use Rattle.block.specs.Block.{sidesRules}
+use Rattle.checks.specs.RuleLists.{namedRules}
+use Rattle.checks.proofs.RulesKept.{shaped}
+use Rattle.checks.proofs.CheckOrder.{sooner}
 -- `names::listed_refusal` meets its contract: a broken rule of the shape stands first.
-use Rattle.block.proofs.Named.{shape-first}
-use Rattle.query.proofs.Kept.{shaped}
 use mathlib.Core.Path.{sym, _∙_}
 use borrow.Author.Needs.{needs}
 use Rattle.block.proofs.names.listed_refusal.Statement.{statement}
@@ -10,7 +13,8 @@ shape-refusal-requires : tie.Need-shape-refusal-requires
 shape-refusal-requires c κs = search needs
 
 returns : tie.Need-returns
-returns c = c .before .shape-refusal .ensures ∙ sym (shape-first _ _ _ (λ e. c .if1 .taken (c .before .shape-refusal .ensures ∙ e)))
+unfolding sidesRules namedRules
+returns c = sooner _ _ (sooner _ _ (c .before .shape-refusal .ensures) _ (c .if1 .taken)) _ (c .if1 .taken)
 
 sides-refusal-requires : tie.Need-sides-refusal-requires
 sides-refusal-requires c κs = shaped _ (sym (c .before .shape-refusal .ensures) ∙ c .if1 .left)

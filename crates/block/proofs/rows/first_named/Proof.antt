@@ -1,5 +1,5 @@
 -- `rows::first_named` meets its contract.
-use Rattle.block.proofs.Scan.{stands-before}
+use Rattle.block.proofs.FirstNamed.{stands-before}
 use native.Mathlib.Omega.{arith}
 use Prim.Native.Nat.{_-_, _≤_}
 use borrow.Author.Needs.{needs}
@@ -31,10 +31,16 @@ add-k : tie.Need-add-k Inv-loop μ-loop
 add-k c = search needs
 
 loop-less : tie.Need-loop-less Inv-loop μ-loop
-loop-less c = let a = c .before .before .before .before .args in let l = c .before .before .before .loop in omega (arith, stands-before (a .names .now) (l .k) (a .i) (l .inv) (c .if1 .taken))
+loop-less c =
+    let a = c .before .before .before .before .args in
+    let l = c .before .before .before .loop in
+    omega (arith, stands-before (a .names .now) (l .k) (a .i) (l .inv) (c .if1 .taken))
 
 loop-again : tie.Need-loop-again Inv-loop μ-loop
-loop-again c = let a = c .before .before .before .before .args in let l = c .before .before .before .loop in omega (arith, stands-before (a .names .now) (l .k) (a .i) (l .inv) (c .if1 .taken))
+loop-again c =
+    let a = c .before .before .before .before .args in
+    let l = c .before .before .before .loop in
+    omega (arith, stands-before (a .names .now) (l .k) (a .i) (l .inv) (c .if1 .taken))
 
 returns : tie.Need-returns Inv-loop μ-loop
 returns c = (c .before .before .before .loop .inv, c .if1 .left)

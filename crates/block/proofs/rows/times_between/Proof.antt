@@ -1,22 +1,25 @@
 -- `rows::times_between` meets its contract: start by start, and the oracle stays opened.
+use Rattle.words.specs.Frames.{KeptFrom}
 use Rattle.block.proofs.Fill.{no-rows}
 use Rattle.block.specs.Block.{blockOf}
 use Rattle.model.specs.Contents.{nodeBody}
 use Rattle.model.specs.Network.{nodeCount}
-use Rattle.query.specs.Opened.{gridAt}
-use Rattle.query.proofs.OpenLaws.{opened-kept}
+use Rattle.opened.proofs.OpenLaws.{opened-kept}
 use native.Mathlib.Omega.{arith}
 use lib.Seq.{take-all}
-use lib.ListN.{length, drop, take}
+use lib.ListN.{length, take}
 use mathlib.Core.List.{List}
 use mathlib.Core.Path.{_≡_, refl, _∙_, ap}
 use Prim.Native.Nat.{ℕ, _-_, _≤_}
 use borrow.Author.Needs.{needs}
 use Rattle.block.proofs.rows.times_between.Statement.{statement}
 use Rattle.block.proofs.rows.times_between.Tie as tie
+use Rattle.words.specs.Regions.{gridAt}
 
 abbrev Inv-loop : tie.InvT-loop
-Inv-loop o starts ends work₀ grid times₀ i₀ work times i = (i ≤ length starts) × (times ≡ blockOf o (take i starts) ends) × (length work ≡ length work₀) × (drop (gridAt (nodeCount (nodeBody o))) work ≡ drop (gridAt (nodeCount (nodeBody o))) work₀)
+Inv-loop o starts ends work₀ grid times₀ i₀ work times i =
+    (i ≤ length starts) × (times ≡ blockOf o (take i starts) ends) × (length work ≡ length work₀) ×
+      (KeptFrom (gridAt (nodeCount (nodeBody o))) work₀ work)
 
 abbrev μ-loop : tie.MeasureT-loop
 μ-loop o starts ends work₀ grid times₀ i₀ work times i = length starts - i
@@ -31,7 +34,8 @@ with-start-requires : tie.Need-with-start-requires Inv-loop μ-loop
 with-start-requires c κs =
     let p = c .before .before .before .before .before .before .before .before .before .pre in
     let l = c .before .before .loop in
-    ((opened-kept _ _ _ (p .0 .0) (l .inv .2) (l .inv .3), c .before .before .before .opened-grid .ensures, p .0 .1, p .0 .2), (p .1 .0, p .1 .1, c .before .loop-test .taken, l .inv .1))
+    ((opened-kept _ _ _ (p .0 .0) (l .inv .2) (l .inv .3), c .before .before .before .opened-grid .ensures, p .0 .1, p .0 .2),
+      (p .1 .0, p .1 .1, c .before .loop-test .taken, l .inv .1))
 
 add-i : tie.Need-add-i Inv-loop μ-loop
 add-i c = search needs
@@ -40,7 +44,8 @@ loop-less : tie.Need-loop-less Inv-loop μ-loop
 loop-less c = search needs
 
 loop-again : tie.Need-loop-again Inv-loop μ-loop
-loop-again c = (omega arith, c .before .before .with-start .ensures .0, search needs, c .before .before .with-start .ensures .1 ∙ c .before .before .before .before .before .loop .inv .3)
+loop-again c =
+    (omega arith, c .before .before .with-start .ensures .0, search needs, c .before .before .with-start .ensures .1 ∙ c .before .before .before .before .before .loop .inv .3)
 
 same-length : tie.Need-same-length Inv-loop μ-loop
 same-length c = search needs

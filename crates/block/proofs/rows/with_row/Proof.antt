@@ -1,4 +1,5 @@
 -- `rows::with_row` meets its contract: the search before the squares.
+use Rattle.opened.proofs.OpenLaws.{opened-kept}
 use borrow.Author.Needs.{needs}
 use Rattle.block.proofs.rows.with_row.Statement.{statement}
 use Rattle.block.proofs.rows.with_row.Tie as tie
@@ -7,7 +8,10 @@ search-near-requires : tie.Need-search-near-requires
 search-near-requires c κs = let p = c .before .before .before .before .pre in (p .0 .0, p .0 .1, p .0 .2, p .0 .3)
 
 with-squares-requires : tie.Need-with-squares-requires
-with-squares-requires c κs = let p = c .before .before .before .before .before .before .before .before .pre in ((p .0 .0 .shape, p .0 .1, p .0 .2, p .0 .3, p .0 .4), (c .before .before .before .search-near .ensures .0, p .1 .0, p .1 .1))
+with-squares-requires c κs =
+    let p = c .before .before .before .before .before .before .before .before .pre in
+    let r = c .before .before .before .search-near .ensures in
+    ((opened-kept _ _ _ (p .0 .0) (search needs) (r .1), p .0 .2, p .0 .3, p .0 .4), (r .0, p .1 .0, p .1 .1))
 
 same-length : tie.Need-same-length
 same-length c = search needs

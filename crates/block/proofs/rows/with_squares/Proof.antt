@@ -1,6 +1,5 @@
 -- `rows::with_squares` meets its contract.
-use Rattle.block.specs.Kept.{named-there}
-use Rattle.block.proofs.Squares.{some-local}
+use Rattle.checks.proofs.NameLists.{named-there}
 use Rattle.block.proofs.Fill.{row-store, row-is, row-more, no-squares}
 use Rattle.block.specs.Block.{rowOf}
 use native.Mathlib.Omega.{arith}
@@ -14,10 +13,10 @@ use Rattle.block.proofs.rows.with_squares.Statement.{statement}
 use Rattle.block.proofs.rows.with_squares.Tie as tie
 
 abbrev Inv-loop : tie.InvT-loop
-Inv-loop i o grid s ends work filled₀ j₀ filled j = (j ≤ length ends) × (length filled₀ ≡ 12) × (filled ≡ set filled₀ i (rowOf o (take j ends) s))
+Inv-loop i o s ends work filled₀ j₀ filled j = (j ≤ length ends) × (length filled₀ ≡ 12) × (filled ≡ set filled₀ i (rowOf o (take j ends) s))
 
 abbrev μ-loop : tie.MeasureT-loop
-μ-loop i o grid s ends work filled₀ j₀ filled j = length ends - j
+μ-loop i o s ends work filled₀ j₀ filled j = length ends - j
 
 loop-holds : tie.Need-loop-holds Inv-loop μ-loop
 loop-holds c = let a = c .before .before .before .args in (omega arith, search needs, row-is _ _ _ (c .before .before .before .pre .1 .2 ∙ no-squares (a .o .now) (a .s)))
@@ -34,7 +33,8 @@ cast-square c = omega (arith, c .shared-slice-known4 .given (c .before .before .
 square-requires : tie.Need-square-requires Inv-loop μ-loop
 square-requires c κs =
     let p = c .before .before .before .before .before .before .pre in
-    ((p .0 .0, p .0 .1, p .0 .2, named-there _ _ _ (c .before .loop-test .taken) (p .0 .3)), λ e. p .1 .0 (some-local _ _ _ (c .before .loop-test .taken) _ e))
+    let j = c .before .loop-test .taken in
+    (p .0 .0, p .0 .1, named-there _ _ _ j (p .0 .2), p .1 .0 _ j)
 
 mul-filled : tie.Need-mul-filled Inv-loop μ-loop
 mul-filled c = search needs
@@ -56,14 +56,16 @@ loop-less c = search needs
 
 loop-again : tie.Need-loop-again Inv-loop μ-loop
 loop-again c =
-    let a = c .before .before .before .before .before .before .before .args in
-    let p = c .before .before .before .before .before .before .before .pre in
-    let l = c .before .before .before .loop in (
+    let start = c .before .before .before .before .before .before .before in
+    let a = start .args in
+    let p = start .pre in
+    let l = c .before .before .before .loop in
+    (
       omega arith,
       l .inv .1,
       rw (l .inv .2, c .square .ensures)
           (row-store (a .times) (a .i) (l .j) _ _ (omega (arith, l .inv .1, p .1 .1))
-          ∙ ap (λ (r : List ℕ). set (a .times) (a .i) r) (row-more (a .o .now) (a .s) (a .ends .now) (l .j) (c .before .before .loop-test .taken) (omega (arith, p .0 .4)))),
+          ∙ ap (λ (r : List ℕ). set (a .times) (a .i) r) (row-more (a .o .now) (a .s) (a .ends .now) (l .j) (c .before .before .loop-test .taken) (omega (arith, p .0 .3)))),
     )
 
 returns : tie.Need-returns Inv-loop μ-loop

@@ -2,7 +2,7 @@
 use lib.ListN.{getD, take, set}
 use Prim.Native.Nat.{ℕ}
 use Rattle.block.proofs.Fill.{block-more, row-unused, row-before}
-use Rattle.block.specs.Kept.{named-there}
+use Rattle.checks.proofs.NameLists.{named-there}
 use Rattle.block.specs.Block.{rowOf, blockOf}
 use native.Mathlib.Omega.{arith}
 use mathlib.Core.List.{List, []}
@@ -19,9 +19,13 @@ with-row-again-requires c κs = let p = c .before .before .before .before .befor
 
 returns : tie.Need-returns
 returns c =
-    let a = c .before .before .before .before .before .before .before .args in
-    let p = c .before .before .before .before .before .before .before .pre in
-    (c .with-row-again .ensures ∙ rw (p .1 .3) (ap (set (blockOf (a .o .now) (take (a .i) (a .starts .now)) (a .ends .now)) (a .i)) (row-before (a .o .now) (a .starts .now) (a .ends .now) (a .i) (p .1 .2) (c .before .before .first-named .result) (c .before .if1 .taken) ∙ ap (rowOf (a .o .now) (a .ends .now)) (c .before .before .first-named .ensures .1)) ∙ block-more (a .o .now) (a .starts .now) (a .ends .now) (a .i) (p .1 .2) (omega (arith, p .1 .0))), refl)
+    let s = c .before .before .before .before .before .before .before in
+    let a = s .args in
+    let p = s .pre in
+    (c .with-row-again .ensures ∙ rw (p .1 .3) (ap (set (blockOf (a .o .now) (take (a .i) (a .starts .now)) (a .ends .now)) (a .i))
+      (row-before (a .o .now) (a .starts .now) (a .ends .now) (a .i) (p .1 .2) (c .before .before .first-named .result) (c .before .if1 .taken) ∙
+      ap (rowOf (a .o .now) (a .ends .now)) (c .before .before .first-named .ensures .1)) ∙ block-more (a .o .now) (a .starts .now) (a .ends .now) (a .i)
+      (p .1 .2) (omega (arith, p .1 .0))), refl)
 
 mul-with-row : tie.Need-mul-with-row
 mul-with-row c = search needs
@@ -34,18 +38,23 @@ cast-with-row c = omega (arith, c .shared-slice-known4 .given (c .before .before
 
 with-row-requires : tie.Need-with-row-requires
 with-row-requires c κs =
-    let a = c .before .before .before .before .before .before .before .before .args in
-    let p = c .before .before .before .before .before .before .before .before .pre in
-    ((p .0 .0, p .0 .1, named-there _ _ _ (p .1 .2) (p .0 .2), p .0 .3, p .1 .1), (omega (arith, p .1 .0), ap (λ (l : List (List ℕ)). getD l (a .i) []) (p .1 .3) ∙ row-unused (a .o .now) (a .starts .now) (a .ends .now) (a .i) (p .1 .2) (omega (arith, p .1 .0))))
+    let s = c .before .before .before .before .before .before .before .before in
+    let a = s .args in
+    let p = s .pre in
+    ((p .0 .0, p .0 .1, named-there _ _ _ (p .1 .2) (p .0 .2), p .0 .3, p .1 .1),
+      (omega (arith, p .1 .0), ap (λ (l : List (List ℕ)). getD l (a .i) []) (p .1 .3) ∙ row-unused (a .o .now) (a .starts .now) (a .ends .now) (a .i) (p .1 .2)
+      (omega (arith, p .1 .0))))
 
 same-length : tie.Need-same-length
 same-length c = search needs
 
 returns-2 : tie.Need-returns-2
 returns-2 c =
-    let a = c .before .before .before .before .before .before .before .before .before .before .before .args in
-    let p = c .before .before .before .before .before .before .before .before .before .before .before .pre in
-    (c .before .before .with-row .ensures .0 ∙ rw (p .1 .3) (block-more (a .o .now) (a .starts .now) (a .ends .now) (a .i) (p .1 .2) (omega (arith, p .1 .0))), c .before .before .with-row .ensures .1)
+    let s = c .before .before .before .before .before .before .before .before .before .before .before in
+    let a = s .args in
+    let p = s .pre in
+    (c .before .before .with-row .ensures .0 ∙ rw (p .1 .3) (block-more (a .o .now) (a .starts .now) (a .ends .now) (a .i) (p .1 .2) (omega (arith, p .1 .0))),
+      c .before .before .with-row .ensures .1)
 
 pub with-start-spec : {M : Type 1} → statement M
 with-start-spec =

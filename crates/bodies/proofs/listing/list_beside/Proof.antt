@@ -10,7 +10,12 @@ beside-requires : tie.Need-beside-requires
 beside-requires c κs = omega (arith, c .before .before .before .before .before .pre .0 .0 .count)
 
 put-list-requires : tie.Need-put-list-requires
-put-list-requires c κs = let a = c .before .before .before .before .before .before .before .before .before .args in list-room (a .nodes .now) (a .edges .now) (a .closed .now) (a .grid) (a .n) (a .work .now) (c .before .before .before .before .before .before .before .before .before .pre .0 .0) (a .u) (a .v) (c .before .before .before .before .before .before .before .before .before .pre .0 .1) (c .before .before .before .before .before .before .before .before .before .pre .0 .2) (c .before .before .before .before .before .before .before .before .before .pre .1 .0 .0) (a .body .now) (c .before .before .before .before .before .before .before .before .before .pre .1 .1) (sym (c .before .before .before .beside .ensures _ _ (c .before .before .before .before .before .before .before .before .before .pre .0 .3)) ∙ c .before .before .if1 .taken) (a .left) (c .before .before .before .before .before .before .before .before .before .pre .1 .0 .1)
+put-list-requires c κs =
+    let s = c .before .before .before .before .before .before .before .before .before in
+    let p = s .pre in
+    let a = s .args in
+    list-room (a .nodes .now) (a .edges .now) (a .closed .now) (a .grid) (a .n) (a .work .now) (p .0 .0) (a .u) (a .v) (p .0 .1) (p .0 .2) (p .1 .0 .0)
+      (a .body .now) (p .1 .1) (sym (c .before .before .before .beside .ensures _ _ (p .0 .3)) ∙ c .before .before .if1 .taken) (a .left) (p .1 .0 .1)
 
 same-length : tie.Need-same-length
 same-length c = search needs
@@ -19,10 +24,22 @@ same-length-2 : tie.Need-same-length-2
 same-length-2 c = search needs
 
 returns : tie.Need-returns
-returns c = let a = c .before .before .before .before .before .before .before .before .before .before .before .before .before .before .args in (list-done (a .nodes .now) (a .edges .now) (a .closed .now) (a .grid) (a .n) (a .work .now) (c .before .before .before .before .before .before .before .before .before .before .before .before .before .before .pre .0 .0) (a .u) (a .v) (c .before .before .before .before .before .before .before .before .before .before .before .before .before .before .pre .0 .1) (c .before .before .before .before .before .before .before .before .before .before .before .before .before .before .pre .0 .2) (c .before .before .before .before .before .before .before .before .before .before .before .before .before .before .pre .1 .0 .0) (a .body .now) (c .before .before .before .before .before .before .before .before .before .before .before .before .before .before .pre .1 .1) (sym (c .before .before .before .before .before .before .before .before .beside .ensures _ _ (c .before .before .before .before .before .before .before .before .before .before .before .before .before .before .pre .0 .3)) ∙ c .before .before .before .before .before .before .before .if1 .taken) _ (c .before .before .before .before .put-list .ensures .0), c .before .before .before .before .put-list .ensures .1)
+returns c =
+    let s = c .before .before .before .before .before .before .before .before .before .before .before .before .before .before in
+    let p = s .pre in
+    let put-list = c .before .before .before .before .put-list in
+    let a = s .args in
+    (list-done (a .nodes .now) (a .edges .now) (a .closed .now) (a .grid) (a .n) (a .work .now) (p .0 .0) (a .u) (a .v) (p .0 .1) (p .0 .2) (p .1 .0 .0)
+      (a .body .now) (p .1 .1) (sym (c .before .before .before .before .before .before .before .before .beside .ensures _ _ (p .0 .3)) ∙
+      c .before .before .before .before .before .before .before .if1 .taken) _ (put-list .ensures .0), put-list .ensures .1)
 
 returns-2 : tie.Need-returns-2
-returns-2 c = let a = c .before .before .before .before .before .before .before .args in (list-other (a .nodes .now) (a .edges .now) (a .closed .now) (a .grid) (a .n) (a .work .now) (c .before .before .before .before .before .before .before .pre .0 .0) (a .u) (a .v) (c .before .before .before .before .before .before .before .pre .0 .1) (c .before .before .before .before .before .before .before .pre .0 .2) (c .before .before .before .before .before .before .before .pre .1 .0 .0) (a .body .now) (c .before .before .before .before .before .before .before .pre .1 .1) (sym (c .before .beside .ensures _ _ (c .before .before .before .before .before .before .before .pre .0 .3)) ∙ c .if1 .left), refl)
+returns-2 c =
+    let s = c .before .before .before .before .before .before .before in
+    let p = s .pre in
+    let a = s .args in
+    (list-other (a .nodes .now) (a .edges .now) (a .closed .now) (a .grid) (a .n) (a .work .now) (p .0 .0) (a .u) (a .v) (p .0 .1) (p .0 .2) (p .1 .0 .0)
+      (a .body .now) (p .1 .1) (sym (c .before .beside .ensures _ _ (p .0 .3)) ∙ c .if1 .left), refl)
 
 pub list-beside-spec : {M : Type 1} → statement M
 list-beside-spec =

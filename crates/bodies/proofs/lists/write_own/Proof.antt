@@ -2,8 +2,8 @@
 use borrow.Author.Needs.{needs}
 use mathlib.Core.Path.{sym}
 use lib.Seq.{length-take-le}
-use Rattle.layout.specs.Regions.{own, transit}
-use Rattle.layout.proofs.Windows.{set-is}
+use Rattle.words.specs.Regions.{own, transit}
+use Rattle.words.proofs.Windows.{set-is}
 use Rattle.bodies.proofs.OwnLists.{own-parts, own-written}
 use Rattle.bodies.proofs.lists.write_own.Statement.{statement}
 use Rattle.bodies.proofs.lists.write_own.Tie as tie
@@ -52,18 +52,27 @@ slice-aggregate-write-list c = let a = c .before .before .before .before .before
 
 write-list-requires : tie.Need-write-list-requires
 write-list-requires c κs =
-    let a = c .before .before .before .before .before .before .before .before .before .args in
-    let p = c .before .before .before .before .before .before .before .before .before .pre in
-    own-parts (a .n) (a .work .now) (p .4) (p .1) _ (set-is (a .n) own _ _ (a .work .now) (c .before .before .before .before .before .region-at .ensures) (c .before .before .before .before .before .before .set-words .ensures)) _ (set-is (a .n) transit _ _ (a .work .now) (c .before .before .before .before .region-at2 .ensures) (c .before .before .before .before .before .before .set-words .ensures)) (a .out .now) (p .0) (p .2) (p .3)
+    let s = c .before .before .before .before .before .before .before .before .before in
+    let set-words = c .before .before .before .before .before .before .set-words in
+    let a = s .args in
+    let p = s .pre in
+    own-parts (a .n) (a .work .now) (p .4) (p .1) _ (set-is (a .n) own _ _ (a .work .now) (c .before .before .before .before .before .region-at .ensures)
+      (set-words .ensures)) _ (set-is (a .n) transit _ _ (a .work .now) (c .before .before .before .before .region-at2 .ensures) (set-words .ensures))
+      (a .out .now) (p .0) (p .2) (p .3)
 
 same-length : tie.Need-same-length
 same-length c = search needs
 
 returns : tie.Need-returns
 returns c =
-    let a = c .before .before .before .before .before .before .before .before .before .before .before .before .args in
-    let p = c .before .before .before .before .before .before .before .before .before .before .before .before .pre in
-    own-written (a .n) (a .work .now) (p .4) (p .1) _ (set-is (a .n) own _ _ (a .work .now) (c .before .before .before .before .before .before .before .before .region-at .ensures) (c .before .before .before .before .before .before .before .before .before .set-words .ensures)) _ (set-is (a .n) transit _ _ (a .work .now) (c .before .before .before .before .before .before .before .region-at2 .ensures) (c .before .before .before .before .before .before .before .before .before .set-words .ensures)) _ (c .before .before .write-list .ensures)
+    let s = c .before .before .before .before .before .before .before .before .before .before .before .before in
+    let set-words = c .before .before .before .before .before .before .before .before .before .set-words in
+    let a = s .args in
+    let p = s .pre in
+    own-written (a .n) (a .work .now) (p .4) (p .1) _ (set-is (a .n) own _ _ (a .work .now)
+      (c .before .before .before .before .before .before .before .before .region-at .ensures) (set-words .ensures)) _
+      (set-is (a .n) transit _ _ (a .work .now) (c .before .before .before .before .before .before .before .region-at2 .ensures) (set-words .ensures)) _
+      (c .before .before .write-list .ensures)
 
 pub write-own-spec : {M : Type 1} → statement M
 write-own-spec =

@@ -2,8 +2,8 @@
 use borrow.Author.Needs.{needs}
 use mathlib.Core.Path.{sym}
 use lib.Seq.{length-take-le}
-use Rattle.layout.specs.Regions.{transit}
-use Rattle.layout.proofs.Windows.{set-is}
+use Rattle.words.specs.Regions.{transit}
+use Rattle.words.proofs.Windows.{set-is}
 use Rattle.bodies.proofs.Tables.{row-room, row-written}
 use Rattle.bodies.proofs.table.write_times.Statement.{statement}
 use Rattle.bodies.proofs.table.write_times.Tie as tie
@@ -49,18 +49,24 @@ part-write-row-end-2 c = search needs
 
 write-row-requires : tie.Need-write-row-requires
 write-row-requires c κs =
-    let a = c .before .before .before .before .before .before .before .args in
-    let p = c .before .before .before .before .before .before .before .pre in
-    row-room (a .n) (a .at) (a .t) (a .work .now) (a .out .now) (p .0) (p .1) (p .2) (p .3) _ (set-is (a .n) transit _ _ (a .work .now) (c .before .before .before .before .region-at .ensures) (c .before .before .before .set-words .ensures))
+    let s = c .before .before .before .before .before .before .before in
+    let a = s .args in
+    let p = s .pre in
+    row-room (a .n) (a .at) (a .t) (a .work .now) (a .out .now) (p .0) (p .1) (p .2) (p .3) _
+      (set-is (a .n) transit _ _ (a .work .now) (c .before .before .before .before .region-at .ensures) (c .before .before .before .set-words .ensures))
 
 same-length : tie.Need-same-length
 same-length c = search needs
 
 returns : tie.Need-returns
 returns c =
-    let a = c .before .before .before .before .before .before .before .before .before .before .args in
-    let p = c .before .before .before .before .before .before .before .before .before .before .pre in
-    row-written (a .n) (a .at) (a .t) (a .work .now) (a .out .now) (p .0) (p .1) (p .2) (p .3) _ (set-is (a .n) transit _ _ (a .work .now) (c .before .before .before .before .before .before .before .region-at .ensures) (c .before .before .before .before .before .before .set-words .ensures)) (c .before .before .write-row .last .1 .1 .1 .0) (c .before .before .write-row .kept .1 .1 .1 .0) (c .before .before .write-row .ensures)
+    let s = c .before .before .before .before .before .before .before .before .before .before in
+    let a = s .args in
+    let p = s .pre in
+    row-written (a .n) (a .at) (a .t) (a .work .now) (a .out .now) (p .0) (p .1) (p .2) (p .3) _
+      (set-is (a .n) transit _ _ (a .work .now) (c .before .before .before .before .before .before .before .region-at .ensures)
+      (c .before .before .before .before .before .before .set-words .ensures)) (c .before .before .write-row .last .1 .1 .1 .0)
+      (c .before .before .write-row .kept .1 .1 .1 .0) (c .before .before .write-row .ensures)
 
 pub write-times-spec : {M : Type 1} → statement M
 write-times-spec =

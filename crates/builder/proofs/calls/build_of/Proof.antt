@@ -1,30 +1,46 @@
--- `builder::calls::build_of` meets its contract. Assumes nothing.
-use native.Mathlib.Omega.{arith}
+-- `calls::build_of` meets its contract.
 use mathlib.Core.Path.{sym, _∙_, ap}
-use borrow.Author.Needs.{needs}
-use Rattle.model.specs.Rules.{wordsNeeded}
+use native.Mathlib.Omega.{arith}
 use Rattle.model.specs.Network.{nodeCount}
+use Rattle.model.specs.Rules.{wordsNeeded}
+use borrow.Author.Needs.{needs}
 use Rattle.builder.proofs.calls.build_of.Statement.{statement}
 use Rattle.builder.proofs.calls.build_of.Tie as tie
 
-network-body-requires : tie.Need-network-body-requires
-network-body-requires c κs = (c .before .before .before .pre .0 .contents, c .before .before .before .pre .0 .bodies, search needs)
+network-contents-requires : tie.Need-network-contents-requires
+network-contents-requires c κs =
+    let p = c .before .before .before .pre in
+    (p .0 .contents, p .0 .bodies)
 
-network-body-requires-2 : tie.Need-network-body-requires-2
-network-body-requires-2 c κs = (c .before .before .before .before .pre .0 .contents, c .before .before .before .before .pre .0 .bodies, search needs)
+body-requires : tie.Need-body-requires
+body-requires c κs = c .network-contents .ensures _ (omega arith)
 
-network-body-requires-3 : tie.Need-network-body-requires-3
-network-body-requires-3 c κs = (c .before .before .before .before .before .pre .0 .contents, c .before .before .before .before .before .pre .0 .bodies, search needs)
+body-requires-2 : tie.Need-body-requires-2
+body-requires-2 c κs = c .before .network-contents .ensures _ (omega arith)
+
+body-requires-3 : tie.Need-body-requires-3
+body-requires-3 c κs = c .before .before .network-contents .ensures _ (omega arith)
 
 over-requires : tie.Need-over-requires
-over-requires c κs = rw (c .before .before .network-body .ensures) (c .before .before .before .before .before .before .pre .0 .sound .nodes-rule)
+over-requires c κs = rw (c .before .before .body .ensures) (c .before .before .before .before .before .before .before .pre .0 .sound .nodes-rule)
 
 node-count-requires : tie.Need-node-count-requires
-node-count-requires c κs = (c .before .before .before .before .before .before .before .pre .0 .contents, c .before .before .before .before .before .before .before .pre .0 .bodies)
+node-count-requires c κs =
+    let p = c .before .before .before .before .before .before .before .before .pre in
+    (p .0 .contents, p .0 .bodies)
 
 build-in-requires : tie.Need-build-in-requires
 unfolding wordsNeeded
-build-in-requires c κs = (record { passed = c .before .before .before .before .before .before .before .before .before .before .pre .0; of-nodes = c .before .before .before .before .before .before .network-body .ensures; of-edges = c .before .before .before .before .before .network-body2 .ensures; of-closed = c .before .before .before .before .network-body3 .ensures; made = c .before .before .before .over .ensures; count = c .before .before .node-count .ensures ∙ sym (ap nodeCount (c .before .before .before .before .before .before .network-body .ensures)) }, omega (arith, c .before .before .node-count .ensures, c .before .before .before .before .before .before .before .before .before .before .pre .1))
+build-in-requires c κs =
+    let p = c .before .before .before .before .before .before .before .before .before .before .before .pre in
+    let body = c .before .before .before .before .before .before .body in
+    let body2 = c .before .before .before .before .before .body2 in
+    let body3 = c .before .before .before .before .body3 in
+    let over = c .before .before .before .over in
+    let node-count = c .before .before .node-count in
+    let n = node-count .ensures in
+    let e = body .ensures in
+    (record { passed = p .0; of-nodes = e; of-edges = body2 .ensures; of-closed = body3 .ensures; made = over .ensures; count = n ∙ sym (ap nodeCount e) }, omega (arith, n, p .1))
 
 same-length : tie.Need-same-length
 same-length c = search needs
@@ -34,15 +50,18 @@ same-length-2 c = search needs
 
 returns : tie.Need-returns
 unfolding wordsNeeded
-returns c = (c .before .before .before .before .build-in .ensures .0, rw (← c .before .before .before .before .before .before .before .node-count .ensures) (c .before .before .before .before .build-in .ensures .1))
+returns c =
+    let built = c .before .before .before .before .build-in .ensures in
+    (built .0, rw (← c .before .before .before .before .before .before .before .node-count .ensures) (built .1))
 
 pub build-of-spec : {M : Type 1} → statement M
 build-of-spec =
     tie.close
     (tie.spec
-    network-body-requires
-    network-body-requires-2
-    network-body-requires-3
+    network-contents-requires
+    body-requires
+    body-requires-2
+    body-requires-3
     over-requires
     node-count-requires
     build-in-requires

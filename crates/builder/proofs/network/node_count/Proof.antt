@@ -1,10 +1,7 @@
 -- `builder::network::node_count` meets its contract. Assumes nothing.
-use Prim.Native.Nat.{_/_}
 use mathlib.Core.Path.{ap}
-use lib.ListN.{length}
 use borrow.Author.Needs.{needs}
 use Rattle.model.specs.Network.{nodeCount}
-use Rattle.model.specs.Bytes.{Bytes}
 use Rattle.builder.proofs.network.node_count.Statement.{statement}
 use Rattle.builder.proofs.network.node_count.Tie as tie
 
@@ -13,7 +10,7 @@ network-body-requires c κs = search needs
 
 returns : tie.Need-returns
 unfolding nodeCount
-returns c = ap (λ (b : Bytes). length b / 8) (c .network-body .ensures)
+returns c = ap nodeCount (c .network-body .ensures)
 
 pub node-count-spec : {M : Type 1} → statement M
 node-count-spec = tie.close (tie.spec network-body-requires returns)

@@ -2,6 +2,7 @@
 use mathlib.Core.Path.{refl}
 use borrow.Author.Needs.{needs}
 use Rattle.model.specs.Bytes.{bytes16}
+use Rattle.model.specs.Grid.{divisionBytes}
 use Rattle.builder.proofs.parts.put_grid.Statement.{statement}
 use Rattle.builder.proofs.parts.put_grid.Tie as tie
 
@@ -15,7 +16,7 @@ same-length : tie.Need-same-length
 same-length c = search needs
 
 returns : tie.Need-returns
-unfolding bytes16
+unfolding divisionBytes bytes16
 returns c = record { ends = refl; spliced = c .before .before .write16 .ensures }
 
 pub put-grid-spec : {M : Type 1} → statement M

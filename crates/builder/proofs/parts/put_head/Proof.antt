@@ -3,7 +3,7 @@ use native.Mathlib.Omega.{arith}
 use mathlib.Core.Path.{sym}
 use lib.Seq.{length-take-le}
 use borrow.Author.Needs.{needs}
-use Rattle.model.specs.Contents.{entryAt}
+use Rattle.model.specs.Contents.{entryAt, oracleHead}
 use Rattle.builder.proofs.Pieces.{wrote-front}
 use Rattle.builder.proofs.parts.put_head.Statement.{statement}
 use Rattle.builder.proofs.parts.put_head.Tie as tie
@@ -12,17 +12,19 @@ slice-relend-prefix-write-head : tie.Need-slice-relend-prefix-write-head
 slice-relend-prefix-write-head c = search needs
 
 slice-aggregate-write-head : tie.Need-slice-aggregate-write-head
-slice-aggregate-write-head c = sym (length-take-le 65 (c .before .before .args .out .now) (search needs))
+slice-aggregate-write-head c = sym (length-take-le oracleHead (c .before .before .args .out .now) (search needs))
 
 write-head-requires : tie.Need-write-head-requires
 unfolding entryAt
-write-head-requires c κs = (omega arith, c .before .before .pre .0, length-take-le 65 (c .before .before .args .out .now) (search needs))
+write-head-requires c κs = (omega arith, c .before .before .pre .0, length-take-le oracleHead (c .before .before .args .out .now) (search needs))
 
 same-length : tie.Need-same-length
 same-length c = search needs
 
 returns : tie.Need-returns
-returns c = wrote-front 65 (c .before .before .before .before .before .args .out .now) (c .before .before .write-head .last .1 .1 .0) _ (search needs) (c .before .before .write-head .kept .1 .1 .0) (c .before .before .write-head .ensures)
+returns c =
+    let w = c .before .before .write-head in
+    wrote-front oracleHead (c .before .before .before .before .before .args .out .now) (w .last .1 .1 .0) _ (search needs) (w .kept .1 .1 .0) (w .ensures)
 
 pub put-head-spec : {M : Type 1} → statement M
 put-head-spec =

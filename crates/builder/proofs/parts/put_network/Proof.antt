@@ -2,10 +2,11 @@
 use native.Mathlib.Omega.{arith}
 use mathlib.Core.Path.{_∙_}
 use borrow.Author.Needs.{needs}
-use Rattle.search.proofs.Parts.{back-part}
+use Rattle.model.specs.Contents.{networkHead, oracleHead}
 use Rattle.builder.proofs.Pieces.{wrote-part}
 use Rattle.builder.proofs.parts.put_network.Statement.{statement}
 use Rattle.builder.proofs.parts.put_network.Tie as tie
+use Rattle.words.proofs.Parts.{back-part}
 
 sub-end : tie.Need-sub-end
 sub-end c = search needs
@@ -38,7 +39,10 @@ same-length : tie.Need-same-length
 same-length c = search needs
 
 returns : tie.Need-returns
-returns c = let a = c .before .before .before .before .before .before .before .args in wrote-part 65 _ (a .out .now) (c .before .before .copy .last .1 .0) _ (omega arith) (omega arith) (c .before .before .copy .kept .1 .0) (c .before .before .copy .ensures ∙ back-part (a .network .now) 29)
+returns c =
+    let a = c .before .before .before .before .before .before .before .args in
+    let w = c .before .before .copy in
+    wrote-part oracleHead _ (a .out .now) (w .last .1 .0) _ (omega arith) (omega arith) (w .kept .1 .0) (w .ensures ∙ back-part (a .network .now) networkHead)
 
 pub put-network-spec : {M : Type 1} → statement M
 put-network-spec =

@@ -1,7 +1,7 @@
 -- `builder::parts::put_transit` meets its contract. Assumes nothing.
 use borrow.Author.Needs.{needs}
-use Rattle.layout.specs.Regions.{transit}
-use Rattle.layout.proofs.Windows.{set-is}
+use Rattle.words.specs.Regions.{transit}
+use Rattle.words.proofs.Windows.{set-is}
 use Rattle.builder.proofs.Pieces.{numbers-room, numbers-written}
 use Rattle.builder.proofs.parts.put_transit.Statement.{statement}
 use Rattle.builder.proofs.parts.put_transit.Tie as tie
@@ -44,9 +44,11 @@ part-write-numbers-end-2 c = search needs
 
 write-numbers-requires : tie.Need-write-numbers-requires
 write-numbers-requires c κs =
-    let a = c .before .before .before .before .before .before .args in
-    let p = c .before .before .before .before .before .before .pre in
-    let r = numbers-room (a .n) (a .t) (a .at) (a .work .now) (a .out .now) (p .1) (p .2) (p .3) (p .4) _ (set-is (a .n) transit _ _ (a .work .now) (c .before .before .before .region-at .ensures) (c .before .before .set-words .ensures)) in
+    let s = c .before .before .before .before .before .before in
+    let a = s .args in
+    let p = s .pre in
+    let r = numbers-room (a .n) (a .t) (a .at) (a .work .now) (a .out .now) (p .1) (p .2) (p .3) (p .4) _
+      (set-is (a .n) transit _ _ (a .work .now) (c .before .before .before .region-at .ensures) (c .before .before .set-words .ensures)) in
     (p .0, r .0, r .1)
 
 same-length : tie.Need-same-length
@@ -54,9 +56,13 @@ same-length c = search needs
 
 returns : tie.Need-returns
 returns c =
-    let a = c .before .before .before .before .before .before .before .before .before .args in
-    let p = c .before .before .before .before .before .before .before .before .before .pre in
-    numbers-written (a .n) (a .t) (a .at) (a .work .now) (a .out .now) (p .1) (p .2) (p .3) (p .4) _ (set-is (a .n) transit _ _ (a .work .now) (c .before .before .before .before .before .before .region-at .ensures) (c .before .before .before .before .before .set-words .ensures)) (c .before .before .write-numbers .last .1 .1 .0) (c .before .before .write-numbers .kept .1 .1 .0) (c .before .before .write-numbers .ensures)
+    let s = c .before .before .before .before .before .before .before .before .before in
+    let a = s .args in
+    let p = s .pre in
+    numbers-written (a .n) (a .t) (a .at) (a .work .now) (a .out .now) (p .1) (p .2) (p .3) (p .4) _
+      (set-is (a .n) transit _ _ (a .work .now) (c .before .before .before .before .before .before .region-at .ensures)
+      (c .before .before .before .before .before .set-words .ensures)) (c .before .before .write-numbers .last .1 .1 .0)
+      (c .before .before .write-numbers .kept .1 .1 .0) (c .before .before .write-numbers .ensures)
 
 pub put-transit-spec : {M : Type 1} → statement M
 put-transit-spec =

@@ -1,7 +1,7 @@
 -- `builder::sizes::access_size` meets its contract. Assumes nothing.
 use borrow.Author.Needs.{needs}
 use native.Mathlib.Omega.{arith}
-use Rattle.layout.proofs.Windows.{counts-is}
+use Rattle.words.proofs.Windows.{counts-is}
 use Rattle.builder.proofs.Sums.{counted-part, sized-part}
 use Rattle.builder.proofs.sizes.access_size.Statement.{statement}
 use Rattle.builder.proofs.sizes.access_size.Tie as tie
@@ -25,7 +25,9 @@ part-lists-size-end : tie.Need-part-lists-size-end
 part-lists-size-end c = search needs
 
 lists-size-requires : tie.Need-lists-size-requires
-lists-size-requires c κs = let a = c .before .before .before .args in counted-part (a .n) (a .work .now) _ (counts-is (a .n) _ (a .work .now) (c .before .region-at .ensures)) (c .before .before .before .pre .1)
+lists-size-requires c κs =
+    let a = c .before .before .before .args in
+    counted-part (a .n) (a .work .now) _ (counts-is (a .n) _ (a .work .now) (c .before .region-at .ensures)) (c .before .before .before .pre .1)
 
 mul-result : tie.Need-mul-result
 mul-result c = search needs
@@ -34,7 +36,9 @@ add-result : tie.Need-add-result
 add-result c = omega (arith, c .lists-size .ensures .1, c .before .before .before .before .pre .1 .0)
 
 returns : tie.Need-returns
-returns c = let a = c .before .before .before .before .args in sized-part (a .n) (a .work .now) _ (counts-is (a .n) _ (a .work .now) (c .before .before .region-at .ensures)) _ (c .lists-size .ensures .0)
+returns c =
+    let a = c .before .before .before .before .args in
+    sized-part (a .n) (a .work .now) _ (counts-is (a .n) _ (a .work .now) (c .before .before .region-at .ensures)) _ (c .lists-size .ensures .0)
 
 pub access-size-spec : {M : Type 1} → statement M
 access-size-spec =

@@ -1,6 +1,5 @@
 -- `builder::sizes::whole_size` meets its contract. Assumes nothing.
 use native.Mathlib.Omega.{arith}
-use mathlib.Core.Path.{refl}
 use borrow.Author.Needs.{needs}
 use Rattle.builder.specs.Plan.{wholeSize}
 use Rattle.builder.proofs.sizes.whole_size.Statement.{statement}
@@ -43,7 +42,7 @@ add-result-3 c = omega arith
 
 returns : tie.Need-returns
 unfolding wholeSize
-returns c = refl
+returns c = omega arith
 
 pub whole-size-spec : {M : Type 1} → statement M
 whole-size-spec =

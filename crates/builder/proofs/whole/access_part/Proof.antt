@@ -20,7 +20,11 @@ part-put-access-end : tie.Need-part-put-access-end
 part-put-access-end c = search needs
 
 put-access-requires : tie.Need-put-access-requires
-put-access-requires c κs = let a = c .before .before .before .before .before .before .before .args in let l = part-size (a .at) (a .a) (a .out .now) (c .before .before .before .before .before .before .before .pre .1 .2) in (c .before .before .before .before .before .before .before .pre .0, (l ∙ c .before .before .before .before .before .before .before .pre .1 .0, omega (arith, l, c .before .before .before .before .before .before .before .pre .1 .1)))
+put-access-requires c κs =
+    let s = c .before .before .before .before .before .before .before in
+    let p = s .pre in
+    let a = s .args in
+    let l = part-size (a .at) (a .a) (a .out .now) (p .1 .2) in (p .0, (l ∙ p .1 .0, omega (arith, l, p .1 .1)))
 
 same-length : tie.Need-same-length
 same-length c = search needs
@@ -29,7 +33,11 @@ same-length-2 : tie.Need-same-length-2
 same-length-2 c = search needs
 
 returns : tie.Need-returns
-returns c = let a = c .before .before .before .before .before .before .before .before .before .before .before .before .args in (wrote-part (a .at) _ (a .out .now) (c .before .before .before .before .put-access .last .1 .1 .1 .1 .1 .1 .0) _ (omega arith) (omega arith) (c .before .before .before .before .put-access .kept .1 .1 .1 .1 .1 .1 .0) (c .before .before .before .before .put-access .ensures .0), c .before .before .before .before .put-access .ensures .1)
+returns c =
+    let put-access = c .before .before .before .before .put-access in
+    let a = c .before .before .before .before .before .before .before .before .before .before .before .before .args in
+    (wrote-part (a .at) _ (a .out .now) (put-access .last .1 .1 .1 .1 .1 .1 .0) _ (omega arith) (omega arith) (put-access .kept .1 .1 .1 .1 .1 .1 .0)
+      (put-access .ensures .0), put-access .ensures .1)
 
 pub access-part-spec : {M : Type 1} → statement M
 access-part-spec =

@@ -12,13 +12,22 @@ put-network-requires : tie.Need-put-network-requires
 put-network-requires c κs = search needs
 
 put-grid-requires : tie.Need-put-grid-requires
-put-grid-requires c κs = let a = c .before .before .before .before .before .before .before .before .before .before .before .args in omega (arith, front-ends (a .network .now) (a .g) (a .sizes) (c .before .before .before .before .before .before .before .before .before .before .before .pre .0) (c .before .before .before .put-network .ensures))
+put-grid-requires c κs =
+    let s = c .before .before .before .before .before .before .before .before .before .before .before in
+    let a = s .args in
+    omega (arith, front-ends (a .network .now) (a .dv) (a .sizes) (s .pre .0) (c .before .before .before .put-network .ensures))
 
 same-length : tie.Need-same-length
 same-length c = search needs
 
 returns : tie.Need-returns
-returns c = let a = c .before .before .before .before .before .before .before .before .before .before .before .before .before .before .args in front-written (a .network .now) (a .g) (a .sizes) (c .before .before .before .before .before .before .before .before .before .before .before .before .before .before .pre .0) (c .before .before .before .before .before .before .before .before .before .before .put-head .ensures) (c .before .before .before .before .before .before .put-network .ensures) (c .before .before .put-grid .ensures) (c .before .before .before .before .before .before .before .before .before .before .before .before .before .before .pre .1)
+returns c =
+    let s = c .before .before .before .before .before .before .before .before .before .before .before .before .before .before in
+    let p = s .pre in
+    let a = s .args in
+    front-written (a .network .now) (a .dv) (a .sizes) (p .0)
+      (c .before .before .before .before .before .before .before .before .before .before .put-head .ensures)
+      (c .before .before .before .before .before .before .put-network .ensures) (c .before .before .put-grid .ensures) (p .1)
 
 pub put-front-spec : {M : Type 1} → statement M
 put-front-spec =

@@ -2,6 +2,7 @@
 use Prim.Native.Nat.{_*_}
 use native.Mathlib.Omega.{arith}
 use borrow.Author.Needs.{needs}
+use Rattle.model.specs.Oracle.{valueSize}
 use Rattle.bodies.proofs.OwnLists.{part-size}
 use Rattle.builder.proofs.Pieces.{wrote-part}
 use Rattle.builder.proofs.whole.table_part.Statement.{statement}
@@ -26,7 +27,11 @@ part-put-table-end : tie.Need-part-put-table-end
 part-put-table-end c = search needs
 
 put-table-requires : tie.Need-put-table-requires
-put-table-requires c κs = let a = c .before .before .before .before .before .before .args in ((c .before .before .before .before .before .before .pre .0 .0, c .before .before .before .before .before .before .pre .0 .1), (c .before .before .before .before .before .before .pre .1, (c .before .before .before .before .before .before .pre .0 .2, part-size (a .at) (4 * a .t * a .t) (a .out .now) (c .before .before .before .before .before .before .pre .0 .3))))
+put-table-requires c κs =
+    let s = c .before .before .before .before .before .before in
+    let a = s .args in
+    let p = s .pre .0 in
+    ((p .0, p .1), (s .pre .1, (p .2, part-size (a .at) (valueSize * a .t * a .t) (a .out .now) (p .3))))
 
 same-length : tie.Need-same-length
 same-length c = search needs
@@ -35,7 +40,11 @@ same-length-2 : tie.Need-same-length-2
 same-length-2 c = search needs
 
 returns : tie.Need-returns
-returns c = let a = c .before .before .before .before .before .before .before .before .before .before .before .args in (wrote-part (a .at) _ (a .out .now) (c .before .before .before .before .put-table .last .1 .1 .1 .1 .1 .0) _ (omega arith) (omega arith) (c .before .before .before .before .put-table .kept .1 .1 .1 .1 .1 .0) (c .before .before .before .before .put-table .ensures .0), c .before .before .before .before .put-table .ensures .1)
+returns c =
+    let put-table = c .before .before .before .before .put-table in
+    let a = c .before .before .before .before .before .before .before .before .before .before .before .args in
+    (wrote-part (a .at) _ (a .out .now) (put-table .last .1 .1 .1 .1 .1 .0) _ (omega arith) (omega arith) (put-table .kept .1 .1 .1 .1 .1 .0)
+      (put-table .ensures .0), put-table .ensures .1)
 
 pub table-part-spec : {M : Type 1} → statement M
 table-part-spec =

@@ -1,7 +1,7 @@
 -- `oracles::jukesogbi_list` meets its contract.
 use mathlib.Core.Path.{sym, _∙_}
 use Rattle.model.specs.Calls.{listRefusal}
-use Rattle.query.proofs.Kept.{list-kept}
+use Rattle.checks.proofs.RulesKept.{list-kept}
 use Rattle.capi.proofs.Places.{nowhere, given}
 use borrow.Author.Needs.{needs}
 use Rattle.capi.proofs.oracles.jukesogbi_list.Statement.{statement}

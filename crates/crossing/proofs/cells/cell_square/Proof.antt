@@ -13,7 +13,10 @@ square-requires : tie.Need-square-requires
 square-requires c κs = bounded (c .before .before .pre .0)
 
 returns : tie.Need-returns
-returns c = cell-square-made (c .before .before .before .args .grid) (c .before .before .before .args .nodes .now) (c .before .before .before .args .u) (modelCell (c .before .cell .result)) _ (c .before .before .before .pre .0) (c .before .before .before .pre .1) (c .before .cell .ensures) (c .square .ensures)
+returns c =
+    let a = c .before .before .before .args in
+    let p = c .before .before .before .pre in
+    cell-square-made (a .grid) (a .nodes .now) (a .u) (modelCell (c .before .cell .result)) _ (p .0) (p .1) (c .before .cell .ensures) (c .square .ensures)
 
 pub cell-square-spec : {M : Type 1} → statement M
 cell-square-spec = tie.close (tie.spec cell-requires square-requires returns)

@@ -1,10 +1,10 @@
 -- `square::crosses_edge` meets its contract.
 use native.Mathlib.Omega.{arith}
 use Rattle.model.specs.Network.{nodeCount, edgeCount}
-use Rattle.arcs.proofs.Bodies.{edge-fine}
 use Rattle.crossing.proofs.Crossed.{crosses-read}
 use Rattle.crossing.proofs.square.crosses_edge.Statement.{statement}
 use Rattle.crossing.proofs.square.crosses_edge.Tie as tie
+use Rattle.theory.specs.Sound.{edge-fine}
 
 edge-first-requires : tie.Need-edge-first-requires
 unfolding edgeCount
@@ -12,7 +12,9 @@ edge-first-requires c κs = omega arith
 
 has-requires : tie.Need-has-requires
 unfolding nodeCount
-has-requires c κs = omega (arith, edge-fine _ _ (c .before .before .before .pre .0) (c .before .before .before .args .i) (c .before .before .before .pre .1) .first-in, c .edge-first .ensures)
+has-requires c κs =
+    let p = c .before .before .before .pre in
+    omega (arith, edge-fine _ _ (p .0) (c .before .before .before .args .i) (p .1) .first-in, c .edge-first .ensures)
 
 edge-second-requires : tie.Need-edge-second-requires
 unfolding edgeCount
@@ -20,10 +22,16 @@ edge-second-requires c κs = omega arith
 
 has-requires-2 : tie.Need-has-requires-2
 unfolding nodeCount
-has-requires-2 c κs = omega (arith, edge-fine _ _ (c .before .before .before .before .before .pre .0) (c .before .before .before .before .before .args .i) (c .before .before .before .before .before .pre .1) .second-in, c .edge-second .ensures)
+has-requires-2 c κs =
+    let s = c .before .before .before .before .before in
+    let p = s .pre in
+    omega (arith, edge-fine _ _ (p .0) (s .args .i) (p .1) .second-in, c .edge-second .ensures)
 
 returns : tie.Need-returns
-returns c = crosses-read (c .before .before .before .before .before .before .args .nodes .now) (c .before .before .before .before .before .before .args .square) _ _ _ _ _ (c .before .before .before .edge-first .ensures .0) (c .before .edge-second .ensures .0) (c .before .before .has .ensures) (c .has2 .ensures)
+returns c =
+    let a = c .before .before .before .before .before .before .args in
+    crosses-read (a .nodes .now) (a .square) _ _ _ _ _ (c .before .before .before .edge-first .ensures .0) (c .before .edge-second .ensures .0)
+      (c .before .before .has .ensures) (c .has2 .ensures)
 
 pub crosses-edge-spec : {M : Type 1} → statement M
 crosses-edge-spec =

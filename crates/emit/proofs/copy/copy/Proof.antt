@@ -32,9 +32,10 @@ loop-less c = search needs
 
 loop-again : tie.Need-loop-again Inv-loop μ-loop
 loop-again c =
-    let h : c .before .before .loop .i < length (c .before .before .before .args .from .now) = omega arith in
+    let a = c .before .before .before .args in
+    let h : c .before .before .loop .i < length (a .from .now) = omega arith in
     let k : c .before .before .loop .i < length (c .before .before .loop .to) = omega arith in
-    let next = byte-next (c .before .before .before .args .from .now) (c .before .before .loop .to) (c .before .before .loop .i) h k in
+    let next = byte-next (a .from .now) (c .before .before .loop .to) (c .before .before .loop .i) h k in
     (search needs, search needs, simp length-set (c .before .before .loop .inv .2), written-next (next .0) (c .before .before .loop .inv .3) (next .1))
 
 same-length : tie.Need-same-length Inv-loop μ-loop

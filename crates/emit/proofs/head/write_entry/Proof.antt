@@ -1,7 +1,7 @@
 -- `emit::head::write_entry` meets its contract. Assumes nothing.
 use Prim.Native.Nat.{_+_, _≤_}
 use Rattle.emit.proofs.Offsets.{contents-written}
-use Rattle.model.specs.Contents.{entryAt}
+use Rattle.model.specs.Contents.{contentsEntrySize, entryAt}
 use lib.ListN.{length, length-set}
 use native.Mathlib.Omega.{arith}
 use borrow.Author.Needs.{needs}
@@ -43,8 +43,10 @@ same-length c = omega (arith, simp length-set at (c .before .before .before .bef
 returns : tie.Need-returns
 unfolding entryAt
 returns c =
-    let h : c .before .before .before .before .before .before .before .before .entry-at .result + 9 ≤ length (c .before .before .before .before .before .before .before .before .before .before .args .out .now) = omega arith in
-    rw (← c .before .before .before .before .before .before .before .before .entry-at .ensures) (contents-written _ _ _ _ _ _ _ h (c .before .before .before .before .before .before .write32 .ensures) (c .before .before .write322 .ensures))
+    let out = c .before .before .before .before .before .before .before .before .before .before .args .out .now in
+    let at = c .before .before .before .before .before .before .before .before .entry-at in
+    let h : at .result + contentsEntrySize ≤ length out = omega arith in
+    rw (← at .ensures) (contents-written _ _ _ _ _ _ _ h (c .before .before .before .before .before .before .write32 .ensures) (c .before .before .write322 .ensures))
 
 pub write-entry-spec : {M : Type 1} → statement M
 write-entry-spec =

@@ -13,7 +13,9 @@ use Rattle.emit.proofs.head.write_head.Statement.{statement}
 use Rattle.emit.proofs.head.write_head.Tie as tie
 
 abbrev Inv-loop : tie.InvT-loop
-Inv-loop edition out₀ sizes offset₀ k₀ out offset k = (k ≤ oracleEntries) × (length sizes ≡ oracleEntries) × (offset + total (drop k sizes) < 4294967296) × (length out ≡ entryAt oracleEntries) × Written (headBytes edition sizes) (entryAt k) out (entriesOf k offset (drop k sizes))
+Inv-loop edition out₀ sizes offset₀ k₀ out offset k =
+    (k ≤ oracleEntries) × (length sizes ≡ oracleEntries) × (offset + total (drop k sizes) < 4294967296) × (length out ≡ entryAt oracleEntries) × Written
+      (headBytes edition sizes) (entryAt k) out (entriesOf k offset (drop k sizes))
 
 abbrev μ-loop : tie.MeasureT-loop
 μ-loop edition out₀ sizes offset₀ k₀ out offset k = oracleEntries - k
@@ -44,7 +46,8 @@ loop-holds c =
     let seven : length (a .t2) ≡ oracleEntries = search needs in
     let long : 2 ≤ length (a .out .now) = unfold entryAt in omega arith in
     let start = written-start refl (c .before .before .pre .2 ∙ ap entryAt (sym seven) ∙ sym (length-head (a .edition) (a .t2))) in
-    (search needs, seven, rw (c .entry-at .ensures) (c .before .before .pre .1), simp length-set (c .before .before .pre .2), rw (c .entry-at .ensures) (written-next (head-start (a .edition) (a .t2) seven) start (head-wrote (a .out .now) (a .edition) oracleEntries long)))
+    (search needs, seven, rw (c .entry-at .ensures) (c .before .before .pre .1), simp length-set (c .before .before .pre .2),
+      rw (c .entry-at .ensures) (written-next (head-start (a .edition) (a .t2) seven) start (head-wrote (a .out .now) (a .edition) oracleEntries long)))
 
 mul-write-entry : tie.Need-mul-write-entry Inv-loop μ-loop
 mul-write-entry c = search needs
@@ -62,7 +65,9 @@ array-read-offset : tie.Need-array-read-offset Inv-loop μ-loop
 array-read-offset c = search needs
 
 add-offset : tie.Need-add-offset Inv-loop μ-loop
-add-offset c = omega (arith, total-step (c .before .before .before .before .before .before .before .before .args .t2) (c .before .before .before .before .before .loop .k) (c .before .before .before .before .before .loop .offset) _ (omega arith) refl)
+add-offset c =
+    let l = c .before .before .before .before .before .loop in
+    omega (arith, total-step (c .before .before .before .before .before .before .before .before .args .t2) (l .k) (l .offset) _ (omega arith) refl)
 
 add-k : tie.Need-add-k Inv-loop μ-loop
 add-k c = search needs
@@ -72,19 +77,22 @@ loop-less c = search needs
 
 loop-again : tie.Need-loop-again Inv-loop μ-loop
 loop-again c =
+    let l = c .before .before .before .before .before .loop in
     let a = c .before .before .before .before .before .before .before .before .args in
-    let inv = c .before .before .before .before .before .loop .inv in
-    let below : c .before .before .before .before .before .loop .k < length (a .t2) = omega arith in
-    let next = contents-step (a .t2) (c .before .before .before .before .before .loop .k) (c .before .before .before .before .before .loop .offset) _ below refl in
-    (search needs, inv .1, omega (arith, total-step (a .t2) (c .before .before .before .before .before .loop .k) (c .before .before .before .before .before .loop .offset) _ below refl), search needs, written-next next (inv .4) (contents-wrote _ _ _ _ _ (c .before .before .write-entry .ensures)))
+    let inv = l .inv in
+    let below : l .k < length (a .t2) = omega arith in
+    let next = contents-step (a .t2) (l .k) (l .offset) _ below refl in
+    (search needs, inv .1, omega (arith, total-step (a .t2) (l .k) (l .offset) _ below refl), search needs,
+      written-next next (inv .4) (contents-wrote _ _ _ _ _ (c .before .before .write-entry .ensures)))
 
 same-length : tie.Need-same-length Inv-loop μ-loop
 same-length c = omega arith
 
 returns : tie.Need-returns Inv-loop μ-loop
 returns c =
-    let all : length (c .before .before .before .before .args .t2) ≤ c .before .loop .k = omega arith in
-    written-end (contents-end (c .before .before .before .before .args .t2) _ _ all) (c .before .loop .inv .4)
+    let a = c .before .before .before .before .args in
+    let all : length (a .t2) ≤ c .before .loop .k = omega arith in
+    written-end (contents-end (a .t2) _ _ all) (c .before .loop .inv .4)
 
 pub write-head-spec : {M : Type 1} → statement M
 write-head-spec =

@@ -25,20 +25,27 @@ enum-told c = search needs
 
 returns-2 : tie.Need-returns-2
 unfolding indexedBytes timeBytes
-returns-2 c = then-different _ _ _ _ (sym (c .before .before .same16 .ensures) ∙ c .enum-told .given .1) ∙ compared-in _ _ _ _ _ (sym (c .before .before .before .before .contains .ensures) ∙ not-false _ (c .before .before .before .if1 .left))
+returns-2 c =
+    then-different _ _ _ _ (sym (c .before .before .same16 .ensures) ∙ c .enum-told .given .1) ∙ compared-in _ _ _ _ _
+      (sym (c .before .before .before .before .contains .ensures) ∙ not-false _ (c .before .before .before .if1 .left))
 
-mul-same32 : tie.Need-mul-same32
-mul-same32 c = search needs
+mul-same-value : tie.Need-mul-same-value
+mul-same-value c = search needs
 
-shared-slice-read-same32 : tie.Need-shared-slice-read-same32
-shared-slice-read-same32 c = search needs
+shared-slice-read-same-value : tie.Need-shared-slice-read-same-value
+shared-slice-read-same-value c = search needs
 
-same32-requires : tie.Need-same32-requires
-same32-requires c κs = same-within _ _ _ _ (c .before .before .before .before .before .before .before .before .before .before .pre .2) (sym (c .before .before .before .before .same16 .ensures) ∙ c .before .before .next .given .1)
+same-value-requires : tie.Need-same-value-requires
+same-value-requires c κs =
+    let first = sym (c .before .before .before .before .same16 .ensures) ∙ c .before .before .next .given .1 in
+    same-within _ _ _ _ (c .before .before .before .before .before .before .before .before .before .before .pre .2) first
 
 returns-3 : tie.Need-returns-3
 unfolding indexedBytes timeBytes
-returns-3 c = c .same32 .ensures ∙ then-same _ _ _ _ _ (sym (c .before .before .before .before .before .same16 .ensures) ∙ c .before .before .before .next .given .1) ∙ compared-in _ _ _ _ _ (sym (c .before .before .before .before .before .before .before .contains .ensures) ∙ not-false _ (c .before .before .before .before .before .before .if1 .left))
+returns-3 c =
+    let first = sym (c .before .before .before .before .before .same16 .ensures) ∙ c .before .before .before .next .given .1 in
+    let i = sym (c .before .before .before .before .before .before .before .contains .ensures) ∙ not-false _ (c .before .before .before .before .before .before .if1 .left) in
+    c .same-value .ensures ∙ then-same _ _ _ _ _ first ∙ compared-in _ _ _ _ _ i
 
 pub same-entry-spec : {M : Type 1} → statement M
 same-entry-spec =
@@ -50,7 +57,7 @@ same-entry-spec =
     enum-known-next
     enum-told
     returns-2
-    mul-same32
-    shared-slice-read-same32
-    same32-requires
+    mul-same-value
+    shared-slice-read-same-value
+    same-value-requires
     returns-3)

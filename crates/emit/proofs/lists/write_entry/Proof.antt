@@ -1,9 +1,8 @@
 -- `emit::lists::write_entry` meets its contract. Assumes nothing.
-use mathlib.Core.Path.{refl, sym, _∙_}
+use mathlib.Core.Path.{sym, _∙_}
 use native.Mathlib.Omega.{arith}
 use borrow.Author.Tests.{not-true, not-false}
-use Rattle.emit.specs.Parts.{timeBytes, indexedBytes}
-use Rattle.model.specs.Bytes.{bytes16, bytes32}
+use Rattle.emit.specs.PartLaws.{length-indexed}
 use Rattle.emit.proofs.Indexes.{entry-written}
 use Rattle.emit.proofs.Turns.{wrote-out, wrote-in, fits-in}
 use borrow.Author.Needs.{needs}
@@ -17,21 +16,28 @@ returns : tie.Need-returns
 returns c = wrote-out _ _ _ _ _ (sym (c .before .contains .ensures) ∙ not-true _ (c .if1 .taken))
 
 write16-requires : tie.Need-write16-requires
-unfolding indexedBytes timeBytes bytes32 bytes16
-write16-requires c κs = let f = fits-in _ _ _ _ _ (sym (c .before .before .contains .ensures) ∙ not-false _ (c .before .if1 .left)) (c .before .before .before .before .before .before .pre .2) in omega arith
+write16-requires c κs =
+    let s = c .before .before .before .before .before .before in
+    let a = s .args in
+    let f = fits-in _ _ _ _ _ (sym (c .before .before .contains .ensures) ∙ not-false _ (c .before .if1 .left)) (s .pre .2) in
+    omega (arith, f, length-indexed (a .times .now) (a .index) (a .v))
 
-add-write32 : tie.Need-add-write32
-add-write32 c = search needs
+add-write-value : tie.Need-add-write-value
+add-write-value c = search needs
 
-mul-write32 : tie.Need-mul-write32
-mul-write32 c = search needs
+mul-write-value : tie.Need-mul-write-value
+mul-write-value c = search needs
 
-shared-slice-read-write32 : tie.Need-shared-slice-read-write32
-shared-slice-read-write32 c = search needs
+shared-slice-read-write-value : tie.Need-shared-slice-read-write-value
+shared-slice-read-write-value c = search needs
 
-write32-requires : tie.Need-write32-requires
-unfolding indexedBytes timeBytes bytes32 bytes16
-write32-requires c κs = let f = fits-in _ _ _ _ _ (sym (c .before .before .before .before .before .before .before .contains .ensures) ∙ not-false _ (c .before .before .before .before .before .before .if1 .left)) (c .before .before .before .before .before .before .before .before .before .before .before .pre .2) in omega arith
+write-value-requires : tie.Need-write-value-requires
+write-value-requires c κs =
+    let s = c .before .before .before .before .before .before .before .before .before .before .before in
+    let a = s .args in
+    let f = fits-in _ _ _ _ _ (sym (c .before .before .before .before .before .before .before .contains .ensures) ∙ not-false _
+      (c .before .before .before .before .before .before .if1 .left)) (s .pre .2) in
+    omega (arith, f, length-indexed (a .times .now) (a .index) (a .v))
 
 add-result : tie.Need-add-result
 add-result c = search needs
@@ -40,10 +46,16 @@ same-length : tie.Need-same-length
 same-length c = search needs
 
 returns-2 : tie.Need-returns-2
-unfolding indexedBytes timeBytes bytes32 bytes16
 returns-2 c =
-    let i = sym (c .before .before .before .before .before .before .before .before .before .before .contains .ensures) ∙ not-false _ (c .before .before .before .before .before .before .before .before .before .if1 .left) in
-    wrote-in _ _ _ _ _ _ _ i refl (entry-written (c .before .before .before .before .before .before .before .before .before .before .before .before .before .before .args .times .now) (c .before .before .before .before .before .before .before .before .before .before .before .before .before .before .args .index) (c .before .before .before .before .before .before .before .before .before .before .before .before .before .before .args .v) _ _ _ _ (fits-in _ _ _ _ _ i (c .before .before .before .before .before .before .before .before .before .before .before .before .before .before .pre .2)) (c .before .before .before .before .before .before .before .write16 .ensures) (c .before .before .write32 .ensures))
+    let s = c .before .before .before .before .before .before .before .before .before .before .before .before .before .before in
+    let a = s .args in
+    let long = length-indexed (a .times .now) (a .index) (a .v) in
+    let i = sym (c .before .before .before .before .before .before .before .before .before .before .contains .ensures) ∙ not-false _
+      (c .before .before .before .before .before .before .before .before .before .if1 .left) in
+    let f = fits-in _ _ _ _ _ i (s .pre .2) in
+    let index = c .before .before .before .before .before .before .before .write16 .ensures in
+    let w = entry-written (a .times .now) (a .index) (a .v) _ _ _ _ (omega (arith, f, long)) index (c .before .before .write-value .ensures) in
+    wrote-in _ _ _ _ _ _ _ i (omega (arith, long)) w
 
 pub write-entry-spec : {M : Type 1} → statement M
 write-entry-spec =
@@ -52,10 +64,10 @@ write-entry-spec =
     contains-requires
     returns
     write16-requires
-    add-write32
-    mul-write32
-    shared-slice-read-write32
-    write32-requires
+    add-write-value
+    mul-write-value
+    shared-slice-read-write-value
+    write-value-requires
     add-result
     same-length
     returns-2)

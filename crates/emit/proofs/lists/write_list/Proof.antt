@@ -1,10 +1,9 @@
 -- `emit::lists::write_list` meets its contract. The loop's invariant: `rank` counts the transit nodes below v, and the entries of the access nodes from v on are left. Assumes nothing.
 use Rattle.emit.proofs.Indexes.{entryFor, entriesFrom, listFor, count-written, entries-step}
-use Rattle.emit.proofs.Ranks.{rank-none, rank-next}
+use Rattle.bitset.proofs.Ranks.{rank-none, rank-next}
 use Rattle.emit.proofs.Turns.{members-end}
 use Rattle.emit.proofs.Writing.{Written, written-fits, written-next, written-end}
-use Rattle.emit.specs.Parts.{listSize}
-use Rattle.emit.specs.Members.{membersOf}
+use Rattle.bitset.specs.Members.{membersOf}
 use lib.ListN.{length}
 use native.Mathlib.Omega.{arith}
 use mathlib.Core.Path.{_≡_, sym}
@@ -14,7 +13,8 @@ use Rattle.emit.proofs.lists.write_list.Statement.{statement}
 use Rattle.emit.proofs.lists.write_list.Tie as tie
 
 abbrev Inv-loop : tie.InvT-loop
-Inv-loop n access transit times out₀ at₀ rank₀ v₀ out at rank v = (rank ≤ v) × (rank ≡ length (membersOf v transit)) × (length out ≡ length out₀) × Written (listFor n access transit times) at out (entriesFrom n access transit times v)
+Inv-loop n access transit times out₀ at₀ rank₀ v₀ out at rank v =
+    (rank ≤ v) × (rank ≡ length (membersOf v transit)) × (length out ≡ length out₀) × Written (listFor n access transit times) at out (entriesFrom n access transit times v)
 
 abbrev μ-loop : tie.MeasureT-loop
 μ-loop n access transit times out₀ at₀ rank₀ v₀ out at rank v = n - v
@@ -22,17 +22,25 @@ abbrev μ-loop : tie.MeasureT-loop
 count-requires : tie.Need-count-requires Inv-loop μ-loop
 count-requires c κs = search needs
 
+cast-write16 : tie.Need-cast-write16 Inv-loop μ-loop
+cast-write16 c = search needs
+
 write16-requires : tie.Need-write16-requires Inv-loop μ-loop
-unfolding listSize
 write16-requires c κs = omega arith
 
 loop-holds : tie.Need-loop-holds Inv-loop μ-loop
-loop-holds c = (search needs, sym (rank-none _), search needs, count-written (c .before .before .before .before .before .before .before .before .before .args .n) (c .before .before .before .before .before .before .before .before .before .args .access .now) (c .before .before .before .before .before .before .before .before .before .args .transit .now) (c .before .before .before .before .before .before .before .before .before .args .times .now) _ (c .before .before .before .count .ensures .0) _ _ (c .before .before .before .before .before .before .before .before .before .pre .1 .1) (c .before .before .write16 .ensures))
+loop-holds c =
+    let s = c .before .before .before .before .before .before .before .before .before in
+    let a = s .args in
+    (search needs, sym (rank-none _), search needs, count-written (a .n) (a .access .now) (a .transit .now) (a .times .now) _
+      (c .before .before .before .count .ensures .0) _ _ (s .pre .1 .1) (c .before .before .write16 .ensures))
 
 write-entry-requires : tie.Need-write-entry-requires Inv-loop μ-loop
 write-entry-requires c κs =
-    let a = c .before .before .before .before .before .before .before .before .before .before .before .before .args in
-    (search needs, search needs, written-fits (entries-step (a .n) (a .access .now) (a .transit .now) (a .times .now) _ _ (c .before .loop-test .taken) (c .before .before .before .before .before .before .before .before .before .before .before .before .pre .1 .0) (c .before .before .loop .inv .1)) (c .before .before .loop .inv .3))
+    let s = c .before .before .before .before .before .before .before .before .before .before .before .before in
+    let a = s .args in
+    (search needs, search needs, written-fits (entries-step (a .n) (a .access .now) (a .transit .now) (a .times .now) _ _ (c .before .loop-test .taken)
+      (s .pre .1 .0) (c .before .before .loop .inv .1)) (c .before .before .loop .inv .3))
 
 flag-of-requires : tie.Need-flag-of-requires Inv-loop μ-loop
 flag-of-requires c κs = search needs
@@ -48,9 +56,12 @@ loop-less c = search needs
 
 loop-again : tie.Need-loop-again Inv-loop μ-loop
 loop-again c =
-    let a = c .before .before .before .before .before .before .before .before .before .before .before .before .before .before .before .before .args in
-    let next = entries-step (a .n) (a .access .now) (a .transit .now) (a .times .now) _ _ (c .before .before .before .before .before .loop-test .taken) (c .before .before .before .before .before .before .before .before .before .before .before .before .before .before .before .before .pre .1 .0) (c .before .before .before .before .before .before .loop .inv .1) in
-    (search needs, rank-next _ _ _ _ (c .before .before .before .before .before .before .loop .inv .1) (c .flag-of .ensures .0), search needs, written-next next (c .before .before .before .before .before .before .loop .inv .3) (c .before .before .before .write-entry .ensures))
+    let s = c .before .before .before .before .before .before .before .before .before .before .before .before .before .before .before .before in
+    let l = c .before .before .before .before .before .before .loop in
+    let a = s .args in
+    let next = entries-step (a .n) (a .access .now) (a .transit .now) (a .times .now) _ _ (c .before .before .before .before .before .loop-test .taken)
+      (s .pre .1 .0) (l .inv .1) in
+    (search needs, rank-next _ _ _ _ (l .inv .1) (c .flag-of .ensures .0), search needs, written-next next (l .inv .3) (c .before .before .before .write-entry .ensures))
 
 same-length : tie.Need-same-length Inv-loop μ-loop
 same-length c = search needs
@@ -67,6 +78,7 @@ write-list-spec =
     Inv-loop
     μ-loop
     count-requires
+    cast-write16
     write16-requires
     loop-holds
     write-entry-requires

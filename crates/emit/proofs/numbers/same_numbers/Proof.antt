@@ -2,7 +2,7 @@
 use Rattle.emit.proofs.Turns.{membersFrom, members-all, members-step, members-end}
 use Rattle.emit.proofs.Comparing.{Left, left-start, left-different, left-next, left-end}
 use Rattle.emit.specs.Parts.{numbersBytes}
-use Rattle.emit.specs.Members.{membersOf}
+use Rattle.bitset.specs.Members.{membersOf}
 use Rattle.model.specs.Bytes.{bytes16}
 use mathlib.Core.Path.{sym, _∙_}
 use Prim.Native.Nat.{_-_}
@@ -30,7 +30,9 @@ enum-told : tie.Need-enum-told Inv-loop μ-loop
 enum-told c = search needs
 
 returns : tie.Need-returns Inv-loop μ-loop
-returns c = sym (left-different (members-step _ _ _ _ (c .before .before .before .loop-test .taken)) (c .before .before .before .before .loop .inv) (sym (c .before .before .same-number .ensures) ∙ c .enum-told .given .1))
+returns c =
+    sym (left-different (members-step _ _ _ _ (c .before .before .before .loop-test .taken)) (c .before .before .before .before .loop .inv)
+      (sym (c .before .before .same-number .ensures) ∙ c .enum-told .given .1))
 
 add-u : tie.Need-add-u Inv-loop μ-loop
 add-u c = search needs
@@ -39,7 +41,9 @@ loop-less : tie.Need-loop-less Inv-loop μ-loop
 loop-less c = search needs
 
 loop-again : tie.Need-loop-again Inv-loop μ-loop
-loop-again c = left-next (members-step _ _ _ _ (c .before .before .before .before .loop-test .taken)) (c .before .before .before .before .before .loop .inv) (sym (c .before .before .before .same-number .ensures) ∙ c .before .next .given .1)
+loop-again c =
+    left-next (members-step _ _ _ _ (c .before .before .before .before .loop-test .taken)) (c .before .before .before .before .before .loop .inv)
+      (sym (c .before .before .before .same-number .ensures) ∙ c .before .next .given .1)
 
 returns-2 : tie.Need-returns-2 Inv-loop μ-loop
 returns-2 c = left-end (members-end _ _ _ _ (c .loop-test .left)) (c .before .loop .inv)

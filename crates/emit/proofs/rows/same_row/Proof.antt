@@ -2,7 +2,7 @@
 use Rattle.emit.proofs.Turns.{membersFrom, members-all, members-step, members-end}
 use Rattle.emit.proofs.Comparing.{Left, left-start, left-different, left-next, left-end}
 use Rattle.emit.specs.Parts.{timeBytes, rowBytes}
-use Rattle.emit.specs.Members.{membersOf}
+use Rattle.bitset.specs.Members.{membersOf}
 use mathlib.Core.Path.{sym, _∙_}
 use Prim.Native.Nat.{_-_}
 use borrow.Author.Needs.{needs}
@@ -19,8 +19,8 @@ loop-holds : tie.Need-loop-holds Inv-loop μ-loop
 unfolding rowBytes
 loop-holds c = left-start (members-all _ _ _)
 
-same-value-requires : tie.Need-same-value-requires Inv-loop μ-loop
-same-value-requires c κs = (search needs, search needs, c .before .loop .inv .within)
+same-time-requires : tie.Need-same-time-requires Inv-loop μ-loop
+same-time-requires c κs = (search needs, search needs, c .before .loop .inv .within)
 
 enum-known-next : tie.Need-enum-known-next Inv-loop μ-loop
 enum-known-next c = search needs
@@ -29,7 +29,9 @@ enum-told : tie.Need-enum-told Inv-loop μ-loop
 enum-told c = search needs
 
 returns : tie.Need-returns Inv-loop μ-loop
-returns c = sym (left-different (members-step _ _ _ _ (c .before .before .before .loop-test .taken)) (c .before .before .before .before .loop .inv) (sym (c .before .before .same-value .ensures) ∙ c .enum-told .given .1))
+returns c =
+    let next = members-step _ _ _ _ (c .before .before .before .loop-test .taken) in
+    sym (left-different next (c .before .before .before .before .loop .inv) (sym (c .before .before .same-time .ensures) ∙ c .enum-told .given .1))
 
 add-u : tie.Need-add-u Inv-loop μ-loop
 add-u c = search needs
@@ -38,7 +40,9 @@ loop-less : tie.Need-loop-less Inv-loop μ-loop
 loop-less c = search needs
 
 loop-again : tie.Need-loop-again Inv-loop μ-loop
-loop-again c = left-next (members-step _ _ _ _ (c .before .before .before .before .loop-test .taken)) (c .before .before .before .before .before .loop .inv) (sym (c .before .before .before .same-value .ensures) ∙ c .before .next .given .1)
+loop-again c =
+    let next = members-step _ _ _ _ (c .before .before .before .before .loop-test .taken) in
+    left-next next (c .before .before .before .before .before .loop .inv) (sym (c .before .before .before .same-time .ensures) ∙ c .before .next .given .1)
 
 returns-2 : tie.Need-returns-2 Inv-loop μ-loop
 returns-2 c = left-end (members-end _ _ _ _ (c .loop-test .left)) (c .before .loop .inv)
@@ -50,7 +54,7 @@ same-row-spec =
     Inv-loop
     μ-loop
     loop-holds
-    same-value-requires
+    same-time-requires
     enum-known-next
     enum-told
     returns

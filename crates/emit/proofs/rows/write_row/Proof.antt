@@ -3,7 +3,7 @@ use Rattle.emit.proofs.Turns.{membersFrom, members-all, members-step, m
 use Rattle.emit.proofs.Writing.{Written, written-start, written-fits, written-next, written-end}
 use Rattle.emit.specs.PartLaws.{length-row}
 use Rattle.emit.specs.Parts.{timeBytes, rowBytes}
-use Rattle.emit.specs.Members.{membersOf}
+use Rattle.bitset.specs.Members.{membersOf}
 use lib.ListN.{length}
 use mathlib.Core.Path.{_≡_, sym, _∙_}
 use Prim.Native.Nat.{_-_}
@@ -19,10 +19,12 @@ abbrev μ-loop : tie.MeasureT-loop
 
 loop-holds : tie.Need-loop-holds Inv-loop μ-loop
 unfolding rowBytes
-loop-holds c = (search needs, written-start (members-all _ _ _) (c .before .before .before .pre .2 ∙ sym (length-row (c .before .before .before .args .times .now) (membersOf (c .before .before .before .args .n) (c .before .before .before .args .set .now)))))
+loop-holds c =
+    let a = c .before .before .before .args in
+    (search needs, written-start (members-all _ _ _) (c .before .before .before .pre .2 ∙ sym (length-row (a .times .now) (membersOf (a .n) (a .set .now)))))
 
-write-value-requires : tie.Need-write-value-requires Inv-loop μ-loop
-write-value-requires c κs = (search needs, search needs, written-fits (members-step _ _ _ _ (c .before .loop-test .taken)) (c .before .before .loop .inv .1))
+write-time-requires : tie.Need-write-time-requires Inv-loop μ-loop
+write-time-requires c κs = (search needs, search needs, written-fits (members-step _ _ _ _ (c .before .loop-test .taken)) (c .before .before .loop .inv .1))
 
 add-v : tie.Need-add-v Inv-loop μ-loop
 add-v c = search needs
@@ -31,7 +33,9 @@ loop-less : tie.Need-loop-less Inv-loop μ-loop
 loop-less c = search needs
 
 loop-again : tie.Need-loop-again Inv-loop μ-loop
-loop-again c = (search needs, written-next (members-step _ _ _ _ (c .before .before .before .before .loop-test .taken)) (c .before .before .before .before .before .loop .inv .1) (c .before .before .write-value .ensures))
+loop-again c =
+    let next = members-step _ _ _ _ (c .before .before .before .before .loop-test .taken) in
+    (search needs, written-next next (c .before .before .before .before .before .loop .inv .1) (c .before .before .write-time .ensures))
 
 same-length : tie.Need-same-length Inv-loop μ-loop
 same-length c = search needs
@@ -46,7 +50,7 @@ write-row-spec =
     Inv-loop
     μ-loop
     loop-holds
-    write-value-requires
+    write-time-requires
     add-v
     loop-less
     loop-again

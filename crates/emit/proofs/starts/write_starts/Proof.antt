@@ -13,7 +13,8 @@ use Rattle.emit.proofs.starts.write_starts.Statement.{statement}
 use Rattle.emit.proofs.starts.write_starts.Tie as tie
 
 abbrev Inv-loop : tie.InvT-loop
-Inv-loop counts n out₀ start₀ v₀ out start v = (v ≤ n) × (start ≤ latest counts n v) × (length out ≡ length out₀) × Written (startsOf (startSize * n) (listSizes n counts)) (startSize * v) out (startsFrom counts n start v)
+Inv-loop counts n out₀ start₀ v₀ out start v =
+    (v ≤ n) × (start ≤ latest counts n v) × (length out ≡ length out₀) × Written (startsOf (startSize * n) (listSizes n counts)) (startSize * v) out (startsFrom counts n start v)
 
 abbrev μ-loop : tie.MeasureT-loop
 μ-loop counts n out₀ start₀ v₀ out start v = n - v
@@ -22,7 +23,10 @@ mul-start : tie.Need-mul-start Inv-loop μ-loop
 mul-start c = search needs
 
 loop-holds : tie.Need-loop-holds Inv-loop μ-loop
-loop-holds c = (search needs, search needs, search needs, written-start (starts-all _ _) (omega (arith, length-startsOf (startSize * c .before .before .args .n) (listSizes (c .before .before .args .n) (c .before .before .args .counts .now)), length-sizes (c .before .before .args .n) (c .before .before .args .counts .now))))
+loop-holds c =
+    (search needs, search needs, search needs, written-start (starts-all _ _)
+      (omega (arith, length-startsOf (startSize * c .before .before .args .n) (listSizes (c .before .before .args .n) (c .before .before .args .counts .now)),
+      length-sizes (c .before .before .args .n) (c .before .before .args .counts .now))))
 
 mul-write32 : tie.Need-mul-write32 Inv-loop μ-loop
 mul-write32 c = search needs
@@ -33,11 +37,25 @@ cast-write32 c = search needs
 write32-requires : tie.Need-write32-requires Inv-loop μ-loop
 write32-requires c κs = search needs
 
+mul-list-size : tie.Need-mul-list-size Inv-loop μ-loop
+mul-list-size c = search needs
+
+shared-slice-read-list-size : tie.Need-shared-slice-read-list-size Inv-loop μ-loop
+shared-slice-read-list-size c = search needs
+
+cast-list-size : tie.Need-cast-list-size Inv-loop μ-loop
+cast-list-size c = omega (arith, c .shared-slice-known2 .given (c .before .before .before .before .before .before .loop .v))
+
 list-size-requires : tie.Need-list-size-requires Inv-loop μ-loop
-list-size-requires c κs = search needs
+list-size-requires c κs = omega (arith, c .shared-slice-known2 .given (c .before .before .before .before .before .before .loop .v))
 
 add-start : tie.Need-add-start Inv-loop μ-loop
-add-start c = omega (arith, start-latest (c .before .before .before .before .before .before .before .before .before .args .counts .now) (c .before .before .before .before .before .before .before .before .before .args .n) (c .before .before .before .before .before .before .loop .v) (c .before .before .before .before .before .before .loop .start) _ (c .list-size .ensures) (c .before .before .before .before .before .before .before .before .before .pre .0 .2 (c .before .before .before .before .before .before .loop .v) (c .before .before .before .before .before .loop-test .taken)) (c .before .before .before .before .before .before .loop .inv .1))
+add-start c =
+    let s = c .before .before .before .before .before .before .before .before .before .before in
+    let a = s .args in
+    let l = c .before .before .before .before .before .before .before .loop in
+    let h = c .before .before .before .before .before .before .loop-test .taken in
+    omega (arith, start-latest (a .counts .now) (a .n) (l .v) (l .start) _ (c .list-size .ensures) (s .pre .0 .2 (l .v) h) (l .inv .1))
 
 add-v : tie.Need-add-v Inv-loop μ-loop
 add-v c = search needs
@@ -47,16 +65,21 @@ loop-less c = search needs
 
 loop-again : tie.Need-loop-again Inv-loop μ-loop
 loop-again c =
-    let a = c .before .before .before .before .before .before .before .before .before .args in
-    let more = start-latest (a .counts .now) (a .n) _ _ _ (c .list-size .ensures) (c .before .before .before .before .before .before .before .before .before .pre .0 .2 _ (c .before .before .before .before .before .loop-test .taken)) (c .before .before .before .before .before .before .loop .inv .1) in
-    let next = starts-step (a .counts .now) (a .n) _ _ _ (c .list-size .ensures) (c .before .before .before .before .before .loop-test .taken) in
-    (search needs, more, search needs, written-next next (c .before .before .before .before .before .before .loop .inv .3) (start-wrote _ _ _ _ (c .before .before .before .write32 .ensures)))
+    let s = c .before .before .before .before .before .before .before .before .before .before in
+    let a = s .args in
+    let h = c .before .before .before .before .before .before .loop-test .taken in
+    let l = c .before .before .before .before .before .before .before .loop in
+    let more = start-latest (a .counts .now) (a .n) _ _ _ (c .list-size .ensures) (s .pre .0 .2 _ h) (l .inv .1) in
+    let next = starts-step (a .counts .now) (a .n) _ _ _ (c .list-size .ensures) h in
+    (search needs, more, search needs, written-next next (l .inv .3) (start-wrote _ _ _ _ (c .before .before .before .before .write32 .ensures)))
 
 same-length : tie.Need-same-length Inv-loop μ-loop
 same-length c = search needs
 
 returns : tie.Need-returns Inv-loop μ-loop
-returns c = written-end (starts-end (c .before .before .before .before .args .counts .now) (c .before .before .before .before .args .n) _ _ (c .loop-test .left)) (c .before .loop .inv .3)
+returns c =
+    let a = c .before .before .before .before .args in
+    written-end (starts-end (a .counts .now) (a .n) _ _ (c .loop-test .left)) (c .before .loop .inv .3)
 
 pub write-starts-spec : {M : Type 1} → statement M
 write-starts-spec =
@@ -69,6 +92,9 @@ write-starts-spec =
     mul-write32
     cast-write32
     write32-requires
+    mul-list-size
+    shared-slice-read-list-size
+    cast-list-size
     list-size-requires
     add-start
     add-v

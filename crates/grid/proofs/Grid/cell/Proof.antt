@@ -16,10 +16,15 @@ unfolding nodeCount
 node-y-requires c κs = omega arith
 
 column-requires : tie.Need-column-requires
-column-requires c κs = rw (c .before .node-x .ensures) (holds (c .before .before .before .pre .0) false (c .before .before .before .args .i) (c .before .before .before .pre .1))
+column-requires c κs =
+    let p = c .before .before .before .pre in
+    rw (c .before .node-x .ensures) (holds (p .0) false (c .before .before .before .args .i) (p .1))
 
 row-requires : tie.Need-row-requires
-row-requires c κs = rw (c .before .node-y .ensures) (holds (c .before .before .before .before .pre .0) true (c .before .before .before .before .args .i) (c .before .before .before .before .pre .1))
+row-requires c κs =
+    let s = c .before .before .before .before in
+    let p = s .pre in
+    rw (c .before .node-y .ensures) (holds (p .0) true (s .args .i) (p .1))
 
 returns : tie.Need-returns
 unfolding cellOf

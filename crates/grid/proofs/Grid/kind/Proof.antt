@@ -9,10 +9,10 @@ is-far-requires : tie.Need-is-far-requires
 is-far-requires c κs = search needs
 
 returns : tie.Need-returns
-returns c = sym (kind-far _ _ ∙ rw (← c .before .is-far .ensures, c .if1 .taken))
+returns c = sym (kind-far _ _ _ ∙ rw (← c .before .is-far .ensures, c .if1 .taken))
 
 returns-2 : tie.Need-returns-2
-returns-2 c = sym (kind-far _ _ ∙ rw (← c .before .is-far .ensures, c .if1 .left))
+returns-2 c = sym (kind-far _ _ _ ∙ rw (← c .before .is-far .ensures, c .if1 .left))
 
 pub kind-spec : {M : Type 1} → statement M
 kind-spec = tie.close (tie.spec is-far-requires returns returns-2)

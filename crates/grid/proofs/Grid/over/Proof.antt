@@ -14,17 +14,24 @@ over-requires-2 : tie.Need-over-requires-2
 over-requires-2 c κs = search needs
 
 sub-larger : tie.Need-sub-larger
-sub-larger c = omega (arith, least-greatest false (c .before .before .before .before .args .b .now) (c .before .before .before .before .pre), c .before .before .over .ensures)
+sub-larger c =
+    let s = c .before .before .before .before in
+    omega (arith, least-greatest false (s .args .b .now) (s .pre), c .before .before .over .ensures)
 
 sub-larger-2 : tie.Need-sub-larger-2
-sub-larger-2 c = omega (arith, least-greatest true (c .before .before .before .before .before .args .b .now) (c .before .before .before .before .before .pre), c .before .before .over2 .ensures)
+sub-larger-2 c =
+    let s = c .before .before .before .before .before in
+    omega (arith, least-greatest true (s .args .b .now) (s .pre), c .before .before .over2 .ensures)
 
 larger-requires : tie.Need-larger-requires
 larger-requires c κs = search needs
 
 returns : tie.Need-returns
 unfolding gridOver
-returns c = rw (c .larger .ensures, c .before .before .before .before .over .ensures .0, c .before .before .before .before .over .ensures .1, c .before .before .before .over2 .ensures .0, c .before .before .before .over2 .ensures .1)
+returns c =
+    let over = c .before .before .before .before .over in
+    let over2 = c .before .before .before .over2 in
+    rw (c .larger .ensures, over .ensures .0, over .ensures .1, over2 .ensures .0, over2 .ensures .1)
 
 pub over-spec : {M : Type 1} → statement M
 over-spec =

@@ -24,7 +24,11 @@ div-result : tie.Need-div-result
 div-result c = search needs
 
 returns : tie.Need-returns
-returns c = start-read (c .before .before .before .before .args .self) (c .before .before .before .before .pre) (c .before .before .before .before .args .k) (c .before .before .before .cut .result) (c .before .before .before .cut .ensures)
+returns c =
+    let s = c .before .before .before .before in
+    let a = s .args in
+    let cut = c .before .before .before .cut in
+    start-read (a .self) (s .pre) (a .k) (cut .result) (cut .ensures)
 
 pub start-spec : {M : Type 1} → statement M
 start-spec =

@@ -1,46 +1,50 @@
 -- `queue::lower` meets its contract: the node rises from where it stands.
-use Prim.Native.Nat.{_<_}
-use native.Mathlib.Omega.{arith}
-use borrow.Author.Needs.{needs}
-use Rattle.model.specs.Oracle.{noWalk}
 use Rattle.heap.proofs.ReachLaws.{stored, read-same, lower-from, lower-done}
+use Rattle.model.specs.Oracle.{noWalk}
+use native.Mathlib.Omega.{arith}
+use Prim.Native.Nat.{_<_}
+use borrow.Author.Needs.{needs}
 use Rattle.heap.proofs.queue.lower.Statement.{statement}
 use Rattle.heap.proofs.queue.lower.Tie as tie
 
-mul-w : tie.Need-mul-w
-mul-w c = search needs
-
-slice-write-w : tie.Need-slice-write-w
-slice-write-w c = search needs
+store-time-requires : tie.Need-store-time-requires
+store-time-requires c κs = search needs
 
 position-of-requires : tie.Need-position-of-requires
 position-of-requires c κs =
-    let a = c .before .before .args in
-    let p = c .before .before .pre in
+    let s = c .before .before .before .before .before .before in
+    let a = s .args in
+    let p = s .pre in
     let small : a .x < noWalk = omega (arith, p .0 .reached (a .v) (p .1) (p .2), p .3) in
-    (stored (a .n) (a .k) (a .e) (a .v) (a .x) (a .w .now) (p .0) (p .1) small, p .1)
+    (stored (a .n) (a .k) (a .e) (a .v) (a .x) (a .w .now) (p .0) (p .1) small _ (c .before .before .before .store-time .ensures), p .1)
 
 up-requires : tie.Need-up-requires
 up-requires c κs =
-    let a = c .before .before .before .before .args in
-    let p = c .before .before .before .before .pre in
+    let s = c .before .before .before .before .before .before .before .before in
+    let store-time = c .before .before .before .before .before .store-time in
+    let a = s .args in
+    let p = s .pre in
     let small : a .x < noWalk = omega (arith, p .0 .reached (a .v) (p .1) (p .2), p .3) in
     let q = p .0 in
     let h = q .held in
     let g = q .room in
-    let r = read-same (a .n) (a .k) (a .e) (a .v) (a .x) (a .w .now) q (p .1) small _ (c .before .position-of .ensures .0) in
-    (stored (a .n) (a .k) (a .e) (a .v) (a .x) (a .w .now) q (p .1) small, omega arith, omega arith, lower-from (a .n) (a .k) (a .e) (a .v) (a .x) (a .w .now) q (p .1) small _ (c .before .position-of .ensures .0) (p .2) (p .3))
+    let r = read-same (a .n) (a .k) (a .e) (a .v) (a .x) (a .w .now) q (p .1) small _ (store-time .ensures) _ (c .before .position-of .ensures .0) in
+    (stored (a .n) (a .k) (a .e) (a .v) (a .x) (a .w .now) q (p .1) small _ (store-time .ensures), omega arith, omega arith,
+      lower-from (a .n) (a .k) (a .e) (a .v) (a .x) (a .w .now) q (p .1) small _ (store-time .ensures) _ (c .before .position-of .ensures .0) (p .2) (p .3))
 
 same-length : tie.Need-same-length
 same-length c = search needs
 
 returns : tie.Need-returns
 returns c =
-    let a = c .before .before .before .before .before .before .before .args in
-    let p = c .before .before .before .before .before .before .before .pre in
+    let s = c .before .before .before .before .before .before .before .before .before .before .before in
+    let a = s .args in
+    let p = s .pre in
     let small : a .x < noWalk = omega (arith, p .0 .reached (a .v) (p .1) (p .2), p .3) in
-    lower-done (a .n) (a .k) (a .e) (a .v) (a .x) (a .w .now) (p .0) (p .1) small _ (c .before .before .before .before .position-of .ensures .0) (p .2) (p .3) _ (c .before .before .up .ensures)
+    lower-done (a .n) (a .k) (a .e) (a .v) (a .x) (a .w .now) (p .0) (p .1) small _
+      (c .before .before .before .before .before .before .before .before .store-time .ensures) _ (c .before .before .before .before .position-of .ensures .0)
+      (p .2) (p .3) _ (c .before .before .up .ensures)
 
 pub lower-spec : {M : Type 1} → statement M
 lower-spec =
-    tie.close (tie.spec mul-w slice-write-w position-of-requires up-requires same-length returns)
+    tie.close (tie.spec store-time-requires position-of-requires up-requires same-length returns)

@@ -22,8 +22,9 @@ sub-swap-3 c = search needs
 
 swap-requires-2 : tie.Need-swap-requires-2
 swap-requires-2 c κs =
-    let a = c .before .before .before .before .before .before .before .before .args in
-    let p = c .before .before .before .before .before .before .before .before .pre in
+    let s = c .before .before .before .before .before .before .before .before in
+    let a = s .args in
+    let p = s .pre in
     let h = p .0 .held in
     let g = p .0 .room in
     (take-placed (a .n) (a .k) (a .e) (a .w .now) (p .0) (p .1) _ (c .before .before .before .swap .ensures), omega arith, omega arith)
@@ -33,11 +34,13 @@ sub-down c = search needs
 
 down-requires : tie.Need-down-requires
 down-requires c κs =
-    let a = c .before .before .before .before .before .before .before .before .before .before .before .before .args in
-    let p = c .before .before .before .before .before .before .before .before .before .before .before .before .pre in
+    let s = c .before .before .before .before .before .before .before .before .before .before .before .before in
+    let a = s .args in
+    let p = s .pre in
     let h = p .0 .held in
     let g = p .0 .room in
-    let f = take-from (a .n) (a .k) (a .e) (a .w .now) (p .0) (p .1) _ (c .before .before .before .before .before .before .before .swap .ensures) _ (c .before .before .before .swap2 .ensures) in
+    let f = take-from (a .n) (a .k) (a .e) (a .w .now) (p .0) (p .1) _ (c .before .before .before .before .before .before .before .swap .ensures) _
+      (c .before .before .before .swap2 .ensures) in
     (f .0, omega arith, f .1)
 
 same-length : tie.Need-same-length
@@ -45,9 +48,13 @@ same-length c = search needs
 
 returns : tie.Need-returns
 returns c =
-    let a = c .before .before .before .before .before .before .before .before .before .before .before .before .before .before .before .args in
-    let p = c .before .before .before .before .before .before .before .before .before .before .before .before .before .before .before .pre in
-    take-done (a .n) (a .k) (a .e) (a .w .now) (p .0) (p .1) _ (c .before .before .before .before .before .before .before .before .before .before .swap .ensures) _ (c .before .before .before .before .before .before .swap2 .ensures) _ (c .before .before .down .ensures) _ (c .before .before .before .before .before .before .before .before .before .before .before .before .node-at .ensures .0)
+    let s = c .before .before .before .before .before .before .before .before .before .before .before .before .before .before .before in
+    let a = s .args in
+    let p = s .pre in
+    take-done (a .n) (a .k) (a .e) (a .w .now) (p .0) (p .1) _
+      (c .before .before .before .before .before .before .before .before .before .before .swap .ensures) _
+      (c .before .before .before .before .before .before .swap2 .ensures) _ (c .before .before .down .ensures) _
+      (c .before .before .before .before .before .before .before .before .before .before .before .before .node-at .ensures .0)
 
 pub take-nearest-spec : {M : Type 1} → statement M
 take-nearest-spec =

@@ -13,8 +13,9 @@ same-length c = search needs
 
 returns : tie.Need-returns
 returns c =
-    let a = c .before .before .before .before .args in
-    let p = c .before .before .before .before .pre in
+    let s = c .before .before .before .before in
+    let a = s .args in
+    let p = s .pre in
     fall-leaf (a .n) (a .k) (a .i) (a .w .now) (p .0) (p .1) (p .3) (c .before .lesser .ensures .1 (c .if1 .taken))
 
 key-at-requires : tie.Need-key-at-requires
@@ -36,9 +37,12 @@ same-length-2 c = search needs
 
 returns-2 : tie.Need-returns-2
 returns-2 c =
-    let a = c .before .before .before .before .before .before .before .before .before .args in
-    let p = c .before .before .before .before .before .before .before .before .before .pre in
-    fall-stop (a .n) (a .k) (a .i) (a .w .now) (p .0) (p .1) (p .3) _ (c .before .before .before .before .before .before .lesser .ensures .0 (omega (arith, c .before .before .before .before .before .if1 .left))) (omega (arith, c .before .before .before .key-at .ensures, c .before .key-at2 .ensures, c .if2 .taken))
+    let s = c .before .before .before .before .before .before .before .before .before in
+    let a = s .args in
+    let p = s .pre in
+    fall-stop (a .n) (a .k) (a .i) (a .w .now) (p .0) (p .1) (p .3) _ (c .before .before .before .before .before .before .lesser .ensures .0
+      (omega (arith, c .before .before .before .before .before .if1 .left)))
+      (omega (arith, c .before .before .before .key-at .ensures, c .before .key-at2 .ensures, c .if2 .taken))
 
 swap-requires : tie.Need-swap-requires
 swap-requires c κs =
@@ -52,9 +56,14 @@ same-length-3 c = search needs
 
 returns-3 : tie.Need-returns-3
 returns-3 c =
-    let a = c .before .before .before .before .before .before .before .before .before .before .before .before .before .args in
-    let p = c .before .before .before .before .before .before .before .before .before .before .before .before .before .pre in
-    fall-move (a .n) (a .k) (a .i) (a .w .now) (p .0) (p .1) (p .3) _ (c .before .before .before .before .before .before .before .before .before .before .lesser .ensures .0 (omega (arith, c .before .before .before .before .before .before .before .before .before .if1 .left))) (omega (arith, c .before .before .before .before .before .before .before .key-at .ensures, c .before .before .before .before .before .key-at2 .ensures, c .before .before .before .before .if2 .left)) _ (c .before .before .swap .ensures)
+    let s = c .before .before .before .before .before .before .before .before .before .before .before .before .before in
+    let a = s .args in
+    let p = s .pre in
+    fall-move (a .n) (a .k) (a .i) (a .w .now) (p .0) (p .1) (p .3) _
+      (c .before .before .before .before .before .before .before .before .before .before .lesser .ensures .0
+      (omega (arith, c .before .before .before .before .before .before .before .before .before .if1 .left)))
+      (omega (arith, c .before .before .before .before .before .before .before .key-at .ensures,
+      c .before .before .before .before .before .key-at2 .ensures, c .before .before .before .before .if2 .left)) _ (c .before .before .swap .ensures)
 
 pub fall-spec : {M : Type 1} → statement M
 fall-spec =

@@ -29,7 +29,9 @@ same-length : tie.Need-same-length
 same-length c = search needs
 
 returns : tie.Need-returns
-returns c = let a = c .before .before .before .before .before .before .before .before .before .args in clear-words (a .n) _ (length (a .ix .now)) _ _ (c .before .before .before .before .before .before .fill .ensures) (c .before .before .fill2 .ensures) (search needs)
+returns c =
+    let a = c .before .before .before .before .before .before .before .before .before .args in
+    clear-words (a .n) _ (length (a .ix .now)) _ _ (c .before .before .before .before .before .before .fill .ensures) (c .before .before .fill2 .ensures) (search needs)
 
 pub clear-spec : {M : Type 1} → statement M
 clear-spec =

@@ -35,7 +35,11 @@ div-list-open : tie.Need-div-list-open Inv-loop μ-loop
 div-list-open c = search needs
 
 list-open-requires : tie.Need-list-open-requires Inv-loop μ-loop
-list-open-requires c κs = ((c .before .before .before .before .before .before .before .pre .0 .0, c .before .before .before .before .before .before .before .pre .0 .1, omega arith), ((search needs, search needs, search needs, omega (arith, div-le-self (c .before .before .before .loop .i) (c .before .before .before .before .before .before .before .args .s))), chained-growing _ _ _ _ _ _ _ (c .before .before .before .loop .inv .5)))
+list-open-requires c κs =
+    let start = c .before .before .before .before .before .before .before in
+    let p = start .pre in
+    let l = c .before .before .before .loop in
+    ((p .0 .0, p .0 .1, omega arith), ((search needs, search needs, search needs, omega (arith, div-le-self (l .i) (start .args .s))), chained-growing _ _ _ _ _ _ _ (l .inv .5)))
 
 add-i : tie.Need-add-i Inv-loop μ-loop
 add-i c = search needs
@@ -44,7 +48,10 @@ loop-less : tie.Need-loop-less Inv-loop μ-loop
 loop-less c = search needs
 
 loop-again : tie.Need-loop-again Inv-loop μ-loop
-loop-again c = (omega arith, search needs, omega (arith, c .before .before .list-open .ensures .0 .more), omega (arith, c .before .before .list-open .ensures .0 .few), search needs, chained-more _ _ _ _ (c .before .before .before .before .before .before .loop .i) _ _ _ _ _ refl (c .before .before .before .before .before .before .loop .inv .5) (c .before .before .list-open .ensures))
+loop-again c =
+    let l = c .before .before .before .before .before .before .loop in
+    (omega arith, search needs, omega (arith, c .before .before .list-open .ensures .0 .more), omega (arith, c .before .before .list-open .ensures .0 .few),
+      search needs, chained-more _ _ _ _ (l .i) _ _ _ _ _ refl (l .inv .5) (c .before .before .list-open .ensures))
 
 same-length-2 : tie.Need-same-length-2 Inv-loop μ-loop
 same-length-2 c = search needs

@@ -1,4 +1,5 @@
 -- `open::is_open` meets its contract: the position looked for is never below `low` and never from `high` on.
+use Rattle.model.specs.Bytes.{numberSize}
 use Prim.Native.Nat.{_/_, _≤_, _-_}
 use native.Mathlib.Omega.{arith}
 use borrow.Author.Needs.{needs}
@@ -8,7 +9,7 @@ use Rattle.index.proofs.open.is_open.Statement.{statement}
 use Rattle.index.proofs.open.is_open.Tie as tie
 
 abbrev Inv-loop : tie.InvT-loop
-Inv-loop closed m i low₀ high₀ low high = (low ≤ high) × (high ≤ length closed / 2) × Hidden closed i low high
+Inv-loop closed m i low₀ high₀ low high = (low ≤ high) × (high ≤ length closed / numberSize) × Hidden closed i low high
 
 abbrev μ-loop : tie.MeasureT-loop
 μ-loop closed m i low₀ high₀ low high = high - low
@@ -35,13 +36,18 @@ loop-less : tie.Need-loop-less Inv-loop μ-loop
 loop-less c = search needs
 
 loop-again : tie.Need-loop-again Inv-loop μ-loop
-loop-again c = (omega arith, omega arith, hidden-above _ _ _ (c .before .before .before .before .before .before .pre) _ _ _ _ (c .before .before .before .before .loop .inv .2) (omega arith) (c .before .before .number .ensures .0) (c .if2 .taken))
+loop-again c =
+    (omega arith, omega arith, hidden-above _ _ _ (c .before .before .before .before .before .before .pre) _ _ _ _
+      (c .before .before .before .before .loop .inv .2) (omega arith) (c .before .before .number .ensures .0) (c .if2 .taken))
 
 loop-less-2 : tie.Need-loop-less-2 Inv-loop μ-loop
 loop-less-2 c = search needs
 
 loop-again-2 : tie.Need-loop-again-2 Inv-loop μ-loop
-loop-again-2 c = (omega arith, omega arith, hidden-below _ _ _ (c .before .before .before .before .before .before .pre) _ _ _ _ (c .before .before .before .before .loop .inv .2) (omega arith) (c .before .before .number .ensures .0) (omega (arith, c .before .if1 .left, c .if2 .left)))
+loop-again-2 c =
+    (omega arith, omega arith, hidden-below _ _ _ (c .before .before .before .before .before .before .pre) _ _ _ _
+      (c .before .before .before .before .loop .inv .2) (omega arith) (c .before .before .number .ensures .0)
+      (omega (arith, c .before .if1 .left, c .if2 .left)))
 
 returns-2 : tie.Need-returns-2 Inv-loop μ-loop
 returns-2 c = hidden-open _ _ _ (c .before .before .before .pre) _ _ (omega arith) (c .before .loop .inv .2)

@@ -22,7 +22,9 @@ same-length c = search needs
 
 returns : tie.Need-returns
 unfolding noneText
-returns c = wrote-both _ _ (c .before .before .before .before .before .before .before .before .before .before .pre) (c .before .before .before .before .before .before .write-text .ensures) (c .before .before .write-kind .ensures)
+returns c =
+    wrote-both _ _ (c .before .before .before .before .before .before .before .before .before .before .pre)
+      (c .before .before .before .before .before .before .write-text .ensures) (c .before .before .write-kind .ensures)
 
 pub write-none-spec : {M : Type 1} → statement M
 write-none-spec =

@@ -14,19 +14,28 @@ write-text-requires : tie.Need-write-text-requires
 write-text-requires c κs = room-first _ (decimal (c .before .before .before .args .rule) ++ lineFeed) (rw refused-parts at (c .before .before .before .pre))
 
 write-decimal-requires : tie.Need-write-decimal-requires
-write-decimal-requires c κs = room-first _ lineFeed (room-second _ (decimal (c .before .before .before .before .before .before .before .args .rule) ++ lineFeed) (rw refused-parts at (c .before .before .before .before .before .before .before .pre)) (c .before .before .before .write-text .ensures))
+write-decimal-requires c κs =
+    let s = c .before .before .before .before .before .before .before in
+    room-first _ lineFeed (room-second _ (decimal (s .args .rule) ++ lineFeed) (rw refused-parts at (s .pre)) (c .before .before .before .write-text .ensures))
 
 write-byte-requires : tie.Need-write-byte-requires
-write-byte-requires c κs = room-second _ lineFeed (room-second _ _ (rw refused-parts at (c .before .before .before .before .before .before .before .before .before .before .before .pre)) (c .before .before .before .before .before .before .before .write-text .ensures)) (c .before .before .before .write-decimal .ensures)
+write-byte-requires c κs =
+    room-second _ lineFeed
+      (room-second _ _ (rw refused-parts at (c .before .before .before .before .before .before .before .before .before .before .before .pre))
+      (c .before .before .before .before .before .before .before .write-text .ensures)) (c .before .before .before .write-decimal .ensures)
 
 same-length : tie.Need-same-length
 same-length c = search needs
 
 returns : tie.Need-returns
 returns c =
-    let one = rw refused-parts at (c .before .before .before .before .before .before .before .before .before .before .before .before .before .before .pre) in
-    let two = room-second _ (decimal (c .before .before .before .before .before .before .before .before .before .before .before .before .before .before .args .rule) ++ lineFeed) one (c .before .before .before .before .before .before .before .before .before .before .write-text .ensures) in
-    holds _ (c .before .before .before .before .before .before .before .before .before .before .before .before .before .before .pre) (rw refused-parts (wrote-both _ _ one (c .before .before .before .before .before .before .before .before .before .before .write-text .ensures) (wrote-both _ _ two (c .before .before .before .before .before .before .write-decimal .ensures) (c .before .before .write-byte .ensures))))
+    let s = c .before .before .before .before .before .before .before .before .before .before .before .before .before .before in
+    let p = s .pre in
+    let write-text = c .before .before .before .before .before .before .before .before .before .before .write-text in
+    let one = rw refused-parts at (p) in
+    let two = room-second _ (decimal (s .args .rule) ++ lineFeed) one (write-text .ensures) in
+    holds _ (p) (rw refused-parts (wrote-both _ _ one (write-text .ensures)
+      (wrote-both _ _ two (c .before .before .before .before .before .before .write-decimal .ensures) (c .before .before .write-byte .ensures))))
 
 pub write-refused-spec : {M : Type 1} → statement M
 write-refused-spec =

@@ -7,7 +7,9 @@ use Rattle.lines.proofs.program.print_row.Statement.{statement}
 use Rattle.lines.proofs.program.print_row.Tie as tie
 
 write-row-requires : tie.Need-write-row-requires
-write-row-requires c κs = (c .before .before .before .before .before .pre .0, c .before .before .before .before .before .pre .1, room-row _ _ _ (c .before .before .before .before .before .pre .2))
+write-row-requires c κs =
+    let p = c .before .before .before .before .before .pre in
+    (p .0, p .1, room-row _ _ _ (p .2))
 
 slice-reshare-prefix-write-all : tie.Need-slice-reshare-prefix-write-all
 slice-reshare-prefix-write-all c = search needs

@@ -1,7 +1,7 @@
 -- `program::print_rows` meets its contract. Assumes nothing.
 use Rattle.model.specs.Network.{nodeCount}
 use Rattle.model.specs.Contents.{nodeBody}
-use Rattle.query.specs.Opened.{Opened}
+use Rattle.opened.specs.Opened.{Opened}
 use lib.ListN.{length}
 use mathlib.Core.Path.{_≡_}
 use Prim.Native.Nat.{_-_}

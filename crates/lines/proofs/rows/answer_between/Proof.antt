@@ -1,7 +1,6 @@
 -- `rows::answer_between` meets its contract. Assumes nothing.
 use mathlib.Core.Path.{_∙_, sym}
-use Rattle.lines.proofs.Turns.{word-of}
-use Rattle.query.proofs.Answers.{local-is}
+use Rattle.opened.proofs.SearchWords.{local-is, toward-word}
 use Rattle.theory.specs.Passed.{all-shaped}
 use Rattle.model.specs.Query.{timeAnswer, answerOf}
 use borrow.Author.Needs.{needs}
@@ -15,7 +14,9 @@ enum-told : tie.Need-enum-told
 enum-told c = search needs
 
 far-of-requires : tie.Need-far-of-requires
-far-of-requires c κs = (c .before .before .before .before .before .pre .0 .shape, c .before .before .before .before .before .pre .1, c .before .before .before .before .before .pre .2)
+far-of-requires c κs =
+    let p = c .before .before .before .before .before .pre in
+    (p .0 .shape, p .1, p .2)
 
 enum-told-2 : tie.Need-enum-told-2
 enum-told-2 c = search needs
@@ -35,7 +36,10 @@ returns c = rw (sym (c .before .before .before .opened-kind .ensures) ∙ c .bef
 
 returns-2 : tie.Need-returns-2
 unfolding timeAnswer answerOf
-returns-2 c = rw (sym (c .before .before .before .before .opened-kind .ensures) ∙ c .before .before .enum-told2 .given .1) (c .answer-of .ensures ∙ local-is _ (all-shaped _ (c .before .before .before .before .before .before .before .pre .0 .shape)) _ _ _ (c .before .before .before .before .before .before .before .pre .1) (word-of _ _ _ _ (c .before .before .before .before .before .before .before .pre .3) (c .before .before .before .before .before .before .before .pre .2)))
+returns-2 c =
+    let p = c .before .before .before .before .before .before .before .pre in
+    rw (sym (c .before .before .before .before .opened-kind .ensures) ∙ c .before .before .enum-told2 .given .1)
+      (c .answer-of .ensures ∙ local-is _ (all-shaped _ (p .0 .shape)) _ _ _ (p .1) (toward-word _ _ _ _ (p .3) (p .2)))
 
 pub answer-between-spec : {M : Type 1} → statement M
 answer-between-spec =

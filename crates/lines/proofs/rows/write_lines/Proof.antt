@@ -26,7 +26,9 @@ loop-holds : tie.Need-loop-holds Inv-loop μ-loop
 loop-holds c = (search needs, search needs, begun-start _ _ _ (c .before .before .before .before .pre .3))
 
 write-line-requires : tie.Need-write-line-requires Inv-loop μ-loop
-write-line-requires c κs = ((c .before .before .before .before .before .before .before .pre .0, c .before .before .before .before .before .before .before .pre .1, omega (arith, c .before .before .loop .inv .0), c .before .before .before .before .before .before .before .pre .2), begun-fits _ _ (c .before .before .loop .inv .2) (omega (arith, c .before .before .loop .inv .0)))
+write-line-requires c κs =
+    let p = c .before .before .before .before .before .before .before .pre in
+    ((p .0, p .1, omega (arith, c .before .before .loop .inv .0), p .2), begun-fits _ _ (c .before .before .loop .inv .2) (omega (arith, c .before .before .loop .inv .0)))
 
 add-t-2 : tie.Need-add-t-2 Inv-loop μ-loop
 add-t-2 c = search needs
@@ -35,7 +37,10 @@ loop-less : tie.Need-loop-less Inv-loop μ-loop
 loop-less c = search needs
 
 loop-again : tie.Need-loop-again Inv-loop μ-loop
-loop-again c = (search needs, search needs, begun-next _ _ (c .before .before .before .before .before .loop .inv .2) (omega (arith, c .before .before .before .before .before .loop .inv .0, c .before .before .before .before .loop-test .taken)) (c .before .before .write-line .ensures))
+loop-again c =
+    let l = c .before .before .before .before .before .loop in
+    (search needs, search needs, begun-next _ _ (l .inv .2) (omega (arith, l .inv .0, c .before .before .before .before .loop-test .taken))
+      (c .before .before .write-line .ensures))
 
 same-length : tie.Need-same-length Inv-loop μ-loop
 same-length c = search needs

@@ -24,7 +24,9 @@ same-length : tie.Need-same-length
 same-length c = search needs
 
 returns : tie.Need-returns
-returns c = wrote-part (c .before .before .before .before .before .before .args .out .now) (c .before .before .before .before .before .before .args .text .now) (c .before .before .copy .last .1 .0) (c .before .before .before .before .before .before .args .at) (c .before .before .copy .ensures)
+returns c =
+    let a = c .before .before .before .before .before .before .args in
+    wrote-part (a .out .now) (a .text .now) (c .before .before .copy .last .1 .0) (a .at) (c .before .before .copy .ensures)
 
 pub write-text-spec : {M : Type 1} → statement M
 write-text-spec =

@@ -1,7 +1,7 @@
 -- `own::own_access` meets its contract: the code's cell of u is its cell in the list of cells.
 use native.Mathlib.Omega.{arith}
 use borrow.Author.Needs.{needs}
-use Rattle.layout.specs.Regions.{own}
+use Rattle.words.specs.Regions.{own}
 use Rattle.passes.proofs.Listing.{access-listed}
 use Rattle.passes.proofs.own.own_access.Statement.{statement}
 use Rattle.passes.proofs.own.own_access.Tie as tie
@@ -17,9 +17,11 @@ same-length c = search needs
 
 returns : tie.Need-returns
 returns c =
-    let a = c .before .before .before .before .before .before .before .before .before .args in
-    let p = c .before .before .before .before .before .before .before .before .before .pre .0 in
-    (access-listed (a .nodes .now) (a .edges .now) (a .closed .now) (a .grid) (p .0) (a .n) (p .1) (a .u) (p .3) own _ _ (c .before .before .before .before .cell .ensures) (c .before .before .cell-access .ensures .0), c .before .before .cell-access .ensures .1)
+    let s = c .before .before .before .before .before .before .before .before .before in
+    let a = s .args in
+    let p = s .pre .0 in
+    (access-listed (a .nodes .now) (a .edges .now) (a .closed .now) (a .grid) (a .n) (p .1) (a .u) (p .3) own _ _
+      (c .before .before .before .before .cell .ensures) (c .before .before .cell-access .ensures .0), c .before .before .cell-access .ensures .1)
 
 pub own-access-spec : {M : Type 1} → statement M
 own-access-spec = tie.close (tie.spec cell-requires cell-access-requires same-length returns)

@@ -23,8 +23,12 @@ same-length c = search needs
 
 returns : tie.Need-returns
 returns c =
-    let r = sought-made (c .before .before .before .before .before .before .before .before .before .before .before .before .before .before .before .before .before .before .args .n) (omega (arith, c .before .before .before .before .before .before .before .before .before .before .before .before .before .before .before .before .before .before .pre .0 .3)) _ _ _ (c .before .before .before .before .before .before .before .before .clear .ensures .0) (c .before .before .before .before .before .before .before .before .clear .ensures .1) (c .before .before .before .before .unite .ensures .0) (c .before .before .before .before .unite .ensures .1) _ (c .count .ensures) in
-    (r .0 ∙ c .before .before .before .before .before .before .before .before .before .before .before .before .own-access .ensures .0, (r .1, r .2 ∙ c .before .before .before .before .before .before .before .before .before .before .before .before .own-access .ensures .1))
+    let s = c .before .before .before .before .before .before .before .before .before .before .before .before .before .before .before .before .before .before in
+    let clear = c .before .before .before .before .before .before .before .before .clear in
+    let unite = c .before .before .before .before .unite in
+    let own-access = c .before .before .before .before .before .before .before .before .before .before .before .before .own-access in
+    let r = sought-made (s .args .n) (omega (arith, s .pre .0 .3)) _ _ _ (clear .ensures .0) (clear .ensures .1) (unite .ensures .0) (unite .ensures .1) _ (c .count .ensures) in
+    (r .0 ∙ own-access .ensures .0, (r .1, r .2 ∙ own-access .ensures .1))
 
 pub own-wanted-spec : {M : Type 1} → statement M
 own-wanted-spec =

@@ -1,6 +1,6 @@
 -- `questions::open` meets its contract.
 use mathlib.Core.Path.{_∙_, sym, refl}
-use Rattle.query.proofs.Asking.{room-kept}
+use Rattle.checks.proofs.RulesKept.{room-kept}
 use borrow.Author.Needs.{needs}
 use Rattle.query.proofs.questions.open.Statement.{statement}
 use Rattle.query.proofs.questions.open.Tie as tie
@@ -18,7 +18,12 @@ same-length : tie.Need-same-length
 same-length c = search needs
 
 returns-2 : tie.Need-returns-2
-returns-2 c = record { rule = sym (c .before .before .before .before .if1 .left) ∙ c .before .before .before .before .before .room-refusal .ensures; opened = λ e. c .before .before .open-words .ensures .0; unwritten = λ n. absurd (n refl); rest = c .before .before .open-words .ensures .1 }
+returns-2 c =
+    let room-refusal = c .before .before .before .before .before .room-refusal in
+    let if1 = c .before .before .before .before .if1 in
+    let open-words = c .before .before .open-words in
+    let opened = open-words .ensures in
+    record { rule = sym (if1 .left) ∙ room-refusal .ensures; opened = λ e. opened .0; unwritten = λ n. absurd (n refl); rest = opened .1 }
 
 pub open-spec : {M : Type 1} → statement M
 open-spec =

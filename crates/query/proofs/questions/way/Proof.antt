@@ -1,18 +1,28 @@
 -- `questions::way` meets its contract.
-use mathlib.Core.Path.{refl}
-use Rattle.query.proofs.Asking.{pair-there, route-refused, route-given, stays}
+use mathlib.Core.Path.{_∙_, sym, refl}
+use Rattle.opened.proofs.OpenLaws.{stays}
+use Rattle.checks.proofs.RulesKept.{pair-kept}
+use Rattle.query.proofs.Results.{as-time, way-refused, way-given}
 use borrow.Author.Needs.{needs}
 use Rattle.query.proofs.questions.way.Statement.{statement}
 use Rattle.query.proofs.questions.way.Tie as tie
 
-named-refusal-requires : tie.Need-named-refusal-requires
-named-refusal-requires c κs = search needs
+named-pair-refusal-requires : tie.Need-named-pair-refusal-requires
+named-pair-refusal-requires c κs = search needs
 
 returns : tie.Need-returns
-returns c = let a = c .before .before .before .before .before .args in let k = route-refused (a .o .now) (a .s) (a .t) (a .work .now) (c .before .before .before .before .before .pre) _ (c .before .named-refusal .ensures) (a .out .now) (c .if1 .taken) in (k .0, (k .1, (c .before .before .before .before .before .pre, refl)))
+returns c =
+    let p = c .before .before .before .before .before .pre in
+    let k = way-refused _ _ _ _ _ (as-time _ _ _ _ p _ (c .before .named-pair-refusal .ensures)) _ (c .if1 .taken) in
+    (k .result, (k .bytes, (p, refl)))
 
 way-of-requires : tie.Need-way-of-requires
-way-of-requires c κs = let a = c .before .before .before .before .before .before .before .args in let k = pair-there (a .o .now) (a .s) (a .t) (a .work .now) (c .before .before .before .before .before .before .before .pre) _ (c .before .before .before .named-refusal .ensures) (c .before .before .if1 .left) in (c .before .before .before .before .before .before .before .pre, k .first, k .second)
+way-of-requires c κs =
+    let p = c .before .before .before .before .before .before .before .pre in
+    let named-pair-refusal = c .before .before .before .named-pair-refusal in
+    let if1 = c .before .before .if1 in
+    let k = pair-kept _ _ _ (sym (named-pair-refusal .ensures) ∙ if1 .left) in
+    (p, k .first, k .second)
 
 same-length : tie.Need-same-length
 same-length c = search needs
@@ -21,9 +31,23 @@ same-length-2 : tie.Need-same-length-2
 same-length-2 c = search needs
 
 returns-2 : tie.Need-returns-2
-returns-2 c = let a = c .before .before .before .before .before .before .before .before .before .before .before .before .args in let m = stays (a .o .now) (a .work .now) _ (c .before .before .before .before .before .before .before .before .before .before .before .before .pre) (c .before .before .before .before .way-of .kept .1 .1 .1 .0) (c .before .before .before .before .way-of .ensures .1) in let k = route-given (a .o .now) (a .s) (a .t) (a .work .now) (c .before .before .before .before .before .before .before .before .before .before .before .before .pre) _ (c .before .before .before .before .before .before .before .before .named-refusal .ensures) (a .out .now) _ _ (c .before .before .before .before .before .before .before .if1 .left) (c .before .before .before .before .way-of .ensures .0) in (k .0, (k .1, (m .opened, m .rest)))
+returns-2 c =
+    let p = c .before .before .before .before .before .before .before .before .before .before .before .before .pre in
+    let a = c .before .before .before .before .before .before .before .before .before .before .before .before .args in
+    let named-pair-refusal = c .before .before .before .before .before .before .before .before .named-pair-refusal in
+    let if1 = c .before .before .before .before .before .before .before .if1 in
+    let answer = c .before .before .before .before .way-of in
+    let m = stays _ _ _ p (answer .kept .1 .1 .1 .0) (answer .ensures .1) in
+    let k = way-given _ _ _ _ _ (as-time _ _ _ _ p _ (named-pair-refusal .ensures)) _ _ (a .work .now) _ _ (if1 .left) (answer .ensures .0) refl refl in
+    (k .result, (k .bytes, (m .opened, m .rest)))
 
 pub way-spec : {M : Type 1} → statement M
 way-spec =
     tie.close
-    (tie.spec named-refusal-requires returns way-of-requires same-length same-length-2 returns-2)
+    (tie.spec
+    named-pair-refusal-requires
+    returns
+    way-of-requires
+    same-length
+    same-length-2
+    returns-2)

@@ -19,25 +19,41 @@ numbers-broken-requires c κs = search needs
 
 returns-2 : tie.Need-returns-2
 unfolding transitCount
-returns-2 c = goes 8 _ (sym (c .before .before .before .grid-body-broken .ensures) ∙ c .before .before .if1 .left) (stops 9 _ (sym (c .before .numbers-broken .ensures) ∙ c .if2 .taken))
+returns-2 c =
+    goes 8 _ (sym (c .before .before .before .grid-body-broken .ensures) ∙ c .before .before .if1 .left) (stops 9 _ (sym (c .before .numbers-broken .ensures) ∙ c .if2 .taken))
 
 access-broken-requires : tie.Need-access-broken-requires
 access-broken-requires c κs = search needs
 
 returns-3 : tie.Need-returns-3
 unfolding transitCount
-returns-3 c = goes 8 _ (sym (c .before .before .before .before .before .grid-body-broken .ensures) ∙ c .before .before .before .before .if1 .left) (goes 9 _ (sym (c .before .before .before .numbers-broken .ensures) ∙ c .before .before .if2 .left) (stops 10 _ (sym (c .before .access-broken .ensures) ∙ c .if3 .taken)))
+returns-3 c =
+    goes 8 _ (sym (c .before .before .before .before .before .grid-body-broken .ensures) ∙ c .before .before .before .before .if1 .left)
+      (goes 9 _ (sym (c .before .before .before .numbers-broken .ensures) ∙ c .before .before .if2 .left)
+      (stops 10 _ (sym (c .before .access-broken .ensures) ∙ c .if3 .taken)))
 
 table-broken-requires : tie.Need-table-broken-requires
-table-broken-requires c κs = omega (arith, few-numbers (c .before .before .before .before .before .before .before .before .before .before .args .n) (c .before .before .before .before .before .before .before .before .before .before .args .transit .now) (sym (c .before .before .before .numbers-broken .ensures) ∙ c .before .before .if2 .left))
+table-broken-requires c κs =
+    let a = c .before .before .before .before .before .before .before .before .before .before .args in
+    omega (arith, few-numbers (a .n) (a .transit .now) (sym (c .before .before .before .numbers-broken .ensures) ∙ c .before .before .if2 .left))
 
 returns-4 : tie.Need-returns-4
 unfolding transitCount
-returns-4 c = goes 8 _ (sym (c .before .before .before .before .before .before .before .grid-body-broken .ensures) ∙ c .before .before .before .before .before .before .if1 .left) (goes 9 _ (sym (c .before .before .before .before .before .numbers-broken .ensures) ∙ c .before .before .before .before .if2 .left) (goes 10 _ (sym (c .before .before .before .access-broken .ensures) ∙ c .before .before .if3 .left) (stops 11 _ (sym (c .before .table-broken .ensures) ∙ c .if4 .taken))))
+returns-4 c =
+    goes 8 _ (sym (c .before .before .before .before .before .before .before .grid-body-broken .ensures) ∙
+      c .before .before .before .before .before .before .if1 .left) (goes 9 _
+      (sym (c .before .before .before .before .before .numbers-broken .ensures) ∙ c .before .before .before .before .if2 .left)
+      (goes 10 _ (sym (c .before .before .before .access-broken .ensures) ∙ c .before .before .if3 .left)
+      (stops 11 _ (sym (c .before .table-broken .ensures) ∙ c .if4 .taken))))
 
 returns-5 : tie.Need-returns-5
 unfolding transitCount
-returns-5 c = goes 8 _ (sym (c .before .before .before .before .before .before .before .grid-body-broken .ensures) ∙ c .before .before .before .before .before .before .if1 .left) (goes 9 _ (sym (c .before .before .before .before .before .numbers-broken .ensures) ∙ c .before .before .before .before .if2 .left) (goes 10 _ (sym (c .before .before .before .access-broken .ensures) ∙ c .before .before .if3 .left) (goes 11 _ (sym (c .before .table-broken .ensures) ∙ c .if4 .left) none)))
+returns-5 c =
+    goes 8 _ (sym (c .before .before .before .before .before .before .before .grid-body-broken .ensures) ∙
+      c .before .before .before .before .before .before .if1 .left) (goes 9 _
+      (sym (c .before .before .before .before .before .numbers-broken .ensures) ∙ c .before .before .before .before .if2 .left)
+      (goes 10 _ (sym (c .before .before .before .access-broken .ensures) ∙ c .before .before .if3 .left)
+      (goes 11 _ (sym (c .before .table-broken .ensures) ∙ c .if4 .left) none)))
 
 pub oracle-bodies-spec : {M : Type 1} → statement M
 oracle-bodies-spec =

@@ -1,7 +1,4 @@
 use Rattle.model.specs.Network.{nodeCount}
-use Rattle.model.specs.Bytes.{Bytes}
-use lib.ListN.{length}
-use Prim.Native.Nat.{_/_}
 use mathlib.Core.Path.{ap}
 use borrow.Author.Needs.{needs}
 use Rattle.reader.proofs.oracle.node_count.Statement.{statement}
@@ -12,7 +9,7 @@ oracle-body-requires c κs = search needs
 
 returns : tie.Need-returns
 unfolding nodeCount
-returns c = ap (λ (b : Bytes). length b / 8) (c .oracle-body .ensures)
+returns c = ap nodeCount (c .oracle-body .ensures)
 
 pub node-count-spec : {M : Type 1} → statement M
 node-count-spec = tie.close (tie.spec oracle-body-requires returns)

@@ -1,7 +1,4 @@
 use Rattle.model.specs.Oracle.{transitCount}
-use Rattle.model.specs.Bytes.{Bytes}
-use lib.ListN.{length}
-use Prim.Native.Nat.{_/_}
 use mathlib.Core.Path.{ap}
 use borrow.Author.Needs.{needs}
 use Rattle.reader.proofs.oracle.transit_count.Statement.{statement}
@@ -12,7 +9,7 @@ oracle-body-requires c κs = search needs
 
 returns : tie.Need-returns
 unfolding transitCount
-returns c = ap (λ (b : Bytes). length b / 2) (c .oracle-body .ensures)
+returns c = ap transitCount (c .oracle-body .ensures)
 
 pub transit-count-spec : {M : Type 1} → statement M
 transit-count-spec = tie.close (tie.spec oracle-body-requires returns)

@@ -16,7 +16,8 @@ returns : tie.Need-returns
 returns c = rw (← c .before .read16 .ensures .0) (simp (lt-ltb (c .before .read16 .result) (c .before .before .before .args .least) (omega arith)))
 
 returns-2 : tie.Need-returns-2
-returns-2 c = rw (← c .before .before .read16 .ensures .0) (simp (le-leb (c .before .before .before .before .args .transit) (c .before .before .read16 .result) (omega arith), or-true))
+returns-2 c =
+    rw (← c .before .before .read16 .ensures .0) (simp (le-leb (c .before .before .before .before .args .transit) (c .before .before .read16 .result) (omega arith), or-true))
 
 add-value-broken : tie.Need-add-value-broken
 add-value-broken c = search needs
@@ -25,7 +26,10 @@ value-broken-requires : tie.Need-value-broken-requires
 value-broken-requires c κs = search needs
 
 returns-3 : tie.Need-returns-3
-returns-3 c = rw (← c .before .before .before .read16 .ensures .0) (simp (le-ltb (c .before .before .before .read16 .result) (c .before .before .before .before .before .args .least) (omega arith), lt-leb (c .before .before .before .before .before .args .transit) (c .before .before .before .read16 .result) (omega arith)) (c .value-broken .ensures))
+returns-3 c =
+    let read16 = c .before .before .before .read16 in
+    let a = c .before .before .before .before .before .args in
+    rw (← read16 .ensures .0) (simp (le-ltb (read16 .result) (a .least) (omega arith), lt-leb (a .transit) (read16 .result) (omega arith)) (c .value-broken .ensures))
 
 pub entry-broken-spec : {M : Type 1} → statement M
 entry-broken-spec =

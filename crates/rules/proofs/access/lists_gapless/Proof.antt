@@ -32,13 +32,16 @@ list-fits-requires : tie.Need-list-fits-requires Inv-loop μ-loop
 list-fits-requires c κs = search needs
 
 returns-2 : tie.Need-returns-2 Inv-loop μ-loop
-returns-2 c = sym (c .before .before .before .loop .inv .2 ∙ list-unfit _ _ _ _ (c .before .before .loop-test .taken) (sym (c .before .list-fits .ensures) ∙ not-true _ (c .if2 .taken)))
+returns-2 c =
+    sym (c .before .before .before .loop .inv .2 ∙ list-unfit _ _ _ _ (c .before .before .loop-test .taken) (sym (c .before .list-fits .ensures) ∙ not-true _ (c .if2 .taken)))
 
-list-size-requires : tie.Need-list-size-requires Inv-loop μ-loop
-list-size-requires c κs = fit-count _ _ _ (sym (c .before .list-fits .ensures) ∙ not-false _ (c .if2 .left))
+size-at-requires : tie.Need-size-at-requires Inv-loop μ-loop
+size-at-requires c κs = fit-count _ _ _ (sym (c .before .list-fits .ensures) ∙ not-false _ (c .if2 .left))
 
 add-at : tie.Need-add-at Inv-loop μ-loop
-add-at c = omega (arith, list-fit _ _ _ _ (c .before .before .before .loop-test .taken) (sym (c .before .before .list-fits .ensures) ∙ not-false _ (c .before .if2 .left)) _ (c .list-size .ensures) .0)
+add-at c =
+    omega (arith, list-fit _ _ _ _ (c .before .before .before .loop-test .taken)
+      (sym (c .before .before .list-fits .ensures) ∙ not-false _ (c .before .if2 .left)) _ (c .size-at .ensures) .0)
 
 add-u : tie.Need-add-u Inv-loop μ-loop
 add-u c = search needs
@@ -48,8 +51,10 @@ loop-less c = search needs
 
 loop-again : tie.Need-loop-again Inv-loop μ-loop
 loop-again c =
-    let f = list-fit _ _ _ _ (c .before .before .before .loop-test .taken) (sym (c .before .before .list-fits .ensures) ∙ not-false _ (c .before .if2 .left)) _ (c .list-size .ensures) in
-    (f .0, c .before .before .before .before .loop .inv .1, c .before .before .before .before .loop .inv .2 ∙ f .1)
+    let l = c .before .before .before .before .loop in
+    let f = list-fit _ _ _ _ (c .before .before .before .loop-test .taken) (sym (c .before .before .list-fits .ensures) ∙ not-false _ (c .before .if2 .left)) _
+      (c .size-at .ensures) in
+    (f .0, l .inv .1, l .inv .2 ∙ f .1)
 
 returns-3 : tie.Need-returns-3 Inv-loop μ-loop
 returns-3 c = sym (c .before .loop .inv .2 ∙ gapless-end _ _ _ _ _ (c .loop-test .left))
@@ -65,7 +70,7 @@ lists-gapless-spec =
     loop-holds
     list-fits-requires
     returns-2
-    list-size-requires
+    size-at-requires
     add-at
     add-u
     loop-less

@@ -1,10 +1,10 @@
 -- `rules::access::some_list_broken` meets its contract. Assumes nothing.
 use Rattle.rules.proofs.AccessLayout.{list-inside}
-use Rattle.rules.proofs.TableLaws.{some-here, some-later, some-end}
-use Rattle.theory.specs.RangeLaws.{rest, rest-all}
+use Rattle.theory.specs.RangeLaws.{rest, rest-all, rest-step, rest-end}
+use Rattle.theory.specs.Scans.{scan-found, scan-passed, scan-end}
 use Rattle.model.specs.Oracle.{listBroken}
 use Rattle.model.specs.Lists.{any, upTo}
-use mathlib.Core.Path.{_≡_, sym, _∙_}
+use mathlib.Core.Path.{_≡_}
 use Prim.Native.Nat.{_-_}
 use borrow.Author.Needs.{needs}
 use Rattle.rules.proofs.access.some_list_broken.Statement.{statement}
@@ -23,7 +23,7 @@ list-broken-requires : tie.Need-list-broken-requires Inv-loop μ-loop
 list-broken-requires c κs = list-inside _ _ _ (c .before .before .before .pre .1) (c .loop-test .taken)
 
 returns : tie.Need-returns Inv-loop μ-loop
-returns c = sym (c .before .before .before .loop .inv ∙ some-here _ _ _ (c .before .before .loop-test .taken) (sym (c .before .list-broken .ensures) ∙ c .if1 .taken))
+returns c = scan-found _ (c .before .before .before .loop .inv) (rest-step _ _ (c .before .before .loop-test .taken)) (c .before .list-broken .ensures) (c .if1 .taken)
 
 add-u : tie.Need-add-u Inv-loop μ-loop
 add-u c = search needs
@@ -32,10 +32,10 @@ loop-less : tie.Need-loop-less Inv-loop μ-loop
 loop-less c = search needs
 
 loop-again : tie.Need-loop-again Inv-loop μ-loop
-loop-again c = c .before .before .before .loop .inv ∙ some-later _ _ _ (c .before .before .loop-test .taken) (sym (c .before .list-broken .ensures) ∙ c .if1 .left)
+loop-again c = scan-passed _ (c .before .before .before .loop .inv) (rest-step _ _ (c .before .before .loop-test .taken)) (c .before .list-broken .ensures) (c .if1 .left)
 
 returns-2 : tie.Need-returns-2 Inv-loop μ-loop
-returns-2 c = sym (c .before .loop .inv ∙ some-end _ _ _ (c .loop-test .left))
+returns-2 c = scan-end _ (c .before .loop .inv) (rest-end _ _ (c .loop-test .left))
 
 pub some-list-broken-spec : {M : Type 1} → statement M
 some-list-broken-spec =

@@ -1,11 +1,12 @@
 -- `rules::table::table_broken` meets its contract. Assumes nothing.
-use Rattle.rules.proofs.TableLaws.{some-here, some-later, some-end, square-most, table-size, table-all}
-use Rattle.theory.specs.RangeLaws.{rest}
+use Rattle.rules.proofs.TableLaws.{square-most, table-size, table-all}
+use Rattle.theory.specs.RangeLaws.{rest, rest-step, rest-end}
+use Rattle.theory.specs.Scans.{scan-found, scan-passed, scan-end}
 use Rattle.model.specs.Oracle.{valueSize, cellBroken, tableBroken}
 use Rattle.model.specs.Lists.{any}
 use lib.ListN.{length}
 use native.Mathlib.Omega.{arith}
-use mathlib.Core.Path.{_≡_, sym, _∙_}
+use mathlib.Core.Path.{_≡_, sym}
 use Prim.Native.Nat.{_*_, _-_}
 use borrow.Author.Needs.{needs}
 use Rattle.rules.proofs.table.table_broken.Statement.{statement}
@@ -37,7 +38,7 @@ value-broken-requires c κs = search needs
 
 returns-2 : tie.Need-returns-2 Inv-loop μ-loop
 unfolding cellBroken
-returns-2 c = sym (c .before .before .before .loop .inv .1 ∙ some-here _ _ _ (c .before .before .loop-test .taken) (sym (c .before .value-broken .ensures) ∙ c .if2 .taken))
+returns-2 c = scan-found _ (c .before .before .before .loop .inv .1) (rest-step _ _ (c .before .before .loop-test .taken)) (c .before .value-broken .ensures) (c .if2 .taken)
 
 add-i : tie.Need-add-i Inv-loop μ-loop
 add-i c = search needs
@@ -47,10 +48,12 @@ loop-less c = search needs
 
 loop-again : tie.Need-loop-again Inv-loop μ-loop
 unfolding cellBroken
-loop-again c = (c .before .before .before .loop .inv .0, c .before .before .before .loop .inv .1 ∙ some-later _ _ _ (c .before .before .loop-test .taken) (sym (c .before .value-broken .ensures) ∙ c .if2 .left))
+loop-again c =
+    let inv = c .before .before .before .loop .inv in
+    (inv .0, scan-passed _ (inv .1) (rest-step _ _ (c .before .before .loop-test .taken)) (c .before .value-broken .ensures) (c .if2 .left))
 
 returns-3 : tie.Need-returns-3 Inv-loop μ-loop
-returns-3 c = sym (c .before .loop .inv .1 ∙ some-end _ _ _ (c .loop-test .left))
+returns-3 c = scan-end _ (c .before .loop .inv .1) (rest-end _ _ (c .loop-test .left))
 
 pub table-broken-spec : {M : Type 1} → statement M
 table-broken-spec =

@@ -1,18 +1,18 @@
 -- `front::search_front` meets its contract: the theory's state holds between the rounds, and e falls with each.
-use Prim.Native.Nat.{_*_}
 use native.Mathlib.Omega.{arith}
 use mathlib.Core.Path.{_≡_, refl, _∙_}
 use borrow.Author.Needs.{needs}
-use lib.ListN.{length, drop}
+use lib.ListN.{length}
 use Rattle.arcs.specs.Arcs.{arcsIn}
-use Rattle.search.specs.Regions.{frontIn}
+use Rattle.words.specs.Frames.{KeptFrom}
 use Rattle.search.proofs.Cursors.{roads-kept}
 use Rattle.search.proofs.Turns.{Standing, standing-first, first, next, last}
 use Rattle.search.proofs.front.search_front.Statement.{statement}
 use Rattle.search.proofs.front.search_front.Tie as tie
+use Rattle.words.specs.Regions.{frontIn, searchWords}
 
 abbrev Inv-loop : tie.InvT-loop
-Inv-loop edges closed n s work₀ k₀ e₀ work k e = (length work ≡ length work₀) × (drop (3 * n) work ≡ drop (3 * n) work₀) × Standing (arcsIn edges closed) n s k e (frontIn n work)
+Inv-loop edges closed n s work₀ k₀ e₀ work k e = (length work ≡ length work₀) × (KeptFrom (searchWords n) work₀ work) × Standing (arcsIn edges closed) n s k e (frontIn n work)
 
 abbrev μ-loop : tie.MeasureT-loop
 μ-loop edges closed n s work₀ k₀ e₀ work k e = e
@@ -22,17 +22,21 @@ begin-requires c κs = search needs
 
 loop-holds : tie.Need-loop-holds Inv-loop μ-loop
 loop-holds c =
-    let a = c .before .before .before .before .before .before .before .args in
-    let p = c .before .before .before .before .before .before .before .pre in
+    let start = c .before .before .before .before .before .before .before in
+    let a = start .args in
+    let p = start .pre in
     let r = c .before .before .begin .ensures in
     (refl, refl, first (a .edges .now) (a .closed .now) (a .n) (a .s) (p .0 .0) (p .0 .1) (p .1 .ends) _ _ (r .0) (r .1 .0) (r .1 .1 .0))
 
 round-requires : tie.Need-round-requires Inv-loop μ-loop
 round-requires c κs =
-    let a = c .before .before .before .before .before .before .before .before .before .before .args in
-    let p = c .before .before .before .before .before .before .before .before .before .before .pre in
+    let start = c .before .before .before .before .before .before .before .before .before .before in
+    let a = start .args in
+    let p = start .pre in
     let l = c .before .before .loop in
-    ((l .inv .2 .holds, omega (arith, c .before .loop-test .taken), standing-first (arcsIn (a .edges .now) (a .closed .now)) (a .n) (a .s) (l .k) (l .e) _ (l .inv .2)), (roads-kept (a .edges .now) (a .closed .now) (a .n) (a .work .now) (l .work) (l .inv .1 ∙ c .before .before .before .before .before .begin .ensures .1 .1 .1) (p .1), search needs))
+    ((l .inv .2 .holds, omega (arith, c .before .loop-test .taken), standing-first (arcsIn (a .edges .now) (a .closed .now)) (a .n) (a .s) (l .k) (l .e) _
+      (l .inv .2)), (roads-kept (a .edges .now) (a .closed .now) (a .n) (a .work .now) (l .work)
+      (l .inv .1 ∙ c .before .before .before .before .before .begin .ensures .1 .1 .1) (p .1), search needs))
 
 sub-e : tie.Need-sub-e Inv-loop μ-loop
 sub-e c = omega (arith, c .before .before .before .before .before .loop .inv .2 .holds .queue .held, c .before .before .before .before .loop-test .taken)
@@ -42,10 +46,12 @@ loop-less c = omega (arith, c .before .before .before .before .before .loop .inv
 
 loop-again : tie.Need-loop-again Inv-loop μ-loop
 loop-again c =
-    let a = c .before .before .before .before .before .before .before .before .before .before .before .before .before .args in
-    let p = c .before .before .before .before .before .before .before .before .before .before .before .before .before .pre in
+    let start = c .before .before .before .before .before .before .before .before .before .before .before .before .before in
+    let a = start .args in
+    let p = start .pre in
     let l = c .before .before .before .before .before .loop in
-    (search needs, c .before .before .round .ensures .1 ∙ l .inv .1, next (a .edges .now) (a .closed .now) (a .n) (a .s) (p .0 .0) (p .0 .1) (p .1 .ends) (l .k) (l .e) _ (l .inv .2) _ _ (c .before .before .round .ensures .0))
+    (search needs, c .before .before .round .ensures .1 ∙ l .inv .1, next (a .edges .now) (a .closed .now) (a .n) (a .s) (p .0 .0) (p .0 .1) (p .1 .ends)
+      (l .k) (l .e) _ (l .inv .2) _ _ (c .before .before .round .ensures .0))
 
 finish-requires : tie.Need-finish-requires Inv-loop μ-loop
 finish-requires c κs = (search needs, c .before .before .loop .inv .2 .holds .queue .room)
@@ -55,11 +61,14 @@ same-length c = search needs
 
 returns : tie.Need-returns Inv-loop μ-loop
 returns c =
-    let a = c .before .before .before .before .before .before .before .before .before .before .before .before .before .args in
-    let p = c .before .before .before .before .before .before .before .before .before .before .before .before .before .pre in
+    let start = c .before .before .before .before .before .before .before .before .before .before .before .before .before in
+    let a = start .args in
+    let p = start .pre in
     let l = c .before .before .before .before .before .loop in
     let o = c .before .before .finish .ensures in
-    (last (a .edges .now) (a .closed .now) (a .n) (a .s) (p .0 .0) (p .0 .1) (p .1 .ends) (l .k) (l .e) _ (l .inv .2) (omega (arith, c .before .before .before .before .loop-test .left)) _ (o .0) (o .1 .0), o .1 .1 ∙ (l .inv .1 ∙ c .before .before .before .before .before .before .before .before .begin .ensures .1 .1 .1))
+    (last (a .edges .now) (a .closed .now) (a .n) (a .s) (p .0 .0) (p .0 .1) (p .1 .ends) (l .k) (l .e) _ (l .inv .2)
+      (omega (arith, c .before .before .before .before .loop-test .left)) _ (o .0) (o .1 .0),
+      o .1 .1 ∙ (l .inv .1 ∙ c .before .before .before .before .before .before .before .before .begin .ensures .1 .1 .1))
 
 pub search-front-spec : {M : Type 1} → statement M
 search-front-spec =

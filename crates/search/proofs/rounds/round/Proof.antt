@@ -27,23 +27,29 @@ sub-relax-2 c = search needs
 
 relax-requires : tie.Need-relax-requires
 relax-requires c κs =
-    let a = c .before .before .before .before .before .before .before .before .args in
-    let p = c .before .before .before .before .before .before .before .before .pre in
-    let t = c .before .before .before .settle-nearest .ensures in
-    let ys = c .before .before .before .settle-nearest .last .0 in
-    let k = c .before .before .before .settle-nearest .kept .0 in
-    ((round-holds (a .n) (a .work .now) ys (search needs) k (a .k) (a .e) _ t, t .near .inside, round-within (a .n) (a .work .now) ys (search needs) k (a .k) (a .e) _ t (p .0 .2)), (roads-kept (a .edges .now) (a .closed .now) (a .n) (a .work .now) _ (others (a .n) (a .work .now) ys (search needs) k) (p .1 .0), search needs))
+    let s = c .before .before .before .before .before .before .before .before in
+    let settle-nearest = c .before .before .before .settle-nearest in
+    let a = s .args in
+    let p = s .pre in
+    let t = settle-nearest .ensures in
+    let ys = settle-nearest .last .0 in
+    let k = settle-nearest .kept .0 in
+    ((round-holds (a .n) (a .work .now) ys (search needs) k (a .k) (a .e) _ t, t .near .inside,
+      round-within (a .n) (a .work .now) ys (search needs) k (a .k) (a .e) _ t (p .0 .2)),
+      (roads-kept (a .edges .now) (a .closed .now) (a .n) (a .work .now) _ (others (a .n) (a .work .now) ys (search needs) k) (p .1 .0), search needs))
 
 same-length : tie.Need-same-length
 same-length c = search needs
 
 returns : tie.Need-returns
 returns c =
+    let settle-nearest = c .before .before .before .before .before .before .settle-nearest in
     let a = c .before .before .before .before .before .before .before .before .before .before .before .args in
-    let t = c .before .before .before .before .before .before .settle-nearest .ensures in
-    let ys = c .before .before .before .before .before .before .settle-nearest .last .0 in
-    let k = c .before .before .before .before .before .before .settle-nearest .kept .0 in
-    (round-front (a .n) (a .work .now) ys (search needs) k (a .k) (a .e) _ t (arcsIn (a .edges .now) (a .closed .now)) _ _ (c .before .before .relax .ensures .0), c .before .before .relax .ensures .1 ∙ others (a .n) (a .work .now) ys (search needs) k)
+    let t = settle-nearest .ensures in
+    let ys = settle-nearest .last .0 in
+    let k = settle-nearest .kept .0 in
+    (round-front (a .n) (a .work .now) ys (search needs) k (a .k) (a .e) _ t (arcsIn (a .edges .now) (a .closed .now)) _ _
+      (c .before .before .relax .ensures .0), c .before .before .relax .ensures .1 ∙ others (a .n) (a .work .now) ys (search needs) k)
 
 pub round-spec : {M : Type 1} → statement M
 round-spec =

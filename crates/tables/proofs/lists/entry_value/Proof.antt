@@ -1,6 +1,5 @@
 -- `lists::entry_value` meets its contract: rule 10 has the value in range.
 use native.Mathlib.Omega.{arith}
-use mathlib.Core.Path.{refl}
 use borrow.Author.Needs.{needs}
 use Rattle.model.specs.Oracle.{accessEntry, value}
 use Rattle.tables.specs.Entries.{entry-within, value-in-range}
@@ -10,17 +9,18 @@ use Rattle.tables.proofs.lists.entry_value.Tie as tie
 entry-at-requires : tie.Need-entry-at-requires
 entry-at-requires c κs = search needs
 
-add-read32 : tie.Need-add-read32
-add-read32 c = omega (arith, entry-within _ _ _ (c .before .before .pre .0 .1) _ (c .before .before .pre .1))
+add-read-value : tie.Need-add-read-value
+add-read-value c = omega (arith, entry-within _ _ _ (c .before .before .pre .0 .1) _ (c .before .before .pre .1))
 
-read32-requires : tie.Need-read32-requires
-read32-requires c κs = omega (arith, entry-within _ _ _ (c .before .before .pre .0 .1) _ (c .before .before .pre .1))
+read-value-requires : tie.Need-read-value-requires
+read-value-requires c κs = omega (arith, entry-within _ _ _ (c .before .before .pre .0 .1) _ (c .before .before .pre .1))
 
 returns : tie.Need-returns
-unfolding accessEntry value
+unfolding accessEntry
 returns c =
     let p = c .before .before .before .pre in
-    rw (c .read32 .ensures, c .before .entry-at .ensures) (refl, value-in-range _ _ _ (p .0 .1) _ (p .1))
+    let e = rw (c .before .entry-at .ensures) at (c .read-value .ensures) in
+    (e, value-in-range _ _ _ (p .0 .1) _ (p .1) _ e)
 
 pub entry-value-spec : {M : Type 1} → statement M
-entry-value-spec = tie.close (tie.spec entry-at-requires add-read32 read32-requires returns)
+entry-value-spec = tie.close (tie.spec entry-at-requires add-read-value read-value-requires returns)

@@ -9,17 +9,14 @@ use Rattle.tables.proofs.lists.list_part.Tie as tie
 list-start-requires : tie.Need-list-start-requires
 list-start-requires c κs = search needs
 
-add-end : tie.Need-add-end
-add-end c = omega (arith, list-within _ _ _ (c .before .before .pre .1))
-
 list-count-requires : tie.Need-list-count-requires
 list-count-requires c κs = search needs
 
-mul-end : tie.Need-mul-end
-mul-end c = search needs
+list-size-requires : tie.Need-list-size-requires
+list-size-requires c κs = search needs
 
-add-end-2 : tie.Need-add-end-2
-add-end-2 c = omega (arith, list-within _ _ _ (c .before .before .before .pre .1))
+add-end : tie.Need-add-end
+add-end c = omega (arith, list-within _ _ _ (c .before .before .before .before .pre .1))
 
 sub-result : tie.Need-sub-result
 sub-result c = search needs
@@ -28,20 +25,19 @@ part-result-start : tie.Need-part-result-start
 part-result-start c = search needs
 
 part-result-end : tie.Need-part-result-end
-part-result-end c = omega (arith, list-within _ _ _ (c .before .before .before .pre .1))
+part-result-end c = omega (arith, list-within _ _ _ (c .before .before .before .before .pre .1))
 
 returns : tie.Need-returns
-returns c = part-between _ _ _ _ (c .before .before .list-start .ensures) (omega (arith, c .before .list-count .ensures .0))
+returns c = part-between _ _ _ _ (c .before .before .before .list-start .ensures) (omega (arith, c .before .before .list-count .ensures .0, c .before .list-size .ensures))
 
 pub list-part-spec : {M : Type 1} → statement M
 list-part-spec =
     tie.close
     (tie.spec
     list-start-requires
-    add-end
     list-count-requires
-    mul-end
-    add-end-2
+    list-size-requires
+    add-end
     sub-result
     part-result-start
     part-result-end

@@ -1,43 +1,61 @@
--- `next::next_node` meets its contract: the lowest over the edges passed, which at the end are the open edges at the node.
+-- `next::next_node` meets its contract: the lowest over the arcs passed, which at the end are those that leave the node.
 use native.Mathlib.Omega.{arith}
-use mathlib.Core.Path.{_≡_, refl}
+use mathlib.Core.Path.{sym}
 use borrow.Author.Needs.{needs}
 use lib.Seq.{length-take-le}
-use Rattle.index.specs.Cursor.{rank}
-use Rattle.model.specs.Network.{edgeCount}
 use Rattle.way.proofs.Nexts.{Lowered, lowered-first, lowered-next, lowered-last}
 use Rattle.way.proofs.Words.{node-in}
-use Rattle.way.specs.Distances.{timesIn, distanceIn}
+use Rattle.way.specs.Distances.{distanceIn}
 use Rattle.way.proofs.next.next_node.Statement.{statement}
 use Rattle.way.proofs.next.next_node.Tie as tie
+use Rattle.words.specs.Regions.{timesIn}
+use Rattle.arcs.specs.Leaving.{arcRank}
+use Rattle.arcs.proofs.Passes.{passes-first}
 
 abbrev Inv-loop : tie.InvT-loop
-Inv-loop edges closed n work u left m r₀ c₀ r c = (m ≡ edgeCount edges) × Lowered (distanceIn (timesIn n work)) u edges closed n work n c r
+Inv-loop edges closed n work u left r₀ a₀ r a = Lowered (distanceIn (timesIn n work)) u edges closed n work n a r
 
 abbrev μ-loop : tie.MeasureT-loop
-μ-loop edges closed n work u left m r₀ c₀ r c = rank edges c
+μ-loop edges closed n work u left r₀ a₀ r a = arcRank edges a
 
 first-edge-requires : tie.Need-first-edge-requires Inv-loop μ-loop
-first-edge-requires c κs = let a = c .before .before .before .args in ((search needs, search needs, omega (arith, node-in _ _ _ (c .before .before .before .pre .0 .0), length-take-le (a .n) (a .work .now) (omega arith))), c .before .before .before .pre .1)
+first-edge-requires c κs =
+    let p = c .before .before .before .pre in
+    let a = c .before .before .before .args in
+    ((search needs, search needs, omega (arith, node-in _ _ _ (p .0 .0), length-take-le (a .n) (a .work .now) (omega arith))), p .1)
+
+arc-at-requires : tie.Need-arc-at-requires Inv-loop μ-loop
+arc-at-requires c κs = (c .before .before .before .before .pre .1 .ends, λ l. c .first-edge .ensures .valid .here l .end)
 
 loop-holds : tie.Need-loop-holds Inv-loop μ-loop
-unfolding edgeCount
-loop-holds c = (refl, lowered-first _ _ _ _ _ _ _ _ (c .first-edge .ensures))
+loop-holds c = lowered-first _ _ _ _ _ _ _ _ (passes-first _ _ _ _ _ _ _ (c .arc-at .ensures) (c .before .first-edge .ensures))
 
-lower-by-requires : tie.Need-lower-by-requires Inv-loop μ-loop
-lower-by-requires c κs = (omega arith, c .before .before .before .before .before .before .before .pre .1 .ends, omega arith, c .before .before .before .before .before .before .before .pre .0 .0)
+slice-aggregate-lower : tie.Need-slice-aggregate-lower Inv-loop μ-loop
+slice-aggregate-lower c = let a = c .before .before .before .before .before .before .before .before .before .args in sym (length-take-le (a .n) (a .work .now) (search needs))
 
-next-edge-requires : tie.Need-next-edge-requires Inv-loop μ-loop
-next-edge-requires c κs = let a = c .before .before .before .before .before .before .before .before .args in ((search needs, search needs, omega (arith, node-in _ _ _ (c .before .before .before .before .before .before .before .before .pre .0 .0), length-take-le (a .n) (a .work .now) (omega arith))), (c .before .before .before .before .before .before .before .before .pre .1, (c .before .before .before .loop .inv .1 .passing .valid, omega arith)))
+lower-requires : tie.Need-lower-requires Inv-loop μ-loop
+lower-requires c κs =
+    let a = c .before .before .before .before .before .before .before .before .before .args in
+    (omega (arith, c .before .if1 .taken, length-take-le (a .n) (a .work .now) (omega arith)), c .before .before .before .loop .inv .passes .low)
+
+next-arc-requires : tie.Need-next-arc-requires Inv-loop μ-loop
+next-arc-requires c κs =
+    let s = c .before .before .before .before .before .before .before .before .before .before in
+    let p = s .pre in
+    let a = s .args in
+    ((search needs, search needs, omega (arith, node-in _ _ _ (p .0 .0), length-take-le (a .n) (a .work .now) (omega arith))),
+      (p .1, (c .before .before .before .before .loop .inv .passes .valid, c .before .before .if1 .taken)))
 
 loop-less : tie.Need-loop-less Inv-loop μ-loop
-loop-less c = c .next-edge .ensures .less
+loop-less c = c .next-arc .ensures .less
 
 loop-again : tie.Need-loop-again Inv-loop μ-loop
-loop-again c = (c .before .before .before .before .loop .inv .0, lowered-next _ _ _ _ _ _ _ _ _ (c .before .before .before .before .loop .inv .1) _ _ (c .before .lower-by .ensures) (c .next-edge .ensures))
+loop-again c =
+    let s = c .before .before .before .before .before .before .before .before .before .before .before in
+    lowered-next _ _ _ _ _ _ _ _ _ (c .before .before .before .before .before .loop .inv) (s .args .left) _ _ (s .pre .0 .0) (c .before .lower .ensures) (c .next-arc .ensures)
 
 returns : tie.Need-returns Inv-loop μ-loop
-returns c = lowered-last _ _ _ _ _ _ _ _ _ (c .before .before .loop .inv .1) (omega arith)
+returns c = lowered-last _ _ _ _ _ _ _ _ _ (c .before .before .loop .inv) (omega (arith, c .if1 .left))
 
 pub next-node-spec : {M : Type 1} → statement M
 next-node-spec =
@@ -46,9 +64,11 @@ next-node-spec =
     Inv-loop
     μ-loop
     first-edge-requires
+    arc-at-requires
     loop-holds
-    lower-by-requires
-    next-edge-requires
+    slice-aggregate-lower
+    lower-requires
+    next-arc-requires
     loop-less
     loop-again
     returns)

@@ -1,0 +1,165 @@
+-- From one open edge at a node to the next. Assumes nothing.
+use Prim.Native.Nat.{ℕ, _+_, _/_, _<_, _≤_}
+use native.Mathlib.Nat.{div-one, mul-le-mul-right, suc-mul, zero-mul}
+use native.Mathlib.Decide.{ℕ-discrete, decLt}
+use native.Mathlib.Omega.{arith}
+use mathlib.Core.Path.{_≡_, refl, sym, ap, _∙_, subst}
+use mathlib.Core.List.{List, [], _∷_, _++_, List·Memᴰ, List·Memᴰ·head, List·Memᴰ·tail, List·Memᴰ·not-nil, List·Memᴰ·cases-cons}
+use mathlib.Core.Logic.{_⊎_, inl, inr, ⊎-elim}
+use lib.ListN.{length}
+use Rattle.model.specs.Bytes.{Bytes}
+use Rattle.model.specs.Network.{edgeCount}
+use Rattle.index.specs.Index.{next, block, Lists, here, there, Within, OpenAt, Roads}
+use Rattle.index.proofs.Listing.{no-list}
+use Rattle.words.specs.Regions.{indexIn}
+use Rattle.arcs.specs.declared.cursor.Cursor.{Cursor}
+use Rattle.arcs.specs.Cursor.{After, Valid, PassedEdges, Stepped, rank}
+use Rattle.arcs.specs.Seeking.{ending, AtEntry, From, Seeking, FoundFrom}
+
+-- ---- members of a list with one more
+pub mem-left : {x : ℕ} (xs ys : List ℕ) → List·Memᴰ x xs → List·Memᴰ x (xs ++ ys)
+mem-left (y ∷ xs) ys (List·Memᴰ·head e) = List·Memᴰ·head e
+mem-left (y ∷ xs) ys (List·Memᴰ·tail m) = List·Memᴰ·tail (mem-left xs ys m)
+
+pub mem-last : (x : ℕ) (xs : List ℕ) → List·Memᴰ x (xs ++ x ∷ [])
+mem-last x [] = List·Memᴰ·head refl
+mem-last x (y ∷ xs) = List·Memᴰ·tail (mem-last x xs)
+
+pub mem-split : {A : Type 0} (x y : A) (xs : List A) → List·Memᴰ x (xs ++ y ∷ []) → List·Memᴰ x xs ⊎ (x ≡ y)
+mem-split x y [] m = ⊎-elim (λ e. inr e) (λ k. absurd (List·Memᴰ·not-nil k)) (List·Memᴰ·cases-cons m)
+mem-split {A} x y (z ∷ xs) m = step (List·Memᴰ·cases-cons m) (λ k. mem-split x y xs k)
+  where
+    step : (x ≡ z) ⊎ List·Memᴰ x (xs ++ y ∷ []) → (List·Memᴰ x (xs ++ y ∷ []) → List·Memᴰ x xs ⊎ (x ≡ y)) → List·Memᴰ x (z ∷ xs) ⊎ (x ≡ y)
+    step (inl e) rest = inl (List·Memᴰ·head e)
+    step (inr k) rest = ⊎-elim (λ a. inl (List·Memᴰ·tail a)) (λ b. inr b) (rest k)
+
+module _ (edges closed : Bytes) (n : ℕ) (w : List ℕ) (u : ℕ) (roads : Roads edges closed n w) (u-in : u < n) where
+  abbrev ix : List ℕ
+  ix = indexIn n w
+
+  -- ---- in blocks of one edge
+  module _ (c₀ : Cursor) (one : c₀ .size ≡ 1) (size : c₀ .size ≡ block ix u) (passed : c₀ .stop ≤ c₀ .edge)
+      (link : Within n (length ix) (c₀ .link)) (chain : (q : ℕ) → Lists ix n (c₀ .link) q → Lists ix n (next ix u) q) where
+    size-one : roads .indexed .size ≡ 1
+    size-one = sym (roads .indexed .chained .sized u u-in) ∙ sym size ∙ one
+
+    listed-none : c₀ .link < n → FoundFrom edges closed n w u c₀ (ending edges 1)
+    listed-none l = record {
+      valid = record {
+        size = sym one ∙ size;
+        link = λ h. absurd (omega arith);
+        chain = λ q p. absurd (no-list ix n 0 q (omega arith) p);
+        stop = omega arith;
+        inside = λ h. absurd (omega arith);
+        single = λ h. omega arith;
+        here = λ h. absurd (omega arith);
+        over = λ h j p. nothing j p;
+      };
+      keeps = λ j o p. absurd (none j p);
+      less = unfold rank in omega (arith, zero-mul (edgeCount edges + 1));
+    }
+      where
+        nothing : (j : ℕ) → After ix n (ending edges 1) j → ⊥
+        nothing j (inl (a, b)) = omega arith
+        nothing j (inr (a, p)) = no-list ix n 0 _ (omega arith) p
+
+        none : (j : ℕ) → From ix n c₀ j → ⊥
+        none j (inl (a, b)) = omega arith
+        none j (inr (a, p)) = no-list ix n (c₀ .link) _ l p
+
+    module _ (more : n ≤ c₀ .link) where
+      abbrev p : ℕ
+      p = c₀ .link
+
+      abbrev found : Cursor
+      found = record { edge = block ix p; stop = block ix p + 1; link = next ix p; size = 1 }
+
+      open-here : OpenAt edges closed u (block ix p)
+      open-here = roads .indexed .chained .single size-one u (block ix p) u-in (chain (block ix p) (here more refl))
+
+      next-down : next ix p < p
+      next-down = roads .indexed .chained .links p (omega arith) more
+
+      one-keeps : (j : ℕ) → From ix n c₀ j → (j ≡ block ix p) ⊎ After ix n found j
+      one-keeps j (inl (a, b)) = absurd (omega arith)
+      one-keeps j (inr (h, here l e)) = inl (sym (div-one j) ∙ ap (λ (z : ℕ). j / z) (sym one) ∙ sym e)
+      one-keeps j (inr (h, there l q)) = inr (inr (omega arith, subst (λ (z : ℕ). Lists ix n (next ix p) (j / z)) one q))
+
+      listed-some : FoundFrom edges closed n w u c₀ found
+      listed-some = record {
+        valid = record {
+          size = sym one ∙ size;
+          link = λ h. omega (arith, next-down, link more);
+          chain = λ q l. chain q (there more l);
+          stop = omega (arith, open-here .below);
+          inside = λ h. omega arith;
+          single = λ h. omega arith;
+          here = λ h. open-here;
+          over = λ h j l. absurd (omega (arith, open-here .below));
+        };
+        keeps = λ j o q. one-keeps j q;
+        less = unfold rank in omega (arith, suc-mul (next ix p) (edgeCount edges + 1), mul-le-mul-right (edgeCount edges + 1) next-down);
+      }
+
+    pub sought-listed : (c : Cursor) → AtEntry edges n ix (c₀ .link) c → FoundFrom edges closed n w u c₀ c
+    sought-listed c l = pick (decLt (c₀ .link) n)
+      where
+        pick : Dec (c₀ .link < n) → FoundFrom edges closed n w u c₀ c
+        pick (yes h) = subst (λ (z : Cursor). FoundFrom edges closed n w u c₀ z) (sym (l .ended h)) (listed-none h)
+        pick (no h) = let g : n ≤ c₀ .link = omega arith in subst (λ (z : Cursor). FoundFrom edges closed n w u c₀ z) (sym (l .entry g)) (listed-some g)
+
+  -- ---- the first edge: size and link are the word of u, as the code has read them
+  module _ (size link : ℕ) (e : size ≡ block ix u) (f : link ≡ next ix u) where
+    abbrev pub start : ℕ → Cursor
+    start stop = record { edge = 0; stop = stop; link = link; size = size }
+
+    pub link-in : Within n (length ix) link
+    link-in = rw f (roads .indexed .chained .heads u u-in)
+
+    in-chain : (q : ℕ) → Lists ix n link q → Lists ix n (next ix u) q
+    in-chain q l = subst (λ (z : ℕ). Lists ix n z q) f l
+
+    pub first-seeking : (stop : ℕ) → stop ≤ edgeCount edges → (size ≡ 1 → ⊥) → Seeking edges n w u (start stop)
+    first-seeking stop l d = record { size = e; several = d; link = link-in; chain = in-chain; stop = l; low = omega arith }
+
+    pub first-passing : (stop : ℕ) (c : Cursor) → (size ≡ 0 → stop ≡ edgeCount edges) → FoundFrom edges closed n w u (start stop) c
+        → PassedEdges edges closed n w u [] c
+    first-passing stop c g s = record { valid = s .valid; real = λ j m. absurd (List·Memᴰ·not-nil m); full = λ j o. inr (s .keeps j o (all j o (ℕ-discrete size 0))) }
+      where
+        all : (j : ℕ) → OpenAt edges closed u j → Dec (size ≡ 0) → From ix n (start stop) j
+        all j o (yes z) = inl (omega arith, omega (arith, g z, o .below))
+        all j o (no d) =
+            let h : roads .indexed .size ≡ size = sym (roads .indexed .chained .sized u u-in) ∙ sym e in
+            let l : Lists ix n link (j / roads .indexed .size) =
+                subst (λ (z : ℕ). Lists ix n z (j / roads .indexed .size)) (sym f) (roads .indexed .chained .covers u j u-in (o .below) (omega arith) o) in
+            inr (omega arith, subst (λ (z : ℕ). Lists ix n link (j / z)) h l)
+
+    pub first-listed : (c : Cursor) → size ≡ 1 → AtEntry edges n ix link c → PassedEdges edges closed n w u [] c
+    first-listed c g l = first-passing 0 c (λ z. absurd (omega arith)) (sought-listed (start 0) g e (omega arith) link-in in-chain c l)
+
+  -- ---- the next edge
+  module _ (c : Cursor) (v : Valid edges closed n w u c) (l : c .edge < edgeCount edges) where
+    abbrev pub on : Cursor
+    on = record { edge = c .edge + 1; stop = c .stop; link = c .link; size = c .size }
+
+    on-less : rank edges on < rank edges c
+    unfolding rank
+    on-less = omega (arith, v .inside l)
+
+    pub seeking-on : (c .size ≡ 1 → ⊥) → Seeking edges n w u on
+    seeking-on d = record { size = v .size; several = d; link = v .link; chain = v .chain; stop = v .stop; low = omega (arith, v .inside l) }
+
+    pub sought-next : (c′ : Cursor) → c .size ≡ 1 → AtEntry edges n ix (c .link) c′ → FoundFrom edges closed n w u on c′
+    sought-next c′ e s = sought-listed on e (v .size) (v .single e) (v .link) (v .chain) c′ s
+
+    pub stepped : (c′ : Cursor) → FoundFrom edges closed n w u on c′ → Stepped edges closed n w u c c′
+    stepped c′ s = record {
+      valid = s .valid;
+      passing = λ done p. record {
+        valid = s .valid;
+        real = λ j m. ⊎-elim (λ k. p .real j k) (λ e. subst (λ (z : ℕ). OpenAt edges closed u z) (sym e) (v .here l)) (mem-split j (c .edge) done m);
+        full = λ j o. ⊎-elim (λ k. inl (mem-left done _ k))
+            (λ r. ⊎-elim (λ e. inl (subst (λ (z : ℕ). List·Memᴰ z (done ++ c .edge ∷ [])) (sym e) (mem-last (c .edge) done))) (λ a. inr (s .keeps j o a)) r) (p .full j o);
+      };
+      less = omega (arith, s .less, on-less);
+    }

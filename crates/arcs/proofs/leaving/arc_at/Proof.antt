@@ -1,0 +1,50 @@
+-- `leaving::arc_at` meets its contract: the edge has one arc that leaves u, to its other end.
+use Prim.Native.Nat.{_<_}
+use native.Mathlib.Omega.{arith}
+use mathlib.Core.Path.{refl}
+use borrow.Author.Needs.{needs}
+use Rattle.model.specs.Network.{edgeCount}
+use Rattle.arcs.proofs.leaving.arc_at.Statement.{statement}
+use Rattle.arcs.proofs.leaving.arc_at.Tie as tie
+use Rattle.arcs.proofs.Passes.{found-none, found-arc}
+
+returns : tie.Need-returns
+unfolding edgeCount
+returns c = (refl, found-none _ _ _ _ (c .if1 .taken))
+
+edge-first-requires : tie.Need-edge-first-requires
+edge-first-requires c κs = search needs
+
+edge-second-requires : tie.Need-edge-second-requires
+edge-second-requires c κs = search needs
+
+other-end-requires : tie.Need-other-end-requires
+other-end-requires c κs = search needs
+
+edge-seconds-requires : tie.Need-edge-seconds-requires
+edge-seconds-requires c κs = search needs
+
+cast-cost : tie.Need-cast-cost
+cast-cost c = search needs
+
+returns-2 : tie.Need-returns-2
+unfolding edgeCount
+returns-2 c =
+    let s = c .before .before .before .before .before .before in
+    let p = s .pre in
+    let a = s .args in
+    let l : a .c .edge < edgeCount (a .edges .now) = omega (arith, c .before .before .before .before .if1 .left) in
+      (refl, found-arc (a .edges .now) (a .n) (a .u) (a .c) (p .0) l (p .1 l) _ _ _ _ (c .before .before .before .edge-first .ensures .0)
+      (c .before .before .edge-second .ensures .0) (c .before .other-end .ensures) (c .edge-seconds .ensures))
+
+pub arc-at-spec : {M : Type 1} → statement M
+arc-at-spec =
+    tie.close
+    (tie.spec
+    returns
+    edge-first-requires
+    edge-second-requires
+    other-end-requires
+    edge-seconds-requires
+    cast-cost
+    returns-2)

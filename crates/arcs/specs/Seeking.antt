@@ -1,0 +1,58 @@
+-- How a cursor is moved on. Assumes nothing.
+use Prim.Native.Nat.{ℕ, _+_, _*_, _<_, _≤_, min}
+use mathlib.Core.Path.{_≡_}
+use mathlib.Core.List.{List}
+use mathlib.Core.Logic.{_⊎_}
+use lib.ListN.{length}
+use Rattle.model.specs.Bytes.{Bytes}
+use Rattle.model.specs.Network.{edgeCount}
+use Rattle.index.specs.Index.{next, block, Lists, Within, OpenAt}
+use Rattle.words.specs.Regions.{indexIn}
+use Rattle.arcs.specs.declared.cursor.Cursor.{Cursor}
+use Rattle.arcs.specs.Cursor.{ToCome, After, Valid, rank}
+
+-- The cursor at the end.
+abbrev pub ending : Bytes → ℕ → Cursor
+ending edges size = record { edge = edgeCount edges; stop = edgeCount edges; link = 0; size = size }
+
+-- In blocks of one edge: the cursor at the entry p of a chain.
+pub record AtEntry (edges : Bytes) (n : ℕ) (ix : List ℕ) (p : ℕ) (c : Cursor) : Type 0 where
+  pub ended : p < n → c ≡ ending edges 1
+  pub entry : n ≤ p → c ≡ record { edge = block ix p; stop = block ix p + 1; link = next ix p; size = 1 }
+
+-- r is the first open edge at u from i on and below stop, or stop where there is none.
+pub record FirstOpen (edges closed : Bytes) (u i stop r : ℕ) : Type 0 where
+  pub low : i ≤ r
+  pub high : r ≤ stop
+  pub passed : (j : ℕ) → i ≤ j → j < r → OpenAt edges closed u j → ⊥
+  pub found : r < stop → OpenAt edges closed u r
+
+-- The whole block of the entry p, of at most m edges in all.
+abbrev pub blockAt : ℕ → List ℕ → ℕ → ℕ → Cursor
+blockAt m ix size p = record { edge = min (block ix p * size) m; stop = min (block ix p * size + size) m; link = next ix p; size = size }
+
+-- Edge j is where the cursor stands or after it.
+abbrev pub From : List ℕ → ℕ → Cursor → ℕ → Type 0
+From ix n c j = ToCome ix n (c .size) (c .edge) (c .stop) (c .link) j
+
+-- The cursor c is a place to look on from, in blocks that are not of one edge.
+pub record Seeking (edges : Bytes) (n : ℕ) (w : List ℕ) (u : ℕ) (c : Cursor) : Type 0 where
+  pub size : c .size ≡ block (indexIn n w) u
+  pub several : c .size ≡ 1 → ⊥
+  pub link : Within n (length (indexIn n w)) (c .link)
+  pub chain : (q : ℕ) → Lists (indexIn n w) n (c .link) q → Lists (indexIn n w) n (next (indexIn n w) u) q
+  pub stop : c .stop ≤ edgeCount edges
+  pub low : c .edge ≤ c .stop
+
+-- Looking on from c₀ has come to c: no open edge at u is left behind.
+pub record Since (edges closed : Bytes) (n : ℕ) (w : List ℕ) (u : ℕ) (c₀ c : Cursor) : Type 0 where
+  pub seeking : Seeking edges n w u c
+  pub found : c .edge < c .stop → OpenAt edges closed u (c .edge)
+  pub keeps : (j : ℕ) → OpenAt edges closed u j → From (indexIn n w) n c₀ j → From (indexIn n w) n c j
+  pub less : rank edges c ≤ rank edges c₀
+
+-- Looking on from c₀ has found what c says.
+pub record FoundFrom (edges closed : Bytes) (n : ℕ) (w : List ℕ) (u : ℕ) (c₀ c : Cursor) : Type 0 where
+  pub valid : Valid edges closed n w u c
+  pub keeps : (j : ℕ) → OpenAt edges closed u j → From (indexIn n w) n c₀ j → (j ≡ c .edge) ⊎ After (indexIn n w) n c j
+  pub less : rank edges c ≤ rank edges c₀

@@ -1,2 +1,0 @@
-// The regions of the working words.
-pub mod regions;

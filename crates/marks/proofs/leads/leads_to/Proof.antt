@@ -1,0 +1,75 @@
+-- `leads::leads_to` meets its contract: the arc leads to an unmarked node, or the sums decide.
+use native.Mathlib.Omega.{arith}
+use mathlib.Core.Path.{sym, _∙_}
+use borrow.Author.Needs.{needs}
+use borrow.Author.Tests.{not-true, not-false}
+use Rattle.marks.proofs.Tight.{arc-unmarked, arc-marked}
+use Rattle.marks.proofs.leads.leads_to.Statement.{statement}
+use Rattle.marks.proofs.leads.leads_to.Tie as tie
+
+mul-m : tie.Need-mul-m
+mul-m c = search needs
+
+mul-contains : tie.Need-mul-contains
+mul-contains c = search needs
+
+sub-contains : tie.Need-sub-contains
+sub-contains c = search needs
+
+part-contains-start : tie.Need-part-contains-start
+part-contains-start c = search needs
+
+part-contains-end : tie.Need-part-contains-end
+part-contains-end c = search needs
+
+contains-requires : tie.Need-contains-requires
+contains-requires c κs = search needs
+
+returns : tie.Need-returns
+returns c =
+    let s = c .before .before .before .before in
+    let p = s .pre in
+    let a = s .args in
+    arc-unmarked (a .work .now) (a .n) (a .v) (a .to) (a .cost) (p .2) (p .3) (sym (c .before .contains .ensures) ∙ not-true _ (c .if1 .taken))
+
+time-of-requires : tie.Need-time-of-requires
+time-of-requires c κs = search needs
+
+cast-result : tie.Need-cast-result
+cast-result c = search needs
+
+time-of-requires-2 : tie.Need-time-of-requires-2
+time-of-requires-2 c κs = search needs
+
+cast-result-2 : tie.Need-cast-result-2
+cast-result-2 c = search needs
+
+add-result : tie.Need-add-result
+add-result c = search needs
+
+returns-2 : tie.Need-returns-2
+returns-2 c =
+    let s = c .before .before .before .before .before .before in
+    let p = s .pre in
+    let a = s .args in
+    arc-marked (a .work .now) (a .n) (a .v) (a .to) (a .cost) (p .2) (p .3)
+      (sym (c .before .before .before .contains .ensures) ∙ not-false _ (c .before .before .if1 .left)) _ _ (c .before .time-of .ensures .1)
+      (c .time-of2 .ensures .1)
+
+pub leads-to-spec : {M : Type 1} → statement M
+leads-to-spec =
+    tie.close
+    (tie.spec
+    mul-m
+    mul-contains
+    sub-contains
+    part-contains-start
+    part-contains-end
+    contains-requires
+    returns
+    time-of-requires
+    cast-result
+    time-of-requires-2
+    cast-result-2
+    add-result
+    returns-2)

@@ -1,0 +1,149 @@
+-- How an oracle comes to be opened, and stays so. Assumes nothing.
+use Prim.Native.Nat.{ℕ, zero, suc, _+_, _*_, _≤_, _<_}
+use native.Mathlib.Nat.{add-zero}
+use native.Mathlib.Omega.{arith}
+use mathlib.Core.Path.{_≡_, refl, sym, ap, _∙_}
+use mathlib.Core.Bool.{true, false}
+use mathlib.Core.List.{List}
+use lib.ListN.{length, getD, set, take, drop, replicate, length-set, length-replicate}
+use lib.Seq.{getD-take, getD-drop, getD-set-same}
+use Rattle.model.specs.Bytes.{Bytes}
+use Rattle.model.specs.Contents.{nodeBody, edgeBody, closedBody}
+use Rattle.model.specs.Network.{maxNodes, nodeCount, someEdgeBroken}
+use Rattle.model.specs.Rules.{wellShaped, wordsNeeded, workWords}
+use Rattle.model.specs.Walk.{Arc}
+use Rattle.model.specs.Distance.{dist}
+use Rattle.model.specs.Oracle.{coded}
+use Rattle.theory.specs.Passed.{all-shaped}
+use Rattle.theory.specs.Sound.{node-bytes}
+use Rattle.algorithms.specs.Stops.{Stopped, lacking, nonzeros, lacking-all}
+use Rattle.bitset.specs.Bits.{setWords, flags}
+use Rattle.words.specs.Regions.{regionAt, regionFlags, want, wantIn, indexAt, gridAt, searchWords}
+use Rattle.index.specs.Index.{Roads}
+use Rattle.index.proofs.Laid.{roads-kept}
+use Rattle.checks.specs.Grids.{oracleGrid}
+use Rattle.checks.proofs.RulesKept.{some-node}
+use Rattle.words.specs.Frames.{Only, KeptFrom}
+use Rattle.words.proofs.Stays.{kept-more}
+use Rattle.opened.specs.Opened.{gridIn, Opened}
+
+-- ---- the words of the grid
+module _ (n : ℕ) (w w′ : List ℕ) where
+  same-grid : ((i : ℕ) → i < 4 → getD w′ (gridAt n + i) 0 ≡ getD w (gridAt n + i) 0) → gridIn n w′ ≡ gridIn n w
+  same-grid same =
+      let first : getD w′ (gridAt n) 0 ≡ getD w (gridAt n) 0 = rw add-zero at (same 0 (omega arith)) in
+      rw (first, same 1 (omega arith), same 2 (omega arith), same 3 (omega arith))
+
+  pub grid-behind : KeptFrom (gridAt n) w w′ → gridIn n w′ ≡ gridIn n w
+  grid-behind e = same-grid (λ i h. sym (getD-drop (gridAt n) w′ i 0) ∙ (ap (λ (l : List ℕ). getD l i 0) e ∙ getD-drop (gridAt n) w i 0))
+
+  pub grid-before : 0 < n → take (indexAt n) w′ ≡ take (indexAt n) w → gridIn n w′ ≡ gridIn n w
+  grid-before p e = same-grid (λ i h.
+      sym (getD-take (indexAt n) w′ (gridAt n + i) 0 (omega arith)) ∙ (ap (λ (l : List ℕ). getD l (gridAt n + i) 0) e ∙ getD-take (indexAt n) w (gridAt n + i) 0 (omega arith)))
+
+-- The index stands behind the grid.
+pub roads-behind : (eb cb : Bytes) (n : ℕ) (w w′ : List ℕ) → KeptFrom (gridAt n) w w′ → Roads eb cb n w → Roads eb cb n w′
+roads-behind eb cb n w w′ e r = roads-kept eb cb n w w′ (kept-more (gridAt n) (indexAt n) w w′ (omega arith) e) r
+
+-- ---- an opened oracle
+module _ (o : Bytes) where
+  abbrev n : ℕ
+  n = nodeCount (nodeBody o)
+
+  -- The words before the grid may change.
+  pub opened-kept : (w w′ : List ℕ) → Opened o w → length w′ ≡ length w → KeptFrom (gridAt n) w w′ → Opened o w′
+  opened-kept w w′ h l e = record {
+    shape = h .shape;
+    room = omega (arith, h .room, l);
+    grid = grid-behind n w w′ e ∙ h .grid;
+    roads = roads-behind (edgeBody o) (closedBody o) n w w′ e (h .roads);
+  }
+
+  pub others-rest : (w w′ : List ℕ) → 0 < n → KeptFrom (gridAt n) w w′ → KeptFrom (wordsNeeded o) w w′
+  unfolding wordsNeeded
+  others-rest w w′ p e = kept-more (gridAt n) (workWords n) w w′ (omega arith) e
+
+  -- From w₀, by the numbers of the grid, to w₁, and by the index to w₂.
+  module _ (w₀ w₁ w₂ : List ℕ) (p : 0 < n) (long : length w₂ ≡ length w₀) (g : gridIn n w₁ ≡ oracleGrid o) (before : take (indexAt n) w₂ ≡ take (indexAt n) w₁) where
+    pub opened-made : wellShaped o ≡ true → wordsNeeded o ≤ length w₀ → Roads (edgeBody o) (closedBody o) n w₂ → Opened o w₂
+    opened-made shape room roads = record { shape = shape; room = omega (arith, room, long); grid = grid-before n w₁ w₂ p before ∙ g; roads = roads }
+
+  pub opened-rest : (w₀ w₁ w₂ : List ℕ) → 0 < n → KeptFrom (gridAt n + 4) w₀ w₁ → KeptFrom (workWords n) w₁ w₂ → KeptFrom (wordsNeeded o) w₀ w₂
+  unfolding wordsNeeded
+  opened-rest w₀ w₁ w₂ p d e = e ∙ kept-more (gridAt n + 4) (workWords n) w₀ w₁ (omega arith) d
+
+-- The same, for the number of nodes and the bodies as the code has them.
+module _ (o : Bytes) (m : ℕ) (e : m ≡ nodeCount (nodeBody o)) (eb cb : Bytes) (p : eb ≡ edgeBody o) (q : cb ≡ closedBody o) (w₀ w₁ w₂ : List ℕ) where
+  pub words-opened : 0 < nodeCount (nodeBody o) → length w₂ ≡ length w₀ → wellShaped o ≡ true → wordsNeeded o ≤ length w₀ → gridIn m w₁ ≡ oracleGrid o → KeptFrom (gridAt m + 4) w₀ w₁
+      → Roads eb cb m w₂ → take (indexAt m) w₂ ≡ take (indexAt m) w₁ → KeptFrom (workWords m) w₁ w₂ → Opened o w₂ × (KeptFrom (wordsNeeded o) w₀ w₂)
+  words-opened some long shape room g d roads before back = (
+    opened-made o w₀ w₁ w₂ some long (rw e at g) (rw e at before) shape room (rw (e, p, q) at roads),
+    opened-rest o w₀ w₁ w₂ some (rw e at d) (rw e at back),
+  )
+
+-- ---- what stays of an opened oracle after an answer
+pub record Stays (o : Bytes) (w w′ : List ℕ) : Type 0 where
+  pub opened : Opened o w′
+  pub rest : KeptFrom (wordsNeeded o) w w′
+
+pub stays : (o : Bytes) (w w′ : List ℕ) → Opened o w → length w′ ≡ length w
+    → KeptFrom (gridAt (nodeCount (nodeBody o))) w w′ → Stays o w w′
+stays o w w′ h l e = record { opened = opened-kept o w w′ h l e; rest = others-rest o w w′ (some-node o (h .shape)) e }
+
+-- ---- what a search asks for, of the bodies and the number of nodes as the code has them
+pub record Lent (o eb cb : Bytes) (m : ℕ) (w : List ℕ) : Type 0 where
+  pub few : m ≤ maxNodes
+  pub below : (u : ℕ) → u < nodeCount (nodeBody o) → u < m
+  pub room : workWords m ≤ length w
+  pub edge : someEdgeBroken m eb ≡ false
+  pub roads : Roads eb cb m w
+
+pub lent : (o : Bytes) (w : List ℕ) → Opened o w → (eb cb : Bytes) (m : ℕ) → eb ≡ edgeBody o → cb ≡ closedBody o → m ≡ nodeCount (nodeBody o)
+    → Lent o eb cb m w
+unfolding wordsNeeded
+lent o w h eb cb m p q e =
+    let sound = all-shaped o (h .shape) .sound in
+    record {
+      few = omega (arith, node-bytes o sound .0, e);
+      below = λ u l. omega (arith, e);
+      room = omega (arith, h .room, e);
+      edge = rw (e, p) (sound .some-edge);
+      roads = rw (e, p, q) (h .roads);
+    }
+
+-- ---- one node wanted
+none : (n : ℕ) → nonzeros (replicate n 0) ≡ 0
+unfolding nonzeros
+none zero = refl
+none (suc n) = none n
+
+one : (n t : ℕ) → nonzeros (set (replicate n 0) t 1) ≤ 1
+unfolding nonzeros
+one zero t = omega arith
+one (suc n) zero = omega (arith, none n)
+one (suc n) (suc t) = one n t
+
+pub lacking-one : (n t : ℕ) → lacking (set (replicate n 0) t 1) (replicate n 0) ≤ 1
+lacking-one n t =
+    omega (arith, lacking-all (set (replicate n 0) t 1) n (omega (arith, size)), one n t)
+  where
+    size : length (set (replicate {A = ℕ} n 0) t 1) ≡ n
+    size = length-set (replicate {A = ℕ} n 0) t 1 ∙ length-replicate {A = ℕ} n 0
+
+-- The wanted set of a search is region WANT.
+at-want : (n : ℕ) → searchWords n ≡ regionAt n want
+at-want n = omega arith
+
+pub want-single : (n t : ℕ) (w₁ w₂ : List ℕ) → regionFlags n want w₁ ≡ replicate n 0 → regionFlags n want w₂ ≡ set (regionFlags n want w₁) t 1 → wantIn n w₂ ≡ set (replicate n 0) t 1
+unfolding wantIn
+want-single n t w₁ w₂ e q = ap (λ (a : ℕ). flags n (drop a w₂)) (at-want n) ∙ (q ∙ ap (λ (l : List ℕ). set l t 1) e)
+
+pub want-others : (n : ℕ) (w₀ w₁ w₂ : List ℕ) → Only n want w₀ w₁ → Only n want w₁ w₂ → KeptFrom (gridAt n) w₀ w₂
+want-others n w₀ w₁ w₂ p q =
+    let e : regionAt n want + setWords n ≡ gridAt n = omega arith in
+    rw e at (q .back ∙ p .back)
+
+-- The word of the one wanted node.
+pub stopped-word : (arcs : List Arc) (n s t : ℕ) (w order : List ℕ) → t < n → Stopped arcs n s (set (replicate n 0) t 1) (take n w) order → getD w t 0 ≡ coded (dist arcs n s t)
+stopped-word arcs n s t w order h found =
+    sym (getD-take n w t 0 h) ∙ found .wanted t h (omega (arith, getD-set-same (replicate {A = ℕ} n 0) t 1 0 (omega (arith, length-replicate {A = ℕ} n 0))))

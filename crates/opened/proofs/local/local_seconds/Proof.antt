@@ -1,0 +1,55 @@
+-- `local::local_seconds` meets its contract.
+use mathlib.Core.Path.{refl, sym}
+use Rattle.opened.proofs.OpenLaws.{lent}
+use Rattle.opened.proofs.SearchWords.{distance-in, itself-no-time}
+use borrow.Author.Needs.{needs}
+use Rattle.opened.proofs.local.local_seconds.Statement.{statement}
+use Rattle.opened.proofs.local.local_seconds.Tie as tie
+
+returns : tie.Need-returns
+returns c = let a = c .before .before .before .args in
+    (rw (← c .if1 .taken) (sym (itself-no-time (a .o .now) (a .s) (c .before .before .before .pre .0 .shape) (c .before .before .before .pre .1))), refl)
+
+oracle-body-requires : tie.Need-oracle-body-requires
+oracle-body-requires c κs = search needs
+
+oracle-body-requires-2 : tie.Need-oracle-body-requires-2
+oracle-body-requires-2 c κs = search needs
+
+node-count-requires : tie.Need-node-count-requires
+node-count-requires c κs = search needs
+
+search-seconds-requires : tie.Need-search-seconds-requires
+search-seconds-requires c κs =
+    let p = c .before .before .before .before .before .before .before .pre in
+    let oracle-body = c .before .before .before .oracle-body in
+    let oracle-body2 = c .before .before .oracle-body2 in
+    let k = lent _ _ (p .0) _ _ _ (oracle-body .ensures) (oracle-body2 .ensures) (c .before .node-count .ensures) in
+    (k .few, k .below _ (p .1), k .below _ (p .2), k .room, k .roads)
+
+same-length : tie.Need-same-length
+same-length c = search needs
+
+returns-2 : tie.Need-returns-2
+returns-2 c =
+    let a = c .before .before .before .before .before .before .before .before .before .before .args in
+    let oracle-body = c .before .before .before .before .before .before .oracle-body in
+    let oracle-body2 = c .before .before .before .before .before .oracle-body2 in
+    let node-count = c .before .before .before .before .node-count in
+    let search-seconds = c .before .before .search-seconds in
+    let same = distance-in (a .o .now) (a .s) (a .t) in (
+      rw (same, ← oracle-body .ensures, ← oracle-body2 .ensures, ← node-count .ensures) (search-seconds .ensures .0),
+      rw (node-count .ensures) at (search-seconds .ensures .1),
+    )
+
+pub local-seconds-spec : {M : Type 1} → statement M
+local-seconds-spec =
+    tie.close
+    (tie.spec
+    returns
+    oracle-body-requires
+    oracle-body-requires-2
+    node-count-requires
+    search-seconds-requires
+    same-length
+    returns-2)

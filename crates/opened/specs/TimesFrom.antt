@@ -1,0 +1,20 @@
+-- The times from a node, as a search leaves them in the working words, and the way by them. Assumes nothing.
+use Prim.Native.Nat.{ℕ, _≤_}
+use mathlib.Core.Path.{_≡_}
+use mathlib.Core.List.{List}
+use lib.ListN.{length, take}
+use Rattle.model.specs.Bytes.{Bytes}
+use Rattle.model.specs.Contents.{nodeBody, edgeBody, closedBody}
+use Rattle.model.specs.Network.{nodeCount}
+use Rattle.algorithms.specs.Rounds.{distanceWords}
+use Rattle.arcs.specs.Arcs.{arcsIn}
+use Rattle.way.specs.Distances.{wayIn}
+
+-- The first words are the distances from s in the oracle's network.
+pub record TimesFrom (o : Bytes) (s : ℕ) (work : List ℕ) : Type 0 where
+  pub times : take (nodeCount (nodeBody o)) work ≡ distanceWords (arcsIn (edgeBody o) (closedBody o)) (nodeCount (nodeBody o)) s
+  pub room : nodeCount (nodeBody o) ≤ length work
+
+-- The way from s to t over the bodies of edges and closed edges, by the distances from t: roads run both ways (theory `both-ways`).
+unfoldable pub wayOver : Bytes → Bytes → ℕ → ℕ → ℕ → List ℕ
+wayOver edges closed n s t = wayIn (distanceWords (arcsIn edges closed) n t) (arcsIn edges closed) s

@@ -1,0 +1,83 @@
+// The answers over an opened oracle, for nodes that it has.
+ghost use mathlib.Core.Path.{_≡_};
+ghost use mathlib.Core.Bool.{true};
+ghost use Prim.Native.Nat.{_<_};
+ghost use lib.ListN.{drop};
+ghost use Rattle.model.specs.Contents.{nodeBody};
+ghost use Rattle.model.specs.Network.{network, nodeCount};
+ghost use Rattle.model.specs.Query.{farAnswer, localAnswer, timeAnswer};
+ghost use Rattle.model.specs.Rules.{wellShaped};
+ghost use Rattle.words.specs.Frames.{KeptFrom};
+ghost use Rattle.opened.specs.Opened.{Opened};
+ghost use Rattle.opened.specs.Room.{WayGiven};
+ghost use Rattle.words.specs.Regions.{gridAt};
+use crate::local::local_seconds;
+use crate::ways::write_way_to;
+use crate::opening::opened_kind;
+use model::Answer;
+use model::Kind;
+use model::Route;
+use reader::oracle::ACCESS;
+use reader::oracle::CLOSED;
+use reader::oracle::EDGES;
+use reader::oracle::TABLE;
+use reader::oracle::node_count;
+use reader::oracle::oracle_body;
+use reader::oracle::oracle_contents;
+use reader::oracle::transit_count;
+use tables::far::answer_of;
+use tables::far::far_answer;
+
+// The far answer, from the lists and the table alone.
+pub fn far_of(o: &[u8], s: usize, t: usize) -> Answer
+    requires { ⌜ (wellShaped (now o) ≡ true) × (s < nodeCount (nodeBody (now o))) × (t < nodeCount (nodeBody (now o))) ⌝ }
+    ensures { λ r. ⌜ r ≡ farAnswer (now (o .entry)) s t ⌝ }
+{
+    far_answer(
+        transit_count(o),
+        oracle_body(o, ACCESS),
+        oracle_body(o, TABLE),
+        s,
+        t,
+    )
+}
+
+// The local answer, from a search over the open edges.
+fn local_of(o: &[u8], s: usize, t: usize, work: &mut [u32]) -> Answer
+    requires { ⌜ Opened (now o) (now work) × (s < nodeCount (nodeBody (now o))) × (t < nodeCount (nodeBody (now o))) ⌝ }
+    ensures answer { λ r. ⌜ r ≡ localAnswer (network (now (o .entry))) s t ⌝ }
+    ensures others { λ _. ⌜ KeptFrom (gridAt (nodeCount (nodeBody (now (o .entry))))) (now (work .entry)) (now (work .exit)) ⌝ }
+{
+    answer_of(Kind::Local, 0, local_seconds(o, s, t, work))
+}
+
+// The answer by the kind of the pair.
+pub fn time_of(o: &[u8], s: usize, t: usize, work: &mut [u32]) -> Answer
+    requires { ⌜ Opened (now o) (now work) × (s < nodeCount (nodeBody (now o))) × (t < nodeCount (nodeBody (now o))) ⌝ }
+    ensures answer { λ r. ⌜ r ≡ timeAnswer (now (o .entry)) s t ⌝ }
+    ensures others { λ _. ⌜ KeptFrom (gridAt (nodeCount (nodeBody (now (o .entry))))) (now (work .entry)) (now (work .exit)) ⌝ }
+{
+    let kind = opened_kind(o, s, t, work);
+    match kind {
+        Kind::Far => far_of(o, s, t),
+        Kind::Local => local_of(o, s, t, work),
+    }
+}
+
+// The way where no rule before 15 is broken.
+pub fn way_of(o: &[u8], s: usize, t: usize, work: &mut [u32], out: &mut [u8]) -> Route
+    requires { ⌜ Opened (now o) (now work) × (s < nodeCount (nodeBody (now o))) × (t < nodeCount (nodeBody (now o))) ⌝ }
+    ensures given { λ r. ⌜ WayGiven (now (o .entry)) s t (now (out .entry)) r (now (out .exit)) ⌝ }
+    ensures others { λ _. ⌜ KeptFrom (gridAt (nodeCount (nodeBody (now (o .entry))))) (now (work .entry)) (now (work .exit)) ⌝ }
+{
+    let c = oracle_contents(o);
+    write_way_to(
+        c.body(o, EDGES),
+        c.body(o, CLOSED),
+        node_count(o),
+        s,
+        t,
+        work,
+        out,
+    )
+}

@@ -1,0 +1,85 @@
+// Local answers, by a search in the working words.
+ghost use mathlib.Core.Path.{_≡_};
+ghost use Prim.Native.Nat.{_*_, _<_, _≤_};
+ghost use lib.ListN.{length, set, drop, replicate};
+ghost use Rattle.model.specs.Contents.{nodeBody};
+ghost use Rattle.model.specs.Distance.{dist};
+ghost use Rattle.model.specs.Network.{network, distance, maxNodes, nodeCount};
+ghost use Rattle.model.specs.Oracle.{coded};
+ghost use Rattle.algorithms.specs.Stops.{Stopped};
+ghost use Rattle.arcs.specs.Arcs.{arcsIn};
+ghost use Rattle.index.specs.Index.{Roads};
+ghost use Rattle.words.specs.Frames.{Enough, KeptFrom};
+ghost use Rattle.opened.specs.Opened.{Opened};
+ghost use Rattle.words.specs.Regions.{timesIn, orderIn, wantIn, gridAt};
+use words::regions::WANT;
+use words::regions::clear;
+use words::regions::put;
+use reader::oracle::CLOSED;
+use reader::oracle::EDGES;
+use reader::oracle::node_count;
+use reader::oracle::oracle_body;
+use search::wanted::search_wanted;
+
+// The wanted set of a search has t alone.
+fn want_only(work: &mut [u32], n: usize, t: usize)
+    requires { ⌜ (n ≤ maxNodes) × (t < n) × Enough n (now work) ⌝ }
+    ensures members { λ _. ⌜ wantIn n (now (work .exit)) ≡ set (replicate n 0) t 1 ⌝ }
+    ensures others { λ _. ⌜ KeptFrom (gridAt n) (now (work .entry)) (now (work .exit)) ⌝ }
+{
+    clear(work, n, WANT);
+    put(work, n, WANT, t);
+}
+
+// Searches from s until t is settled. The search leaves what it likes before the grid.
+pub fn search_to(
+    edges: &[u8],
+    closed: &[u8],
+    n: usize,
+    s: usize,
+    t: usize,
+    work: &mut [u32],
+) -> usize
+    requires { ⌜ (n ≤ maxNodes) × (s < n) × (t < n) × Enough n (now work) × Roads (now edges) (now closed) n (now work) ⌝ }
+    ensures found { λ e. ⌜ Stopped (arcsIn (now (edges .entry)) (now (closed .entry))) n s (set (replicate n 0) t 1) (timesIn n (now (work .exit))) (orderIn n e (now (work .exit))) ⌝ }
+    ensures others { λ _. ⌜ KeptFrom (gridAt n) (now (work .entry)) (now (work .exit)) ⌝ }
+{
+    want_only(work, n, t);
+    search_wanted(edges, closed, n, s, 1, work)
+}
+
+// The distance from s to t over the bodies of edges and closed edges.
+fn search_seconds(
+    edges: &[u8],
+    closed: &[u8],
+    n: usize,
+    s: usize,
+    t: usize,
+    work: &mut [u32],
+) -> u32
+    requires { ⌜ (n ≤ maxNodes) × (s < n) × (t < n) × Enough n (now work) × Roads (now edges) (now closed) n (now work) ⌝ }
+    ensures seconds { λ r. ⌜ r ≡ coded (dist (arcsIn (now (edges .entry)) (now (closed .entry))) n s t) ⌝ }
+    ensures others { λ _. ⌜ KeptFrom (gridAt n) (now (work .entry)) (now (work .exit)) ⌝ }
+{
+    search_to(edges, closed, n, s, t, work);
+    work[t]
+}
+
+// The distance from s to t in the oracle's network. From a node to itself nothing is searched.
+pub fn local_seconds(o: &[u8], s: usize, t: usize, work: &mut [u32]) -> u32
+    requires { ⌜ Opened (now o) (now work) × (s < nodeCount (nodeBody (now o))) × (t < nodeCount (nodeBody (now o))) ⌝ }
+    ensures seconds { λ r. ⌜ r ≡ coded (distance (network (now (o .entry))) s t) ⌝ }
+    ensures others { λ _. ⌜ KeptFrom (gridAt (nodeCount (nodeBody (now (o .entry))))) (now (work .entry)) (now (work .exit)) ⌝ }
+{
+    if s == t {
+        return 0;
+    }
+    search_seconds(
+        oracle_body(o, EDGES),
+        oracle_body(o, CLOSED),
+        node_count(o),
+        s,
+        t,
+        work,
+    )
+}

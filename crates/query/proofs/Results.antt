@@ -1,0 +1,79 @@
+-- What the calls and the questions hand back and leave, after a refusal and after none. Assumes nothing.
+use Prim.Native.Nat.{ℕ, _*_}
+use mathlib.Core.Path.{_≡_, refl, sym, _∙_}
+use mathlib.Core.Bool.{true, cond}
+use mathlib.Core.List.{List, []}
+use lib.ListN.{length, drop}
+use lib.Dec.{eqb}
+use borrow.Author.Tests.{ne-eqb}
+use Rattle.model.specs.Bytes.{Bytes}
+use Rattle.model.specs.Network.{network}
+use Rattle.model.specs.Query.{way, timeAnswer}
+use Rattle.model.specs.Rules.{firstBroken, networkRules, shapeRules, pairRules, timeRules, wayRules, outputTooSmall, wordsNeeded}
+use Rattle.model.specs.Calls.{clears, cleared, workAfter, timeResult, timeRefusal, outputAfter, routeAfter, wayRefusal, WayCall}
+use Rattle.model.specs.declared.Answer.the-variants.{Refused}
+use Rattle.model.specs.declared.Route.{Route}
+use Rattle.theory.specs.BuiltCalls.{time-counted}
+use Rattle.checks.proofs.AfterCall.{answer-refused, answer-given, unclearing, words-kept, words-cleared, last-clears}
+use Rattle.checks.proofs.CheckOrder.{sooner, last-left}
+use Rattle.checks.proofs.RulesKept.{time-roomy}
+use Rattle.opened.specs.Opened.{Opened}
+use Rattle.opened.specs.Room.{roomRule, WayGiven}
+use Rattle.words.specs.Frames.{KeptFrom}
+
+-- ---- the part that a list is
+pub part-refused : (rule : ℕ) (b : Bytes) → (rule ≡ 0 → ⊥) → [] ≡ cond (eqb rule 0) b []
+part-refused rule b h = rw (ne-eqb rule 0 h)
+
+pub part-given : (rule : ℕ) (b : Bytes) → rule ≡ 0 → b ≡ cond (eqb rule 0) b []
+part-given rule b e = rw e
+
+-- ---- a time and a way; `r` is the first of the time's rules that is broken
+module _ (o : Bytes) (s t : ℕ) (work : List ℕ) (r : ℕ) (e : r ≡ firstBroken (timeRules o s t (length work))) where
+  unwritten : unclearing (timeRules o s t (length work)) ≡ true
+  unfolding unclearing clears timeRules pairRules shapeRules networkRules
+  unwritten = refl
+
+  pub time-refused : (r ≡ 0 → ⊥) → Refused r ≡ timeResult o s t work
+  unfolding timeResult timeRefusal
+  time-refused h = rw (← e) (answer-refused r _ h)
+
+  pub time-given : r ≡ 0 → timeAnswer o s t ≡ timeResult o s t work
+  unfolding timeResult timeRefusal
+  time-given z = answer-given _ _ (sym e ∙ z)
+
+  pub time-unwritten : (r ≡ 0 → ⊥) → work ≡ workAfter (timeRefusal o s t work) o work
+  unfolding timeRefusal
+  time-unwritten h = rw (← e) (words-kept (timeRules o s t (length work)) unwritten r e o work h)
+
+  pub time-zeroed : (mid : List ℕ) → r ≡ 0 → KeptFrom (wordsNeeded o) work mid
+      → cleared (wordsNeeded o) mid ≡ workAfter (timeRefusal o s t work) o work
+  unfolding timeRefusal
+  time-zeroed mid z d = words-cleared o work mid d _ (sym e ∙ z)
+
+  module _ (out : Bytes) where
+    pub way-refused : (r ≡ 0 → ⊥) → WayCall o s t work out (record { rule = r; nodes = 0 }) work out
+    way-refused h = record {
+      result = rw same (unfold routeAfter in rw (ne-eqb r 0 h));
+      words = rw same (words-kept (timeRules o s t (length work)) unwritten r e o work h);
+      bytes = rw same (unfold outputAfter in rw (ne-eqb r 0 h));
+    }
+      where
+        same : wayRefusal o s t work out ≡ r
+        same = unfold wayRefusal wayRules in sym (sooner (timeRules o s t (length work)) r e _ h)
+
+    pub way-given : (work′ mid : List ℕ) (route : Route) (out′ : Bytes) → r ≡ 0 → WayGiven o s t out route out′
+        → KeptFrom (wordsNeeded o) work mid → work′ ≡ cleared (wordsNeeded o) mid → WayCall o s t work out route work′ out′
+    way-given work′ mid route out′ z g d c = record {
+      result = rw last (g .result);
+      words = rw last (c ∙ unfold roomRule in last-clears o work mid d 15 (unfold clears in refl) (outputTooSmall (2 * length (way (network o) s t)) (length out)));
+      bytes = rw last (g .bytes);
+    }
+      where
+        last : wayRefusal o s t work out ≡ roomRule (way (network o) s t) (length out)
+        last = unfold wayRefusal wayRules roomRule in last-left (timeRules o s t (length work)) r e (time-counted o s t (length work)) z 15 _
+
+-- Over an opened oracle the rules of a time are those of its pair.
+pub as-time : (o : Bytes) (s t : ℕ) (work : List ℕ) → Opened o work → (r : ℕ) → r ≡ firstBroken (pairRules o s t)
+    → r ≡ firstBroken (timeRules o s t (length work))
+as-time o s t work h r e = e ∙ sym (time-roomy o s t (length work) (h .room))

@@ -1,4 +1,0 @@
-pub mod Toward
-pub mod Room
-pub mod Grids
-pub mod Opened

@@ -1,0 +1,39 @@
+-- `networks::search` meets its contract. Assumes nothing.
+use Prim.Native.Nat.{_-_}
+use mathlib.Core.Path.{_≡_}
+use lib.ListN.{length}
+use borrow.Author.Needs.{needs}
+use Rattle.trials.proofs.networks.search.Statement.{statement}
+use Rattle.trials.proofs.networks.search.Tie as tie
+
+abbrev Inv-loop : tie.InvT-loop
+Inv-loop d₀ net i₀ d i = length d ≡ length d₀
+
+abbrev μ-loop : tie.MeasureT-loop
+μ-loop d₀ net i₀ d i = 16384 - i
+
+loop-holds : tie.Need-loop-holds Inv-loop μ-loop
+loop-holds c = search needs
+
+relax-requires : tie.Need-relax-requires Inv-loop μ-loop
+relax-requires c κs = search needs
+
+add-i : tie.Need-add-i Inv-loop μ-loop
+add-i c = search needs
+
+loop-less : tie.Need-loop-less Inv-loop μ-loop
+loop-less c = search needs
+
+loop-again : tie.Need-loop-again Inv-loop μ-loop
+loop-again c = search needs
+
+same-length : tie.Need-same-length Inv-loop μ-loop
+same-length c = search needs
+
+returns : tie.Need-returns Inv-loop μ-loop
+returns c = search needs
+
+pub search-spec : {M : Type 1} → statement M
+search-spec =
+    tie.close
+    (tie.spec Inv-loop μ-loop loop-holds relax-requires add-i loop-less loop-again same-length returns)

@@ -1,0 +1,146 @@
+-- Where the regions stand; the words of one of them, lent and come back, and the regions apart from it. Assumes nothing.
+use Prim.Native.Nat.{ℕ, zero, suc, _+_, _-_, _*_, _/_, _≤_, _<_}
+use native.Mathlib.Nat.{add-zero, suc-mul}
+use native.Mathlib.Decide.{decLt}
+use native.Mathlib.Omega.{arith}
+use mathlib.Core.Path.{_≡_, sym, ap, _∙_, subst}
+use mathlib.Core.List.{List, _++_}
+use borrow.Rule.Slice.PartMut.{midOf, postOf, putMid, take-put, drop-put, mid-len}
+use lib.ListN.{length, set, take, drop, replicate, length-drop}
+use lib.Seq.{length-take-le, take-at, drop-at, getD-take}
+use Rattle.bitset.specs.Bits.{setWords, isIn, insertIn, flags}
+use Rattle.bitset.proofs.Members.{flags-same, flags-insert, flags-none}
+use Rattle.words.specs.Regions.{regionAt, region, regionFlags, counts, countsIn, searchWords}
+use Rattle.words.specs.Frames.{OnlyIn, Only, KeptFrom}
+use Rattle.words.proofs.Stays.{before-kept, after-kept}
+
+-- ---- where the regions stand
+pub at-words : (n k : ℕ) → k < 3 → k * n ≡ regionAt n k
+at-words n zero h = omega arith
+at-words n (suc zero) h = omega arith
+at-words n (suc (suc zero)) h = omega arith
+at-words n (suc (suc (suc k))) h = absurd (omega arith)
+
+pub at-sets : (n k : ℕ) → 3 ≤ k → searchWords n + (k - 3) * setWords n ≡ regionAt n k
+at-sets n zero h = absurd (omega arith)
+at-sets n (suc zero) h = absurd (omega arith)
+at-sets n (suc (suc zero)) h = absurd (omega arith)
+at-sets n (suc (suc (suc k))) h = let e : suc (suc (suc k)) - 3 ≡ k = omega arith in rw e
+
+-- The set in a region ends before the next region begins.
+set-end : (n j : ℕ) → 0 < n → regionAt n j + setWords n ≤ regionAt n (suc j)
+set-end n zero h = omega arith
+set-end n (suc zero) h = omega arith
+set-end n (suc (suc zero)) h = omega arith
+set-end n (suc (suc (suc j))) h = omega (arith, suc-mul j (setWords n))
+
+before : (n j i : ℕ) → 0 < n → regionAt n j + setWords n ≤ regionAt n (suc j + i)
+before n j zero h = rw (add-zero (suc j)) (set-end n j h)
+before n j (suc i) h = let e : suc j + suc i ≡ suc (suc j + i) = omega arith in rw e (omega (arith, before n j i h, set-end n (suc j + i) h))
+
+apart : (n j k : ℕ) → 0 < n → j < k → regionAt n j + setWords n ≤ regionAt n k
+apart n j k h l = let e : suc j + (k - suc j) ≡ k = omega arith in rw e at (before n j (k - suc j) h)
+
+-- ---- the words of a set show n numbers
+pub in-front : (n : ℕ) (s : List ℕ) (v : ℕ) → v < n → isIn (take (setWords n) s) v ≡ isIn s v
+unfolding isIn
+in-front n s v h = rw (getD-take (setWords n) s (v / 32) 0 (omega arith))
+
+pub flags-front : (n : ℕ) (s : List ℕ) → flags n (take (setWords n) s) ≡ flags n s
+flags-front n s = flags-same n (take (setWords n) s) s (λ v h. in-front n s v h)
+
+-- ---- the words from a to a + m, lent and come back
+module _ (a m : ℕ) (w : List ℕ) where
+  width : a + m - a ≡ m
+  width = omega arith
+
+  pub part-is : midOf a (a + m - a) w ≡ take m (drop a w)
+  part-is = ap (λ (k : ℕ). take k (drop a w)) width
+
+  module _ (h : a + m ≤ length w) where
+    pub part-length : length (midOf a (a + m - a) w) ≡ m
+    part-length = mid-len a (a + m) w h ∙ width
+
+    module _ (ys : List ℕ) (e : length ys ≡ length (midOf a (a + m - a) w)) where
+      abbrev put : List ℕ
+      put = putMid a (a + m - a) w ys
+
+      size : length ys ≡ m
+      size = e ∙ part-length
+
+      pub put-only : OnlyIn a m w put
+      put-only = record { front = take-put a (a + m - a) w ys (omega arith); back = drop-put a (a + m) w ys (omega arith) h (size ∙ sym width) }
+
+      pub put-part : take m (drop a put) ≡ ys
+      put-part =
+          ap (take m) (drop-at (take a w) (ys ++ postOf a (a + m - a) w) a (length-take-le a w (omega arith)))
+          ∙ take-at ys (postOf a (a + m - a) w) m size
+
+pub counts-is : (n a : ℕ) (w : List ℕ) → a ≡ regionAt n counts → midOf a (a + n - a) w ≡ countsIn n w
+counts-is n a w p = part-is a n w ∙ rw p
+
+pub region-length : (n k : ℕ) (w : List ℕ) → regionAt n k + setWords n ≤ length w → length (region n k w) ≡ setWords n
+region-length n k w h = length-take-le (setWords n) (drop (regionAt n k) w) (simp length-drop (omega arith))
+
+-- ---- a set lent: a and m are its place and its words, as the code has them
+module _ (n k a m : ℕ) (w : List ℕ) (p : a ≡ regionAt n k) (q : m ≡ setWords n) where
+  pub set-is : midOf a (a + m - a) w ≡ region n k w
+  set-is = part-is a m w ∙ rw (p, q)
+
+  pub in-part : (v : ℕ) → v < n → isIn (midOf a (a + m - a) w) v ≡ isIn (drop (regionAt n k) w) v
+  in-part v h = ap (λ (l : List ℕ). isIn l v) set-is ∙ in-front n (drop (regionAt n k) w) v h
+
+  pub flags-part : flags n (midOf a (a + m - a) w) ≡ regionFlags n k w
+  flags-part = ap (flags n) set-is ∙ flags-front n (drop (regionAt n k) w)
+
+  module _ (h : a + m ≤ length w) where
+    pub set-length : length (midOf a (a + m - a) w) ≡ setWords n
+    set-length = part-length a m w h ∙ q
+
+    module _ (ys : List ℕ) (e : length ys ≡ length (midOf a (a + m - a) w)) where
+      abbrev new : List ℕ
+      new = putMid a (a + m - a) w ys
+
+      pub only : Only n k w new
+      only =
+          let o = put-only a m w h ys e in
+          let end : a + m ≡ regionAt n k + setWords n = omega (arith, p, q) in
+          record { front = subst (λ (i : ℕ). take i new ≡ take i w) p (o .front); back = subst (λ (i : ℕ). KeptFrom i w new) end (o .back) }
+
+      put-set : region n k new ≡ ys
+      put-set = subst (λ (i : ℕ). take (setWords n) (drop i new) ≡ ys) p (subst (λ (i : ℕ). take i (drop a new) ≡ ys) q (put-part a m w h ys e))
+
+      pub put-flags : regionFlags n k new ≡ flags n ys
+      put-flags = sym (flags-front n (drop (regionAt n k) new)) ∙ ap (flags n) put-set
+
+      pub inserted : (v : ℕ) → v < n → ys ≡ insertIn (midOf a (a + m - a) w) v → regionFlags n k new ≡ set (regionFlags n k w) v 1
+      inserted v l r =
+          let s = region n k w in
+          let long : length s ≡ setWords n = ap length (sym set-is) ∙ set-length in
+          put-flags
+          ∙ (ap (flags n) (r ∙ ap (λ (l : List ℕ). insertIn l v) set-is)
+          ∙ (flags-insert n s v l (omega (arith, long))
+          ∙ ap (λ (l : List ℕ). set l v 1) (flags-front n (drop (regionAt n k) w))))
+
+      pub emptied : ys ≡ replicate (length (midOf a (a + m - a) w)) 0 → regionFlags n k new ≡ replicate n 0
+      emptied r = put-flags ∙ (ap (flags n) r ∙ flags-none n (length (midOf a (a + m - a) w)))
+
+-- ---- what stays where a part alone is changed
+module _ (a m : ℕ) (w w′ : List ℕ) (o : OnlyIn a m w w′) where
+  -- The set in a region that ends before a.
+  pub flags-before : (n j : ℕ) → regionAt n j + setWords n ≤ a → regionFlags n j w′ ≡ regionFlags n j w
+  flags-before n j h = sym (flags-front n (drop (regionAt n j) w′)) ∙ (ap (flags n) (before-kept a m w w′ o (regionAt n j) (setWords n) h) ∙ flags-front n (drop (regionAt n j) w))
+
+module _ (n j k : ℕ) (w w′ : List ℕ) (differ : j ≡ k → ⊥) (o : Only n k w w′) where
+  pub region-kept : 0 < n → region n j w′ ≡ region n j w
+  region-kept h = pick (decLt j k)
+    where
+      pick : Dec (j < k) → region n j w′ ≡ region n j w
+      pick (yes l) = before-kept (regionAt n k) (setWords n) w w′ o (regionAt n j) (setWords n) (apart n j k h l)
+      pick (no l) = ap (take (setWords n)) (after-kept (regionAt n k) (setWords n) w w′ o (regionAt n j) (apart n k j h (omega (arith, differ))))
+
+  pub in-kept : (v : ℕ) → v < n → isIn (drop (regionAt n j) w′) v ≡ isIn (drop (regionAt n j) w) v
+  in-kept v h = sym (in-front n (drop (regionAt n j) w′) v h) ∙ (ap (λ (l : List ℕ). isIn l v) (region-kept (omega arith)) ∙ in-front n (drop (regionAt n j) w) v h)
+
+  pub flags-kept : regionFlags n j w′ ≡ regionFlags n j w
+  flags-kept = flags-same n (drop (regionAt n j) w′) (drop (regionAt n j) w) (λ v h. in-kept v h)

@@ -1,0 +1,48 @@
+//! The form of network and oracle files, each number once. For showing, making and measuring files only: the core reads for itself, and the tests'
+//! reference has numbers of its own.
+
+pub const NETWORK_EDITION: u8 = 1;
+pub const ORACLE_EDITION: u8 = 1;
+
+/// The edition and the number of entries, then the entries: kind, offset, length.
+pub const HEAD_SIZE: usize = 2;
+pub const ENTRY_SIZE: usize = 9;
+
+/// The bodies of a network, and those that an oracle has beside them.
+pub const NODES: usize = 0;
+pub const EDGES: usize = 1;
+pub const CLOSED: usize = 2;
+pub const NETWORK_BODIES: usize = 3;
+pub const GRID: usize = 3;
+pub const TRANSIT: usize = 4;
+pub const ACCESS: usize = 5;
+pub const TABLE: usize = 6;
+pub const ORACLE_BODIES: usize = 7;
+
+pub const COORDINATE_SIZE: usize = 4;
+pub const NODE_SIZE: usize = 2 * COORDINATE_SIZE;
+pub const EDGE_SIZE: usize = 8;
+pub const NUMBER_SIZE: usize = 2;
+pub const GRID_SIZE: usize = 2;
+
+/// In the access body: where a list starts, its count, and an entry, which is an index and a value.
+pub const START_SIZE: usize = 4;
+pub const COUNT_SIZE: usize = 2;
+pub const VALUE_SIZE: usize = 4;
+pub const LIST_ENTRY_SIZE: usize = NUMBER_SIZE + VALUE_SIZE;
+
+pub const MAX_NODES: usize = 4096;
+pub const MAX_EDGES: usize = 16_384;
+pub const MAX_METRES: i32 = 1_000_000;
+pub const MIN_SECONDS: u32 = 1;
+pub const MAX_SECONDS: u32 = 100_000;
+pub const MAX_GRID: u32 = 64;
+pub const MAX_VALUE: u32 = (MAX_NODES as u32 - 1) * MAX_SECONDS;
+
+/// Working words for each node.
+pub const WORDS: usize = 8;
+
+/// Where entry k stands, and so, with k the number of entries, where the first body begins.
+pub const fn entry_at(k: usize) -> usize {
+    HEAD_SIZE + ENTRY_SIZE * k
+}

@@ -1,0 +1,31 @@
+//! The header says for C what the wrapper says for Rust: numbers that both need are the same, and each rule has its text there.
+
+use jukesogbi::{core, form};
+
+const HEADER: &str = include_str!("../../include/jukesogbi.h");
+
+fn defined(name: &str) -> &'static str {
+    let line = HEADER.lines().find_map(|line| line.strip_prefix("#define ")?.strip_prefix(name)?.strip_prefix(' '));
+    line.unwrap_or_else(|| panic!("{name} is not defined")).trim()
+}
+
+#[test]
+fn the_same_numbers() {
+    assert_eq!(defined("JUKESOGBI_WORDS"), form::WORDS.to_string());
+    assert_eq!(defined("JUKESOGBI_SIDE"), core::SIDE.to_string());
+    assert_eq!(defined("JUKESOGBI_NO_WALK"), "UINT32_MAX");
+    assert_eq!(core::NO_WALK, u32::MAX);
+}
+
+#[test]
+fn a_text_for_each_rule() {
+    let texts: Vec<&str> = (1..=17).map(core::rule_text).collect();
+    for (k, text) in texts.iter().enumerate() {
+        assert!(text.len() > 20 && !texts[..k].contains(text), "rule {}: {text}", k + 1);
+    }
+    assert_eq!(core::rule_text(4), "a coordinate outside -1,000,000 to 1,000,000");
+    assert_eq!(core::rule_text(16), "an audited oracle that differs in any byte from the one built from its bodies 1 to 4");
+    for rule in [0, 18, u32::MAX] {
+        assert_eq!(core::rule_text(rule), "no such rule");
+    }
+}
