@@ -26,7 +26,7 @@ use Rattle.crossing.specs.Ground.{cellsIn, Ground}
 use Rattle.crossing.specs.AccessFlags.{toward, through, access-flags}
 use Rattle.marks.specs.Due.{Flagged}
 use Rattle.words.specs.Regions.{regionAt, regionFlags, want, own, gathered, transit}
-use Rattle.access.specs.Gathered.{Gathered, Kept}
+use Rattle.access.specs.Gathered.{Gathered, KeptStarts}
 use Rattle.access.specs.Networks.{networkIn, count-order, count-cells}
 use Rattle.words.proofs.Windows.{flags-kept}
 use Rattle.access.proofs.Flagging.{flagged→, →flagged, member→, →member}
@@ -104,7 +104,7 @@ module _ (b e c : Bytes) (grid : Grid) (ground : Ground b e c grid) (n : ℕ) (s
 
     -- From the words w, with the starts put into x, the goals into y, and gathered into z.
     pub gathered-cell : (w x y z : List ℕ) → regionFlags n own x ≡ memberFlags n ps → Only n own w x → regionFlags n want y ≡ memberFlags n qs → Only n want x y
-        → ((v : ℕ) → Flagged (regionFlags n gathered z) v ↔ Gathered (arcsIn e c) (regionFlags n own y) (regionFlags n want y) v) → Kept n y z
+        → ((v : ℕ) → Flagged (regionFlags n gathered z) v ↔ Gathered (arcsIn e c) (regionFlags n own y) (regionFlags n want y) v) → KeptStarts n y z
         → (regionFlags n gathered z ≡ testFlags (through (distance net) ps qs) n) × (KeptFrom (regionAt n transit) w z)
     gathered-cell w x y z f o g q k r =
         let f′ : regionFlags n own y ≡ memberFlags n ps = flags-kept n own want x y (λ i. omega arith) q ∙ f in (

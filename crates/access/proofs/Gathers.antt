@@ -16,7 +16,7 @@ use Rattle.index.specs.Index.{Roads}
 use Rattle.crossing.specs.Sets.{either, ones}
 use Rattle.marks.specs.Due.{Flagged}
 use Rattle.words.specs.Regions.{regionAt, regionFlags, marks, want, own, gathered, transit, searchWords}
-use Rattle.access.specs.Gathered.{Gathered, Joined, Kept}
+use Rattle.access.specs.Gathered.{Gathered, Joined, KeptStarts}
 use Rattle.words.proofs.Windows.{flags-kept}
 use Rattle.access.proofs.Flagging.{member→, →member, either-flagged}
 use Rattle.words.specs.Frames.{Only, KeptFrom}
@@ -24,14 +24,14 @@ use Rattle.words.proofs.Stays.{kept-more, after-kept}
 use Rattle.index.proofs.Laid.{roads-from}
 
 -- ---- what stays
-pub kept-same : (n : ℕ) (w : List ℕ) → Kept n w w
+pub kept-same : (n : ℕ) (w : List ℕ) → KeptStarts n w w
 kept-same n w = record { wanted = refl; starts = refl; rest = refl }
 
-pub kept-then : (n : ℕ) (w x y : List ℕ) → Kept n w x → Kept n x y → Kept n w y
+pub kept-then : (n : ℕ) (w x y : List ℕ) → KeptStarts n w x → KeptStarts n x y → KeptStarts n w y
 kept-then n w x y p q = record { wanted = q .wanted ∙ p .wanted; starts = q .starts ∙ p .starts; rest = q .rest ∙ p .rest }
 
 -- Where region GATHERED alone is changed.
-pub kept-only : (n : ℕ) (w w′ : List ℕ) → Only n gathered w w′ → Kept n w w′
+pub kept-only : (n : ℕ) (w w′ : List ℕ) → Only n gathered w w′ → KeptStarts n w w′
 kept-only n w w′ o = record {
   wanted = flags-kept n want gathered w w′ (λ q. omega arith) o;
   starts = flags-kept n own gathered w w′ (λ q. omega arith) o;
@@ -39,7 +39,7 @@ kept-only n w w′ o = record {
 }
 
 -- Where the first three regions alone are changed.
-kept-front : (n : ℕ) (w w′ : List ℕ) → KeptFrom (searchWords n) w w′ → Kept n w w′
+kept-front : (n : ℕ) (w w′ : List ℕ) → KeptFrom (searchWords n) w w′ → KeptStarts n w w′
 kept-front n w w′ e = record {
   wanted = ap (flags n) (kept-more (searchWords n) (regionAt n want) w w′ (omega arith) e);
   starts = ap (flags n) (kept-more (searchWords n) (regionAt n own) w w′ (omega arith) e);
@@ -49,7 +49,7 @@ kept-front n w w′ e = record {
 -- ---- one start
 module _ (arcs : List Arc) (n p : ℕ) (w : List ℕ) where
   abbrev One : List ℕ → Type 0
-  One w′ = ((v : ℕ) → Flagged (regionFlags n gathered w′) v ↔ Joined arcs (regionFlags n gathered w) (regionFlags n own w) (regionFlags n want w) p v) × Kept n w w′
+  One w′ = ((v : ℕ) → Flagged (regionFlags n gathered w′) v ↔ Joined arcs (regionFlags n gathered w) (regionFlags n own w) (regionFlags n want w) p v) × KeptStarts n w w′
 
   -- x are the words after the marks, and w′ those after the union.
   pub from-start : p < n → true ≡ isIn (drop (regionAt n own) w) p → (x w′ : List ℕ) → KeptFrom (searchWords n) w x
@@ -80,7 +80,7 @@ pub record Below (arcs : List Arc) (starts goals : List ℕ) (p v : ℕ) : Type 
 pub record Gathering (arcs : List Arc) (n : ℕ) (w₀ : List ℕ) (p : ℕ) (w : List ℕ) : Type 0 where
   pub room : p ≤ n
   pub size : length w ≡ length w₀
-  pub others : Kept n w₀ w
+  pub others : KeptStarts n w₀ w
   pub members : (v : ℕ) → Flagged (regionFlags n gathered w) v ↔ Below arcs (regionFlags n own w₀) (regionFlags n want w₀) p v
 
 module _ (arcs : List Arc) (n : ℕ) (w₀ : List ℕ) where
@@ -121,7 +121,7 @@ module _ (arcs : List Arc) (n : ℕ) (w₀ : List ℕ) where
         pick v b (yes e) = inr (rw (g .others .starts, g .others .wanted, ← e) (b .start, b .on))
         pick v b (no d) = inl (g .members v .1 (record { q = b .q; below = omega (arith, b .below, d); start = b .start; on = b .on }))
 
-    pub last : n ≤ p → (w₁ : List ℕ) → Only n gathered w₁ w₀ → ((v : ℕ) → Flagged (regionFlags n gathered w) v ↔ Gathered arcs (regionFlags n own w₁) (regionFlags n want w₁) v) × Kept n w₁ w
+    pub last : n ≤ p → (w₁ : List ℕ) → Only n gathered w₁ w₀ → ((v : ℕ) → Flagged (regionFlags n gathered w) v ↔ Gathered arcs (regionFlags n own w₁) (regionFlags n want w₁) v) × KeptStarts n w₁ w
     last h w₁ o =
         let k = kept-only n w₁ w₀ o in (
           λ v. rw (← k .starts, ← k .wanted) (

@@ -4,7 +4,7 @@ use native.Mathlib.Omega.{arith}
 use native.Mathlib.Decide.{ℕ-discrete}
 use mathlib.Core.Path.{_≡_, refl, sym, ap, _∙_, subst}
 use mathlib.Core.Logic.{_⊎_, inl, inr, ⊎-elim}
-use mathlib.Core.Bool.{Bool, true, false, cond, xor, false≢true}
+use mathlib.Core.Bool.{Bool, true, false, cond, false≢true}
 use mathlib.Core.List.{List, [], _∷_, _++_, List·Memᴰ, List·Memᴰ·not-nil}
 use lib.ListN.{length, set, drop, replicate}
 use lib.Seq.{getD-set-same, getD-set-other}
@@ -13,6 +13,7 @@ use Rattle.model.specs.Bytes.{Bytes, words16}
 use Rattle.model.specs.Network.{node, nodeCount, edge, edgeCount, isOpen, openEdges, someEdgeBroken}
 use Rattle.model.specs.Grid as model
 use Rattle.model.specs.Access.{crossingEnd, crosses, crossings}
+use Rattle.theory.specs.Transit.{one-of}
 use Rattle.theory.specs.Tests.{same-test}
 use Rattle.theory.specs.Members.{map→, →map, filter→, →filter, →upTo, range→}
 use Rattle.theory.specs.Members as lists
@@ -168,12 +169,6 @@ module _ (nodes edges closed : Bytes) (s : Square) (n k : ℕ) where
           pick j i (no d) = record { u = i .u; below = omega (arith, i .below, d); real = i .real; inside = i .inside }
 
 -- ---- at the end
-one-inside : (a b : Bool) → xor a b ≡ true → (a ≡ true) ⊎ (b ≡ true)
-unfolding xor
-one-inside true b e = inl refl
-one-inside false true e = inr refl
-one-inside false false e = absurd (false≢true e)
-
 module _ {nodes edges closed : Bytes} {grid : Grid} (ground : Ground nodes edges closed grid) (r : ℕ) (c : model.Cell) (s : Square) (q : SquareOf grid c r s) (n : ℕ) (size : n ≡ nodeCount nodes) where
   same : (j : ℕ) → j < edgeCount edges → crossesSquare nodes s (edge edges j) ≡ crosses (cellsIn grid nodes) r c (edge edges j)
   same j h = let f = edge-fine (nodeCount nodes) edges (ground .edges-rule) j h in crosses-same (ground .over) r c s q (edge edges j) (f .first-in) (f .second-in)
@@ -194,7 +189,7 @@ module _ {nodes edges closed : Bytes} {grid : Grid} (ground : Ground nodes edges
       ⊎-elim
       (λ i. record { u = edge edges j .first; below = omega (arith, f .first-in, size, l); real = record { below = h; unclosed = o; end = inl refl }; inside = i })
       (λ i. record { u = edge edges j .second; below = omega (arith, f .second-in, size, l); real = record { below = h; unclosed = o; end = inr refl }; inside = i })
-      (one-inside _ _ e)
+      (one-of _ _ e)
 
   module _ (k : ℕ) (x : List ℕ) (z : regionFlags n k x ≡ replicate n 0) (v : ℕ) (l : n ≤ v) (y : List ℕ) (p : Put nodes edges closed s (Inside nodes edges closed s v) n k x y) where
     found : (a : ℕ) → List·Memᴰ a (crossings (cellsIn grid nodes) (openIn edges closed) r c) → Flagged (regionFlags n k y) a

@@ -21,7 +21,7 @@ abbrev pub Joined : List Arc → List ℕ → List ℕ → List ℕ → ℕ → 
 Joined arcs already starts goals p v = Flagged already v ⊎ (Flagged starts p × Toward arcs p (Flagged goals) v)
 
 -- From w to w′, the wanted nodes, the starts and the words from region TRANSIT on stay.
-pub record Kept (n : ℕ) (w w′ : List ℕ) : Type 0 where
+pub record KeptStarts (n : ℕ) (w w′ : List ℕ) : Type 0 where
   pub wanted : regionFlags n want w′ ≡ regionFlags n want w
   pub starts : regionFlags n own w′ ≡ regionFlags n own w
   pub rest : KeptFrom (regionAt n transit) w w′

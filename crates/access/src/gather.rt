@@ -9,7 +9,7 @@ ghost use Rattle.crossing.specs.Sets.{ones};
 ghost use Rattle.marks.specs.Due.{Flagged};
 ghost use Rattle.words.specs.Regions.{regionFlags, want, own, gathered};
 ghost use Rattle.words.specs.Frames.{Enough};
-ghost use Rattle.access.specs.Gathered.{Gathered, Joined, Kept};
+ghost use Rattle.access.specs.Gathered.{Gathered, Joined, KeptStarts};
 use crate::sets::count;
 use crate::sets::unite;
 use crate::toward::toward;
@@ -26,7 +26,7 @@ fn gather_from(edges: &[u8], closed: &[u8], n: usize, p: usize, left: usize, wor
     requires { ⌜ Roads (now edges) (now closed) n (now work) ⌝ }
     ensures members { λ _. ⌜ ((v : ℕ) → Flagged (regionFlags n gathered (now (work .exit))) v
         ↔ Joined (arcsIn (now (edges .entry)) (now (closed .entry))) (regionFlags n gathered (now (work .entry))) (regionFlags n own (now (work .entry))) (regionFlags n want (now (work .entry))) p v) ⌝ }
-    ensures others { λ _. ⌜ Kept n (now (work .entry)) (now (work .exit)) ⌝ }
+    ensures others { λ _. ⌜ KeptStarts n (now (work .entry)) (now (work .exit)) ⌝ }
 {
     if has(work, n, OWN, p) {
         toward(edges, closed, n, p, left, work);
@@ -40,7 +40,7 @@ pub fn gather(edges: &[u8], closed: &[u8], n: usize, work: &mut [u32])
     requires { ⌜ Roads (now edges) (now closed) n (now work) ⌝ }
     ensures members { λ _. ⌜ ((v : ℕ) → Flagged (regionFlags n gathered (now (work .exit))) v
         ↔ Gathered (arcsIn (now (edges .entry)) (now (closed .entry))) (regionFlags n own (now (work .entry))) (regionFlags n want (now (work .entry))) v) ⌝ }
-    ensures others { λ _. ⌜ Kept n (now (work .entry)) (now (work .exit)) ⌝ }
+    ensures others { λ _. ⌜ KeptStarts n (now (work .entry)) (now (work .exit)) ⌝ }
 {
     clear(work, n, GATHERED);
     let left = count(work, n, WANT);

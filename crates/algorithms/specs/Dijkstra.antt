@@ -27,23 +27,10 @@ unfoldable pub relax-all : ℕ → List Arc → List ℕ → List ℕ
 relax-all c [] d = d
 relax-all c (a ∷ out) d = relax-all c out (relax c a d)
 
--- For the code: a store, or none, is `relax`; and one turn more of the loop.
-pub relax-store : (c : ℕ) (a : Arc) (d : List ℕ) → c + a .cost < at d (a .to) → set d (a .to) (c + a .cost) ≡ relax c a d
-unfolding relax
-relax-store c a d h = rw (min-eq-right {n = c + a .cost} {m = at d (a .to)} (omega arith))
-
-pub relax-skip : (c : ℕ) (a : Arc) (d : List ℕ) → at d (a .to) ≤ c + a .cost → d ≡ relax c a d
-unfolding relax
-relax-skip c a d h = rw (min-eq-left, set-getD)
-
 pub relax-append : (c : ℕ) (xs ys : List Arc) (d : List ℕ) → relax-all c (xs ++ ys) d ≡ relax-all c ys (relax-all c xs d)
 unfolding relax-all
 relax-append c [] ys d = refl
 relax-append c (x ∷ xs) ys d = relax-append c xs ys (relax c x d)
-
-pub relax-turn : (c : ℕ) (out : List Arc) (k : ℕ) (a : Arc) (d : List ℕ) → k < length out → relax-all c (take (suc k) out) d ≡ relax c (getD out k a) (relax-all c (take k out) d)
-unfolding relax-all
-relax-turn c out k a d h = rw (take-suc out k a h, relax-append)
 
 pub length-relax : (c : ℕ) (a : Arc) (d : List ℕ) → length (relax c a d) ≡ length d
 unfolding relax
@@ -185,10 +172,6 @@ module _ (arcs : List Arc) (N s : ℕ) (within : Within N arcs) (s-in : s < N) (
       has = inv .real u (near .inside) (near .reached);
       least = λ n w. ⊎-elim (λ l. l) (λ y. omega (arith, near .nearest (y .0) (y .1) (y .2), y .3)) (from-start w);
     }
-
-    -- The sums of the relaxation do not wrap.
-    pub nearest-bound : (K : ℕ) → Costs K arcs → at d u ≤ (N - 1) * K
-    nearest-bound K c = least-bound arcs N s u within s-in K (at d u) c nearest-least
 
     -- To settle it keeps the invariant.
     module _ (out : List Arc) (o : Out arcs u out) where

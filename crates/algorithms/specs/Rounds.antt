@@ -56,9 +56,6 @@ pub state-first : (arcs : List Arc) (N s : ℕ) → s < N → State arcs N s (se
 state-first arcs N s s-in = record { inv = start-inv arcs N s s-in; kept = kept-start N (set (replicate N noWalk) s 0); filled = omega (arith, zeros-all N) }
 
 module _ (arcs : List Arc) (N s : ℕ) (within : Within N arcs) (s-in : s < N) (d done order : List ℕ) (st : State arcs N s d done order) where
-  -- One more is settled than before, of at most N.
-  pub state-room : (u : ℕ) → Nearest N d done u → length order < N
-  state-room u near = omega (arith, st .filled, zeros-set done u (omega (arith, st .inv .flags, near .inside)) (near .fresh))
 
   pub state-turn : (u : ℕ) → Nearest N d done u → (out : List Arc) → Out arcs u out → State arcs N s (relax-all (at d u) out d) (set done u 1) (u ∷ order)
   state-turn u near out o = record {

@@ -1,7 +1,7 @@
 -- What a search leaves: the regions behind its three stay, and the index. Assumes nothing.
 use Prim.Native.Nat.{ℕ, _*_, _≤_}
 use native.Mathlib.Omega.{arith}
-use mathlib.Core.Path.{_≡_, refl, _∙_, ap}
+use mathlib.Core.Path.{_≡_, refl, _∙_}
 use mathlib.Core.List.{List}
 use lib.ListN.{length, take}
 use Rattle.model.specs.Lists.{equal}
@@ -9,37 +9,33 @@ use Rattle.model.specs.Bytes.{Bytes}
 use Rattle.model.specs.Oracle.{valueSize}
 use Rattle.model.specs.Walk.{Arc}
 use Rattle.algorithms.specs.Rounds.{Found, distanceWords}
-use Rattle.bitset.specs.Bits.{setWords}
 use Rattle.index.specs.Index.{Roads}
 use Rattle.words.specs.Regions.{regionAt, region, own, transit, indexAt, searchWords}
-use Rattle.emit.specs.Members.{Among}
 use Rattle.emit.specs.Parts.{rowBytes}
 use Rattle.passes.specs.Building.{membersIn}
+use Rattle.words.proofs.Windows.{region-later}
 use Rattle.words.proofs.Stays.{kept-more}
 use Rattle.index.proofs.Laid.{roads-from}
 use Rattle.model.specs.Rules.{workWords}
 use Rattle.words.specs.Frames.{KeptFrom}
 
 -- From w to w′, the words from region WANT on stay.
-pub record Kept (n : ℕ) (w w′ : List ℕ) : Type 0 where
+pub record KeptSets (n : ℕ) (w w′ : List ℕ) : Type 0 where
   pub size : length w′ ≡ length w
   pub behind : KeptFrom (searchWords n) w w′
 
-pub kept-same : (n : ℕ) (w : List ℕ) → Kept n w w
+pub kept-same : (n : ℕ) (w : List ℕ) → KeptSets n w w
 kept-same n w = record { size = refl; behind = refl }
 
-pub kept-then : (n : ℕ) (w x y : List ℕ) → Kept n w x → length y ≡ length x → KeptFrom (searchWords n) x y → Kept n w y
+pub kept-then : (n : ℕ) (w x y : List ℕ) → KeptSets n w x → length y ≡ length x → KeptFrom (searchWords n) x y → KeptSets n w y
 kept-then n w x y k s e = record { size = s ∙ k .size; behind = e ∙ k .behind }
 
 module _ (n : ℕ) (w w′ : List ℕ) (e : KeptFrom (searchWords n) w w′) where
   pub own-behind : region n own w′ ≡ region n own w
-  own-behind = ap (take (setWords n)) (kept-more (searchWords n) (regionAt n own) w w′ (omega arith) e)
+  own-behind = region-later n own w w′ (omega arith) e
 
   pub transit-behind : region n transit w′ ≡ region n transit w
-  transit-behind = ap (take (setWords n)) (kept-more (searchWords n) (regionAt n transit) w w′ (omega arith) e)
-
-  pub among-behind : Among n (region n own w) (region n transit w) → Among n (region n own w′) (region n transit w′)
-  among-behind a = rw (own-behind, transit-behind) a
+  transit-behind = region-later n transit w w′ (omega arith) e
 
   pub roads-behind : (edges closed : Bytes) → Roads edges closed n w → Roads edges closed n w′
   roads-behind edges closed r = roads-from edges closed n w w′ (searchWords n) (omega arith) e r

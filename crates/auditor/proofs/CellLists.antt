@@ -11,7 +11,7 @@ use Rattle.model.specs.Grid.{Cell}
 use Rattle.model.specs.Oracle.{listPart}
 use Rattle.algorithms.specs.Rounds.{distanceWords}
 use Rattle.arcs.specs.Arcs.{arcsIn}
-use Rattle.tables.specs.Premises.{Listed}
+use Rattle.tables.specs.Premises.{ListedBelow}
 use Rattle.grid.specs.declared.Grid.{Grid}
 use Rattle.crossing.specs.Ground.{cellsIn}
 use Rattle.crossing.specs.Cells.{sameCell, firstOfCell, same-cell}
@@ -24,7 +24,7 @@ use Rattle.passes.specs.BuildingLaws.{distance-words, access-below, same-access
 use Rattle.words.specs.Frames.{KeptFrom}
 use Rattle.auditor.specs.Same.{KeepsLists, sameList, sameBeside, sameOfCell}
 
-pub listed : (n : ℕ) (access : Bytes) → KeepsLists n access → (v : ℕ) → v < n → Listed access v
+pub listed : (n : ℕ) (access : Bytes) → KeepsLists n access → (v : ℕ) → v < n → ListedBelow access v
 listed n access k v h = (k .0, record { nodes = n; below = h; kept = k .1 })
 
 -- Region TRANSIT stays where the words from it on do.

@@ -19,7 +19,7 @@ use Rattle.emit.proofs.Turns.{membersFrom, members-all, members-step, members-e
 use Rattle.emit.proofs.Comparing.{Left, left-start, left-different, left-next, left-end}
 use Rattle.passes.specs.Building.{membersIn}
 use Rattle.words.specs.Frames.{KeptFrom}
-use Rattle.auditor.proofs.Behind.{Kept, kept-same, kept-then, transit-behind}
+use Rattle.auditor.proofs.Behind.{KeptSets, kept-same, kept-then, transit-behind}
 
 module _ (arcs : List Arc) (n : ℕ) (b : Bytes) (w : List ℕ) where
   abbrev rowOf : ℕ → Bytes
@@ -30,7 +30,7 @@ module _ (arcs : List Arc) (n : ℕ) (b : Bytes) (w : List ℕ) where
 
   -- The rows of the nodes below v are compared, up to position `at`; the words are x.
   pub record RowsLeft (v at : ℕ) (x : List ℕ) : Type 0 where
-    pub kept : Kept n w x
+    pub kept : KeptSets n w x
     pub left : Left b whole at (membersFrom rowOf (region n transit w) n v)
 
   pub rows-first : RowsLeft 0 0 w

@@ -9,7 +9,7 @@ ghost use Rattle.model.specs.Oracle.{listPart};
 ghost use Rattle.algorithms.specs.Rounds.{distanceWords};
 ghost use Rattle.arcs.specs.Arcs.{arcsIn};
 ghost use Rattle.index.specs.Index.{Roads};
-ghost use Rattle.tables.specs.Premises.{Listed};
+ghost use Rattle.tables.specs.Premises.{ListedBelow};
 ghost use Rattle.crossing.specs.Beside.{CellSquare};
 ghost use Rattle.crossing.specs.Ground.{Ground};
 ghost use Rattle.words.specs.Regions.{regionAt, region, own, transit, searchWords};
@@ -56,7 +56,7 @@ fn same_from(
     left: usize,
     work: &mut [u32],
 ) -> bool
-    requires { ⌜ (n ≤ maxNodes) × (v < n) × Enough n (now work) × Among n (region n own (now work)) (region n transit (now work)) × Listed (now access) v × Sought n left (now work) ⌝ }
+    requires { ⌜ (n ≤ maxNodes) × (v < n) × Enough n (now work) × Among n (region n own (now work)) (region n transit (now work)) × ListedBelow (now access) v × Sought n left (now work) ⌝ }
     requires { ⌜ Roads (now edges) (now closed) n (now work) ⌝ }
     ensures same { λ r. ⌜ r ≡ equal (cut (listPart (now (access .entry)) v) (now (access .entry))) (listBytesOf (distanceWords (arcsIn (now (edges .entry)) (now (closed .entry))) n v) (membersIn n transit (now (work .entry))) (membersIn n own (now (work .entry)))) ⌝ }
     ensures others { λ _. ⌜ KeptFrom (searchWords n) (now (work .entry)) (now (work .exit)) ⌝ }

@@ -9,14 +9,14 @@ use lib.Seq.{length-take-le}
 use Rattle.model.specs.Bytes.{Bytes, splice}
 use Rattle.model.specs.Network.{maxNodes}
 use Rattle.words.specs.Regions.{region, own, transit, searchWords}
-use Rattle.words.proofs.Windows.{region-length}
+use Rattle.words.proofs.Windows.{region-length, region-later}
 use Rattle.emit.specs.Members.{Among}
 use Rattle.emit.specs.Parts.{listBytesOf}
 use Rattle.model.specs.Oracle.{listSize}
 use Rattle.bitset.specs.Members.{membersOf, HasBits}
 use Rattle.passes.specs.Building.{membersIn}
 use Rattle.words.specs.Frames.{Enough, KeptFrom}
-use Rattle.bodies.proofs.Lent.{part-written, region-later}
+use Rattle.bodies.proofs.Lent.{part-written}
 
 -- o and t are the words of the regions OWN and TRANSIT, as the code lends them.
 module _ (n : ℕ) (work : List ℕ) (some : 1 ≤ n) (long : Enough n work) (o : List ℕ) (p : o ≡ region n own work) where
@@ -45,8 +45,5 @@ module _ (start size : ℕ) (body : Bytes) (h : start + size ≤ length body) wh
 
 -- The sets that a search leaves.
 module _ (n : ℕ) (w w′ : List ℕ) (e : KeptFrom (searchWords n) w w′) where
-  pub among-later : Among n (region n own w) (region n transit w) → Among n (region n own w′) (region n transit w′)
-  among-later a = rw (region-later n own w w′ (omega arith) e, region-later n transit w w′ (omega arith) e) a
-
   pub own-later : membersIn n own w′ ≡ membersIn n own w
   own-later = ap (membersOf n) (region-later n own w w′ (omega arith) e)

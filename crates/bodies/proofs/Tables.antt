@@ -15,7 +15,7 @@ use Rattle.theory.specs.ReadLaws.{length-concatMap}
 use Rattle.arcs.specs.Arcs.{arcsIn}
 use Rattle.bitset.specs.Bits.{isIn}
 use Rattle.words.specs.Regions.{regionAt, region, transit, searchWords}
-use Rattle.words.proofs.Windows.{region-length, in-front}
+use Rattle.words.proofs.Windows.{region-length, in-front, region-later}
 use Rattle.emit.specs.Members.{ifIn}
 use Rattle.bitset.specs.Members.{membersOf, HasBits}
 use Rattle.emit.specs.Parts.{rowBytes}
@@ -26,7 +26,7 @@ use Rattle.emit.proofs.Turns.{membersFrom, members-all, wrote-out, wrote-in, fi
 use Rattle.passes.specs.Building.{membersIn}
 use Rattle.words.specs.Frames.{Enough, KeptFrom}
 use Rattle.bodies.specs.Rows.{rowIn}
-use Rattle.bodies.proofs.Lent.{part-written, region-later}
+use Rattle.bodies.proofs.Lent.{part-written}
 
 -- ---- a row, from the words: s are those of region TRANSIT, as the code lends them
 module _ (n at t : ℕ) (work : List ℕ) (out : Bytes) (long : Enough n work) (e : t ≡ length (membersIn n transit work)) (h : at + valueSize * t ≤ length out) (some : 1 ≤ n)

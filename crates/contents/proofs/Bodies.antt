@@ -20,12 +20,12 @@ use Rattle.contents.proofs.Joins.{finished, rule-2}
 
 -- ---- the entries read
 
-pub record Holds (f : Bytes) (c : Contents) : Type 0 where
+pub record HoldsEntries (f : Bytes) (c : Contents) : Type 0 where
   pub long : length (c .entries) ≡ oracleEntries
   pub same : (k : ℕ) → k < c .count → getD (c .entries) k noEntry ≡ held f k
 
 module _ (f : Bytes) where
-  holds-more : (c : Contents) → c .count < oracleEntries → Holds f c → Holds f (extended f c)
+  holds-more : (c : Contents) → c .count < oracleEntries → HoldsEntries f c → HoldsEntries f (extended f c)
   unfolding extended
   holds-more c h r = record { long = length-set (c .entries) (c .count) (held f (c .count)) ∙ r .long; same = λ k l. pick k l (ℕ-discrete k (c .count)) }
     where
@@ -33,16 +33,16 @@ module _ (f : Bytes) where
       pick k l (yes e) = rw (e, getD-set-same (c .entries) (c .count) (held f (c .count)) noEntry (omega (arith, h, r .long)))
       pick k l (no n) = getD-set-other (c .entries) (c .count) k (held f (c .count)) noEntry n ∙ r .same k (omega arith)
 
-  holds-steps : (m : ℕ) (c : Contents) → c .count + m ≤ oracleEntries → Holds f c → Holds f (readSteps m f c)
+  holds-steps : (m : ℕ) (c : Contents) → c .count + m ≤ oracleEntries → HoldsEntries f c → HoldsEntries f (readSteps m f c)
   unfolding readSteps
   holds-steps zero c h r = r
-  holds-steps (suc m) c h r = holds-steps m (readNext f c) (omega (arith, count-next f c)) (either (Holds f) f c (holds-more c (omega arith) r) r)
+  holds-steps (suc m) c h r = holds-steps m (readNext f c) (omega (arith, count-next f c)) (either (HoldsEntries f) f c (holds-more c (omega arith) r) r)
 
-  holds-none : (n : ℕ) → Holds f (noContents n)
+  holds-none : (n : ℕ) → HoldsEntries f (noContents n)
   unfolding noContents
   holds-none n = record { long = refl; same = λ k l. absurd (omega arith) }
 
-  pub holds-read : (n : ℕ) (c : Contents) → n ≤ oracleEntries → c ≡ contentsOf n f → Holds f c
+  pub holds-read : (n : ℕ) (c : Contents) → n ≤ oracleEntries → c ≡ contentsOf n f → HoldsEntries f c
   unfolding contentsOf noContents
   holds-read n c h e = rw e (holds-steps n (noContents n) (omega arith) (holds-none n))
 
@@ -52,7 +52,7 @@ module _ (f : Bytes) (c : Contents) (k : ℕ) (has : HasBody f c k) where
   count-all : c .count ≡ has .entries
   count-all = eqb-true (c .count) (has .entries) (both (not-false (finished f (has .entries) c) (sym (rule-2 f (has .entries) c (has .read)) ∙ has .joined)) .0)
 
-  holds-all : Holds f c
+  holds-all : HoldsEntries f c
   holds-all = holds-read f (has .entries) c (has .few) (has .read)
 
   -- the entry in the record

@@ -16,11 +16,10 @@ use Rattle.model.specs.declared.Kind.{Kind}
 use Rattle.model.specs.declared.Kind.the-variants.{Far, Local}
 use Rattle.model.specs.declared.Answer.{Answer}
 use Rattle.model.specs.declared.Answer.the-variants.{Time, None}
-use Rattle.theory.specs.Least.{time-inj}
+use Rattle.theory.specs.Least.{time-inj, apart}
 use Rattle.theory.specs.Given.{distance-of}
 use Rattle.theory.specs.GridLaws.{far-gap}
 use Rattle.demands.specs.Outcomes.{FiveApart, FarCells, pairsTried, Answers}
-use Rattle.demands.specs.FarSums.{apart}
 
 -- ---- an answer made of a kind, pairs and a distance
 same-time : (kind : Kind) (pairs m n : ℕ) → Time m kind pairs ≡ Time n kind pairs → m ≡ n

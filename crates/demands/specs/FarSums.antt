@@ -1,23 +1,15 @@
 -- The far answer of any oracle is the least sum that its lists and table hold. Assumes nothing.
 use Prim.Native.Nat.{ℕ, _+_}
 use native.Mathlib.Omega.{arith}
-use mathlib.Core.Path.{_≡_, refl, sym, ap, subst}
+use mathlib.Core.Path.{_≡_, refl, ap}
 use mathlib.Core.List.{List}
 use Rattle.model.specs.Bytes.{Bytes}
 use Rattle.model.specs.Contents.{transitBody, accessBody, tableBody}
 use Rattle.model.specs.Distance.{Distance, unreachable, finite, IsLeast, plus}
 use Rattle.model.specs.Oracle.{AccessEntry, transitCount, accessList, tableEntry}
 use Rattle.model.specs.Query.{sumBy, farDistance}
-use Rattle.theory.specs.Least.{time-inj, Among, meets-weaker, meets-soonest}
+use Rattle.theory.specs.Least.{apart, time-inj, Among, meets-weaker, meets-soonest}
 use Rattle.demands.specs.Outcomes.{FarSum}
-
-IsFinite : Distance → Type 0
-IsFinite unreachable = ⊥
-IsFinite (finite n) = Unit {0}
-
-pub apart : {n : ℕ} → unreachable ≡ finite n → ⊥
-unfolding IsFinite
-apart e = subst IsFinite (sym e) tt
 
 -- A distance is the least number that it is.
 itself : (x : Distance) → IsLeast (λ n. x ≡ finite n) x

@@ -18,7 +18,7 @@ use Rattle.theory.specs.RangeLaws.{getD-map-range}
 use Rattle.theory.specs.Passed.{or-false}
 use Rattle.theory.specs.Extremes.{least-le, greatest-ge}
 use Rattle.theory.specs.GridLaws.{index-below}
-use Rattle.grid.specs.Stored.{gridOf, divisionOf, along, origin, Over, Holds, maxSpread}
+use Rattle.grid.specs.Stored.{gridOf, divisionOf, along, origin, Over, InSpan, maxSpread}
 use Rattle.grid.specs.declared.Grid.{Grid}
 use Rattle.grid.proofs.Spans.{every}
 use Rattle.grid.proofs.Bounds.{in-every, every-most}
@@ -52,7 +52,7 @@ module _ {r : Grid} {b : Bytes} (over : Over r b) where
   unfolding gridOver
   spreads = ap (λ (m : model.Grid). m .spread) (over .made)
 
-  pub holds : (d : Bool) (i : ℕ) → i < nodeCount b → Holds r (origin d r) (along d (node b i))
+  pub holds : (d : Bool) (i : ℕ) → i < nodeCount b → InSpan r (origin d r) (along d (node b i))
   holds d i h = record { least = omega (arith, starts d, mid); most = omega (arith, starts d, mid, wide d); narrow =
       omega (arith, spreads, every-most false b (over .coordinates), every-most true b (over .coordinates)); some = bounds .0; few = bounds .1 }
     where
@@ -69,10 +69,6 @@ module _ {r : Grid} {b : Bytes} (over : Over r b) where
   index-inside : (d : Bool) (i : ℕ) → i < nodeCount b → cellIndex (gridOf r) (origin d r) (along d (node b i)) < r .g
   unfolding cellIndex
   index-inside d i h = let p = holds d i h in index-below (along d (node b i) - origin d r) (r .g) (r .spread) (p .most) (p .some)
-
-  pub cell-inside : (i : ℕ) → i < nodeCount b → (cellOf (gridOf r) (node b i) .column < r .g) × (cellOf (gridOf r) (node b i) .row < r .g)
-  unfolding cellOf
-  cell-inside i h = (index-inside false i h, index-inside true i h)
 
 -- ---- the cell of a node, by the list of cells
 

@@ -14,7 +14,7 @@ use Rattle.model.specs.Grid.{cellIndex, cellOf, gap, within, maxGrid}
 use Rattle.theory.specs.Tests.{same-test}
 use Rattle.theory.specs.Extremes.{greatest-ge}
 use Rattle.theory.specs.GridLaws.{index-below}
-use Rattle.grid.specs.Stored.{gridOf, origin, Over, Holds, maxSpread}
+use Rattle.grid.specs.Stored.{gridOf, origin, Over, InSpan, maxSpread}
 use Rattle.grid.specs.Squares.{Bounded, SquareOf, startOf, reaches, reachesNode}
 use Rattle.grid.specs.declared.Grid.{Grid}
 use Rattle.grid.specs.declared.square.Square.{Square}
@@ -63,7 +63,7 @@ module _ (r : Grid) (b : Bounded r) where
       le-div-iff-mul-le {k = r .g} {x = startOf r j} {y =
           min k (r .g) * (r .spread + 1) + (r .g - 1)} (b .some) .1 (omega (arith, div-mul-le-self (min j (r .g) * (r .spread + 1) + (r .g - 1)) (r .g)))
 
-  module _ (from x : ℕ) (h : Holds r from x) where
+  module _ (from x : ℕ) (h : InSpan r from x) where
     -- The column or the row of the coordinate x.
     abbrev index : ℕ
     index = cellIndex (gridOf r) from x

@@ -41,7 +41,7 @@ abbrev pub maxSpread : ℕ
 maxSpread = maxMetres + maxMetres
 
 -- The coordinate x lies within the spread of the grid from `from` on, so that (x − from) × g fits 32 bits, and its cell is one of g.
-pub record Holds (r : Grid) (from x : ℕ) : Type 0 where
+pub record InSpan (r : Grid) (from x : ℕ) : Type 0 where
   pub least : from ≤ x
   pub most : x - from ≤ r .spread
   pub narrow : r .spread ≤ maxSpread

@@ -4,7 +4,7 @@ ghost use mathlib.Core.Bool.{not, false};
 ghost use Prim.Native.Nat.{_+_, _-_, _<_, _≤_, min};
 ghost use Rattle.model.specs.Network.{node, nodes, nodeCount, nodesBroken};
 ghost use Rattle.model.specs.Grid.{gridOver, cellIndex, cellOf, gap, within, kindOf};
-ghost use Rattle.grid.specs.Stored.{gridOf, modelCell, Over, Holds};
+ghost use Rattle.grid.specs.Stored.{gridOf, modelCell, Over, InSpan};
 ghost use Rattle.grid.specs.Squares.{Bounded, SquareOf, startOf};
 use crate::span::Span;
 use crate::span::larger;
@@ -76,21 +76,21 @@ impl Grid {
 
     // The column or the row of a coordinate, in the direction that begins at `from`.
     fn index(self, from: u32, x: u32) -> u32
-        requires { ⌜ Holds self from x ⌝ }
+        requires { ⌜ InSpan self from x ⌝ }
         ensures { λ r. ⌜ (r ≡ cellIndex (gridOf self) from x) × (r < self .g) ⌝ }
     {
         (x - from) * self.g / (self.spread + 1)
     }
 
     pub fn column(self, x: u32) -> u32
-        requires { ⌜ Holds self (self .left) x ⌝ }
+        requires { ⌜ InSpan self (self .left) x ⌝ }
         ensures { λ r. ⌜ (r ≡ cellIndex (gridOf self) (gridOf self .left) x) × (r < self .g) ⌝ }
     {
         self.index(self.left, x)
     }
 
     pub fn row(self, y: u32) -> u32
-        requires { ⌜ Holds self (self .bottom) y ⌝ }
+        requires { ⌜ InSpan self (self .bottom) y ⌝ }
         ensures { λ r. ⌜ (r ≡ cellIndex (gridOf self) (gridOf self .bottom) y) × (r < self .g) ⌝ }
     {
         self.index(self.bottom, y)

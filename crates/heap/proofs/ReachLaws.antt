@@ -14,7 +14,7 @@ use Rattle.words.proofs.TimeLaws.{time-at}
 use Rattle.heap.specs.Words.{Placed, node, position, key, swapped}
 use Rattle.heap.specs.Order.{OrderedUp}
 use Rattle.heap.specs.Levels.{Up}
-use Rattle.heap.specs.Sifts.{Kept, Sifted}
+use Rattle.heap.specs.Sifts.{Rearranged, Sifted}
 use Rattle.heap.specs.Queue.{Queue, Went, Entered, Lowered, lowered}
 use Rattle.heap.proofs.OrderLaws.{lowered-up, entered-up}
 use Rattle.heap.proofs.SwapLaws.{Swapped, swap-is, swap-kept, swap-keys, kept-more, kept-then, stood, stood-before}
@@ -106,7 +106,7 @@ module _ (n k e v x : ℕ) (w : List ℕ) (q : Queue n k e w) (v-in : v < n) (sm
       };
     }
       where
-        all : Kept n e (store n v x w) w′
+        all : Rearranged n e (store n v x w) w′
         all = kept-then n e (store n v x w) w₂ w′ (swap-kept n k (position n w v) (store n v x w) w₂ s e (omega arith) l) (kept-more n (k + 1) e w₂ w′ (omega arith) (t .kept))
 
         low : (u : ℕ) → u < n → position n w′ u < k + 1 → time n (store n v x w) u < noWalk

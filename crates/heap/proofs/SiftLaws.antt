@@ -13,7 +13,7 @@ use lib.Dec.{ltb}
 use Rattle.heap.specs.Words.{Placed, key, swapped}
 use Rattle.heap.specs.Order.{Below, Ordered, OrderedUp, OrderedDown, Lesser}
 use Rattle.heap.specs.Levels.{maxLevels, Up, Down, Passes, stays, passes}
-use Rattle.heap.specs.Sifts.{Kept, Level, Sifted}
+use Rattle.heap.specs.Sifts.{Rearranged, Level, Sifted}
 use Rattle.heap.proofs.OrderLaws.{Exchanged, up-root, up-done, up-step, down-leaf, down-done, down-step}
 use Rattle.heap.proofs.LevelLaws.{doubled, level-top, level-up, level-end, level-first, level-down, level-leaf}
 use Rattle.heap.proofs.SwapLaws.{Swapped, swap-is, swap-kept, swap-keys, kept-refl, kept-then}
@@ -100,7 +100,7 @@ module _ (n k i : ℕ) (w : List ℕ) (p : Placed n w) (k-in : k ≤ n) where
 
 -- ---- the loop over the levels, in either direction: what holds when so many are passed
 pub record Going (n k : ℕ) (On : ℕ → ℕ → Type 0) (Partly : ℕ → ℕ → (ℕ → ℕ) → Type 0) (from : ℕ) (w₀ w : List ℕ) (i level : ℕ) : Type 0 where
-  pub kept : Kept n k w₀ w
+  pub kept : Rearranged n k w₀ w
   pub order : Partly k i (key n w)
   pub path : Passes n On from w₀ level i w
 

@@ -10,12 +10,12 @@ use Rattle.words.specs.Regions.{timesIn}
 use Rattle.words.specs.Times.{time, store}
 use Rattle.heap.specs.Words.{Placed, half, node, position, key}
 use Rattle.heap.specs.Order.{Ordered}
-use Rattle.heap.specs.Sifts.{Kept}
+use Rattle.heap.specs.Sifts.{Rearranged}
 use Rattle.heap.specs.Queue.{Queue}
 use Rattle.words.proofs.TimeLaws.{time-same}
 use Rattle.words.proofs.TimeLaws as times
 
-pub queue-of : (n k e : ℕ) (w w′ : List ℕ) → Kept n e w w′ → Ordered k (key n w′) → k ≤ e → e ≤ n
+pub queue-of : (n k e : ℕ) (w w′ : List ℕ) → Rearranged n e w w′ → Ordered k (key n w′) → k ≤ e → e ≤ n
     → ((v : ℕ) → v < n → position n w′ v < k → time n w v < noWalk)
     → ((v : ℕ) → v < n → k ≤ position n w′ v → position n w′ v < e → noWalk ≤ time n w v) → Queue n k e w′
 queue-of n k e w w′ q o h l f g = record {

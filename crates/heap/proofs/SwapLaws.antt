@@ -10,7 +10,7 @@ use Rattle.words.specs.Regions.{timesIn}
 use Rattle.words.specs.Times.{time}
 use Rattle.words.proofs.TimeLaws.{time-same}
 use Rattle.heap.specs.Words.{Placed, node, position, key, putNode, putPosition, swapped}
-use Rattle.heap.specs.Sifts.{Kept}
+use Rattle.heap.specs.Sifts.{Rearranged}
 use Rattle.heap.proofs.OrderLaws.{Exchanged}
 use Rattle.heap.proofs.WordLaws.{node-here, node-apart, put-positions, put-node-times, put-node-size, position-here, position-apart, put-nodes, put-position-times, put-position-size}
 
@@ -165,17 +165,17 @@ module _ (n i j : ℕ) (w : List ℕ) (p : Placed n w) (i-in : i < n) (j-in : j 
     others = node-others;
   }
 
-pub kept-refl : (n k : ℕ) (w : List ℕ) → Placed n w → Kept n k w w
+pub kept-refl : (n k : ℕ) (w : List ℕ) → Placed n w → Rearranged n k w w
 kept-refl n k w p = record { placed = p; times = refl; beyond = λ m h l. refl }
 
-pub kept-more : (n k k′ : ℕ) (w w′ : List ℕ) → k ≤ k′ → Kept n k w w′ → Kept n k′ w w′
+pub kept-more : (n k k′ : ℕ) (w w′ : List ℕ) → k ≤ k′ → Rearranged n k w w′ → Rearranged n k′ w w′
 kept-more n k k′ w w′ h a = record { placed = a .placed; times = a .times; beyond = λ m i l. a .beyond m (omega arith) l }
 
-pub kept-then : (n k : ℕ) (w w′ w″ : List ℕ) → Kept n k w w′ → Kept n k w′ w″ → Kept n k w w″
+pub kept-then : (n k : ℕ) (w w′ w″ : List ℕ) → Rearranged n k w w′ → Rearranged n k w′ w″ → Rearranged n k w w″
 kept-then n k w w′ w″ a b = record { placed = b .placed; times = b .times ∙ a .times; beyond = λ m h l. b .beyond m h l ∙ a .beyond m h l }
 
 module _ (n i j : ℕ) (w w′ : List ℕ) (s : Swapped n i j w w′) where
-  pub swap-kept : (k : ℕ) → i < k → j < k → Kept n k w w′
+  pub swap-kept : (k : ℕ) → i < k → j < k → Rearranged n k w w′
   swap-kept k h l = record { placed = s .placed; times = s .times; beyond = λ m b c. s .others m c (λ e. omega arith) (λ e. omega arith) }
 
   key-of : (m : ℕ) → m < n → (m′ : ℕ) → node n w′ m ≡ node n w m′ → key n w′ m ≡ key n w m′

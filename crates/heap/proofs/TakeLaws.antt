@@ -11,7 +11,7 @@ use Rattle.words.proofs.TimeLaws.{time-same}
 use Rattle.heap.specs.Words.{Placed, node, position, key, swapped}
 use Rattle.heap.specs.Order.{OrderedDown}
 use Rattle.heap.specs.Levels.{Down}
-use Rattle.heap.specs.Sifts.{Kept, Sifted}
+use Rattle.heap.specs.Sifts.{Rearranged, Sifted}
 use Rattle.heap.specs.Queue.{Queue, Taken}
 use Rattle.heap.proofs.OrderLaws.{least-first, taken-down}
 use Rattle.heap.proofs.SwapLaws.{Swapped, swap-is, swap-kept, swap-keys, kept-more, kept-then, stood, stood-before}
@@ -105,10 +105,10 @@ module _ (n k e : ℕ) (w : List ℕ) (q : Queue n k e w) (some : 0 < k) where
       near-is : time n w (node n w 0) < noWalk
       near-is = q .reached (node n w 0) (q .placed .nodes 0 zero-in) (omega (arith, first))
 
-      to₂ : Kept n e w w₂
+      to₂ : Rearranged n e w w₂
       to₂ = kept-then n e w w₁ w₂ (swap-kept n 0 (k - 1) w w₁ s e (omega (arith, k-le)) (omega (arith, k-le))) (swap-kept n (k - 1) (e - 1) w₁ w₂ t e (omega (arith, k-le)) (omega (arith, k-le)))
 
-      all : Kept n e w w′
+      all : Rearranged n e w w′
       all = kept-then n e w w₂ w′ to₂ (kept-more n (k - 1) e w₂ w′ (omega (arith, k-le)) (d .kept))
 
       low : (v : ℕ) → v < n → position n w′ v < k - 1 → time n w₂ v < noWalk

@@ -10,7 +10,7 @@ use borrow.Rule.Slice.PartMut.{putMid, post-is}
 use Rattle.model.specs.Bytes.{Bytes, splice}
 use Rattle.emit.specs.Records.{Wrote}
 use Rattle.emit.proofs.Writing.{length-splice, splice-then, splice-byte}
-use Rattle.lines.specs.Texts.{Room, Holds}
+use Rattle.lines.specs.Texts.{Room, HoldsText}
 
 -- No text, and a byte.
 pub wrote-none : (old : Bytes) (at : ℕ) → Wrote old at [] at old
@@ -40,7 +40,7 @@ module _ {old : Bytes} {at : ℕ} (r s : Bytes) (room : Room old at (r ++ s)) wh
     }
 
 -- A text written at the front.
-pub holds : {old : Bytes} (text : Bytes) {end : ℕ} {new : Bytes} → Room old 0 text → Wrote old 0 text end new → Holds new end text
+pub holds : {old : Bytes} (text : Bytes) {end : ℕ} {new : Bytes} → Room old 0 text → Wrote old 0 text end new → HoldsText new end text
 holds {old} text room w = rw (w .ends, w .spliced, zero-add) (record { front = take-front; within = omega (arith, room .fits, length-splice old 0 text (room .fits)) })
   where
     take-front : take (length text) (splice 0 text old) ≡ text

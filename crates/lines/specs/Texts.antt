@@ -19,7 +19,7 @@ pub record Room (out : Bytes) (at : ℕ) (text : Bytes) : Type 0 where
   pub fits : at + length text ≤ length out
 
 -- `out` begins with the text, which ends at `end`.
-pub record Holds (out : Bytes) (end : ℕ) (text : Bytes) : Type 0 where
+pub record HoldsText (out : Bytes) (end : ℕ) (text : Bytes) : Type 0 where
   pub front : take end out ≡ text
   pub within : end ≤ length out
 

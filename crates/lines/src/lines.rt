@@ -1,7 +1,7 @@
 // The lines: a pair with its answer, the header, a refusal.
 ghost use Rattle.model.specs.Listing.{kindText, answerText, header, refusedLine};
 ghost use Rattle.emit.specs.Records.{Wrote};
-ghost use Rattle.lines.specs.Texts.{Room, Holds, timeText, noneText, pairText};
+ghost use Rattle.lines.specs.Texts.{Room, HoldsText, timeText, noneText, pairText};
 use crate::text::write_byte;
 use crate::text::write_decimal;
 use crate::text::write_field;
@@ -65,7 +65,7 @@ pub fn write_pair(s: usize, t: usize, answer: Answer, out: &mut [u8], at: usize)
 // The header of an oracle with n nodes, that many of them transit nodes.
 pub fn write_header(n: usize, transit: usize, out: &mut [u8]) -> usize
     requires { ⌜ Room (now out) 0 (header n transit) ⌝ }
-    ensures { λ r. ⌜ Holds (now (out .exit)) r (header n transit) ⌝ }
+    ensures { λ r. ⌜ HoldsText (now (out .exit)) r (header n transit) ⌝ }
 {
     let places = write_text(b"places ", out, 0);
     let first = write_field(n, out, places);
@@ -76,7 +76,7 @@ pub fn write_header(n: usize, transit: usize, out: &mut [u8]) -> usize
 
 pub fn write_refused(rule: u32, out: &mut [u8]) -> usize
     requires { ⌜ Room (now out) 0 (refusedLine rule) ⌝ }
-    ensures { λ r. ⌜ Holds (now (out .exit)) r (refusedLine rule) ⌝ }
+    ensures { λ r. ⌜ HoldsText (now (out .exit)) r (refusedLine rule) ⌝ }
 {
     let refused = write_text(b"refused ", out, 0);
     let end = write_decimal(rule as usize, out, refused);

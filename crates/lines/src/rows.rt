@@ -8,7 +8,7 @@ ghost use Rattle.model.specs.Listing.{pairLine};
 ghost use Rattle.emit.specs.Records.{Wrote};
 ghost use Rattle.opened.specs.Opened.{Opened};
 ghost use Rattle.opened.specs.TimesFrom.{TimesFrom};
-ghost use Rattle.lines.specs.Texts.{Room, Holds, rowText};
+ghost use Rattle.lines.specs.Texts.{Room, HoldsText, rowText};
 use crate::lines::write_pair;
 use model::Answer;
 use model::Kind;
@@ -55,7 +55,7 @@ fn write_lines(o: &[u8], s: usize, work: &[u32], out: &mut [u8]) -> usize
 // One search serves the row. That of the last node has no pair, and needs none.
 pub fn write_row(o: &[u8], s: usize, work: &mut [u32], out: &mut [u8]) -> usize
     requires { ⌜ Opened (now o) (now work) × (s < nodeCount (nodeBody (now o))) × Room (now out) 0 (rowText (now o) s) ⌝ }
-    ensures text { λ r. ⌜ Holds (now (out .exit)) r (rowText (now (o .entry)) s) ⌝ }
+    ensures text { λ r. ⌜ HoldsText (now (out .exit)) r (rowText (now (o .entry)) s) ⌝ }
     ensures opened { λ _. ⌜ Opened (now (o .entry)) (now (work .exit)) ⌝ }
 {
     let n = node_count(o);

@@ -1,8 +1,8 @@
 -- How an oracle comes to be opened, and stays so. Assumes nothing.
-use Prim.Native.Nat.{ℕ, zero, suc, _+_, _*_, _≤_, _<_}
+use Prim.Native.Nat.{ℕ, _+_, _≤_, _<_}
 use native.Mathlib.Nat.{add-zero}
 use native.Mathlib.Omega.{arith}
-use mathlib.Core.Path.{_≡_, refl, sym, ap, _∙_}
+use mathlib.Core.Path.{_≡_, sym, ap, _∙_}
 use mathlib.Core.Bool.{true, false}
 use mathlib.Core.List.{List}
 use lib.ListN.{length, getD, set, take, drop, replicate, length-set, length-replicate}
@@ -16,7 +16,7 @@ use Rattle.model.specs.Distance.{dist}
 use Rattle.model.specs.Oracle.{coded}
 use Rattle.theory.specs.Passed.{all-shaped}
 use Rattle.theory.specs.Sound.{node-bytes}
-use Rattle.algorithms.specs.Stops.{Stopped, lacking, nonzeros, lacking-all}
+use Rattle.algorithms.specs.Stops.{Stopped, lacking, lacking-all, nonzeros-one}
 use Rattle.bitset.specs.Bits.{setWords, flags}
 use Rattle.words.specs.Regions.{regionAt, regionFlags, want, wantIn, indexAt, gridAt, searchWords}
 use Rattle.index.specs.Index.{Roads}
@@ -112,20 +112,9 @@ lent o w h eb cb m p q e =
     }
 
 -- ---- one node wanted
-none : (n : ℕ) → nonzeros (replicate n 0) ≡ 0
-unfolding nonzeros
-none zero = refl
-none (suc n) = none n
-
-one : (n t : ℕ) → nonzeros (set (replicate n 0) t 1) ≤ 1
-unfolding nonzeros
-one zero t = omega arith
-one (suc n) zero = omega (arith, none n)
-one (suc n) (suc t) = one n t
-
 pub lacking-one : (n t : ℕ) → lacking (set (replicate n 0) t 1) (replicate n 0) ≤ 1
 lacking-one n t =
-    omega (arith, lacking-all (set (replicate n 0) t 1) n (omega (arith, size)), one n t)
+    omega (arith, lacking-all (set (replicate n 0) t 1) n (omega (arith, size)), nonzeros-one n t)
   where
     size : length (set (replicate {A = ℕ} n 0) t 1) ≡ n
     size = length-set (replicate {A = ℕ} n 0) t 1 ∙ length-replicate {A = ℕ} n 0

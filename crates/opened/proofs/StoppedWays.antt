@@ -1,11 +1,11 @@
 -- The way by the words of a search from its end that stopped when its first node was settled. Assumes nothing.
-use Prim.Native.Nat.{ℕ, zero, suc, _+_, _≤_, _<_}
-use native.Mathlib.Nat.{zero-add, add-zero, not-suc-le-zero}
+use Prim.Native.Nat.{ℕ, _+_, _≤_, _<_}
+use native.Mathlib.Nat.{zero-add, add-zero}
 use native.Mathlib.Omega.{arith}
 use mathlib.Core.Path.{_≡_, refl, sym, ap, _∙_}
 use mathlib.Core.Bool.{Bool, true, false, cond}
 use mathlib.Core.List.{List, [], _∷_, List·Memᴰ}
-use lib.ListN.{length, getD, set, take, replicate, length-replicate}
+use lib.ListN.{set, take, replicate, length-replicate}
 use lib.Seq.{getD-set-same}
 use lib.Dec.{eqb}
 use borrow.Author.Tests.{ne-eqb}
@@ -24,6 +24,7 @@ use Rattle.algorithms.specs.Stops.{Stopped}
 use Rattle.arcs.specs.Arcs.{arcsIn}
 use Rattle.arcs.proofs.Bodies.{arcs-within, arcs-positive}
 use Rattle.way.specs.Distances.{distanceIn, wayIn}
+use Rattle.way.proofs.Words.{word-in}
 use Rattle.opened.specs.TimesFrom.{wayOver}
 use Rattle.opened.proofs.SearchWords.{itself-none}
 use Rattle.opened.proofs.EarlyWays.{after-same}
@@ -38,12 +39,6 @@ not-tight c x y p l = pick (eqb x noWalk) (eqb y noWalk)
     pick false true = refl
     pick false false = ne-eqb (c + x) y (λ e. omega arith)
 
--- A word that is there does not need a default.
-word-there : (l : List ℕ) (v a b : ℕ) → v < length l → getD l v a ≡ getD l v b
-word-there [] v a b h = absurd (not-suc-le-zero h)
-word-there (x ∷ l) zero a b h = refl
-word-there (x ∷ l) (suc v) a b h = word-there l v a b (omega arith)
-
 late : (arcs : List Arc) (n t v : ℕ) → v < n → distanceIn (distanceWords arcs n t) v ≡ decoded (coded (dist arcs n t v))
 unfolding distanceIn distanceWords
 late arcs n t v i = ap decoded (getD-map-range (λ v. coded (dist arcs n t v)) noWalk 0 n v i ∙ rw zero-add)
@@ -54,7 +49,7 @@ module _ (arcs : List Arc) (n t : ℕ) (within : Within n arcs) (positive : Posi
 
   early : (v : ℕ) → v < n → distanceIn d v ≡ decoded (at d v)
   unfolding distanceIn
-  early v i = ap decoded (word-there d v noWalk 0 (omega (arith, found .words)))
+  early v i = ap decoded (word-in d v noWalk 0 (omega (arith, found .words)))
 
   exact-same : (v : ℕ) → v < n → at d v ≡ coded (dist arcs n t v) → distanceIn d v ≡ distanceIn all v
   exact-same v i e = early v i ∙ (ap decoded e ∙ sym (late arcs n t v i))

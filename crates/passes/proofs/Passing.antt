@@ -22,7 +22,7 @@ use Rattle.words.proofs.Windows.{flags-before}
 use Rattle.access.proofs.Flagging.{either-flagged}
 use Rattle.passes.specs.Building.{accessOf, transitIn, membersIn}
 use Rattle.passes.specs.Covered.{Covered, Beside, seen-none, seen-later, seen-all, to-all}
-use Rattle.passes.specs.Passed.{Told, Passed}
+use Rattle.passes.specs.Passed.{Told, CellsPassed}
 use Rattle.passes.proofs.Listing.{flagged-member, count-members}
 use Rattle.passes.specs.BuildingLaws.{same-access, in-transit}
 use Rattle.passes.proofs.Taken.{transit-needed, members-transit}
@@ -33,18 +33,18 @@ module _ (b e c : Bytes) (grid : Grid) (n : ℕ) where
   abbrev cs : List Cell
   cs = cellsIn grid b
 
-  pub passed-none : (w : List ℕ) → regionFlags n transit w ≡ replicate n 0 → Passed b e c grid n 0 w
+  pub passed-none : (w : List ℕ) → regionFlags n transit w ≡ replicate n 0 → CellsPassed b e c grid n 0 w
   passed-none w z = record {
     sound = λ a m. let f : Flagged (replicate n 0) a = rw z at (flagged-member n transit w a .1 m) in absurd (omega (arith, blank n a));
     seen = seen-none cs (Told b e c grid n w) n;
   }
 
   -- A node that is not the first of its cell.
-  pub passed-later : (u : ℕ) (w : List ℕ) → Passed b e c grid n u w → false ≡ firstOfCell cs u → Passed b e c grid n (u + 1) w
+  pub passed-later : (u : ℕ) (w : List ℕ) → CellsPassed b e c grid n u w → false ≡ firstOfCell cs u → CellsPassed b e c grid n (u + 1) w
   passed-later u w g f = record { sound = g .sound; seen = seen-later cs (Told b e c grid n w) n u (sym f) (g .seen) }
 
   -- The first of its cell: from the words w, the access nodes put into x, their union with region TRANSIT into y, and their count into z.
-  module _ (u : ℕ) (h : u < n) (w x y z : List ℕ) (g : Passed b e c grid n u w)
+  module _ (u : ℕ) (h : u < n) (w x y z : List ℕ) (g : CellsPassed b e c grid n u w)
       (mine : membersIn n own x ≡ accessOf b e c grid u) (rest : KeptFrom (regionAt n transit) w x)
       (united : regionFlags n transit y ≡ either (regionFlags n own x) (regionFlags n transit x)) (apart : Only n transit x y)
       (k : ℕ) (count : k ≡ ones (regionFlags n own x))
@@ -88,7 +88,7 @@ module _ (b e c : Bytes) (grid : Grid) (n : ℕ) where
         pick false s (inl d) = told-other v l s (g .seen v l d)
         pick false s (inr d) = absurd (false≢true (sym s ∙ same-cell cs u v .1 (d .1)))
 
-    pub passed-next : Passed b e c grid n (u + 1) z × (KeptFrom (indexAt n) w z)
+    pub passed-next : CellsPassed b e c grid n (u + 1) z × (KeptFrom (indexAt n) w z)
     passed-next = (
       record {
         sound = λ a m. ⊎-elim (λ i. record { by = u; below = h; listed = i }) (g .sound a) (joined a .0 m);
@@ -99,7 +99,7 @@ module _ (b e c : Bytes) (grid : Grid) (n : ℕ) where
     )
 
   -- All nodes are passed.
-  pub passed-all : Ground b e c grid → n ≡ nodeCount b → (u : ℕ) (w : List ℕ) → n ≤ u → Passed b e c grid n u w
+  pub passed-all : Ground b e c grid → n ≡ nodeCount b → (u : ℕ) (w : List ℕ) → n ≤ u → CellsPassed b e c grid n u w
       → (membersIn n transit w ≡ transitIn b e c grid) × ((v : ℕ) → v < n → getD w (regionAt n counts + v) 0 ≡ length (accessOf b e c grid v))
   passed-all ground size u w l g =
       let t = seen-all cs (Told b e c grid n w) n u l (g .seen) in (

@@ -18,10 +18,11 @@ use Rattle.bitset.specs.Bits.{setWords, isIn, flags}
 use Rattle.crossing.specs.Sets.{memberFlags, either, ones}
 use Rattle.crossing.specs.SetLaws.{flags-test, test-flags-same, either-test, no-members}
 use Rattle.marks.specs.Due.{Flagged}
-use Rattle.words.specs.Regions.{regionAt, regionFlags, want, own, transit, wantIn, searchWords}
-use Rattle.words.proofs.Windows.{region-kept, flags-kept}
+use Rattle.words.specs.Regions.{regionAt, region, regionFlags, want, own, transit, wantIn, searchWords}
+use Rattle.words.proofs.Windows.{region-later, region-kept, flags-kept}
 use Rattle.emit.specs.PartLaws.{concat-same, time-same}
 use Rattle.bitset.specs.Members.{membersOf}
+use Rattle.emit.specs.Members.{Among}
 use Rattle.emit.specs.Parts.{timeBytes, indexedBytes, listBytesOf}
 use Rattle.access.proofs.Flagging as flagging
 use Rattle.access.proofs.Wanted.{want-region, lacking-want}
@@ -96,3 +97,8 @@ module _ (n left : ℕ) (w : List ℕ) (g : Sought n left w) where
     where
       kept : (k : ℕ) → searchWords n ≤ regionAt n k → membersIn n k w′ ≡ membersIn n k w
       kept k h = ap (λ (l : List ℕ). membersOf n (take (setWords n) l)) (kept-more (searchWords n) (regionAt n k) w w′ h e)
+
+-- The access nodes stay among the transit nodes in the sets that a search leaves.
+pub among-later : (n : ℕ) (w w′ : List ℕ) → KeptFrom (searchWords n) w w′ → Among n (region n own w) (region n transit w)
+    → Among n (region n own w′) (region n transit w′)
+among-later n w w′ e a = rw (region-later n own w w′ (omega arith) e, region-later n transit w w′ (omega arith) e) a

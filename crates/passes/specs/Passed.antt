@@ -22,6 +22,6 @@ module _ (b e c : Bytes) (grid : Grid) (n : ℕ) where
     pub counted : getD w (regionAt n counts + v) 0 ≡ length (accessOf b e c grid v)
     pub members : (a : ℕ) → List·Memᴰ a (accessOf b e c grid v) → List·Memᴰ a (membersIn n transit w)
 
-  pub record Passed (u : ℕ) (w : List ℕ) : Type 0 where
+  pub record CellsPassed (u : ℕ) (w : List ℕ) : Type 0 where
     pub sound : (a : ℕ) → List·Memᴰ a (membersIn n transit w) → Needed a
     pub seen : Seen (cellsIn grid b) (Told w) n u

@@ -11,7 +11,7 @@ ghost use Rattle.crossing.specs.Cells.{sameCell};
 ghost use Rattle.crossing.specs.Ground.{cellsIn, Ground};
 ghost use Rattle.words.specs.Regions.{regionAt, transit, counts, indexAt};
 ghost use Rattle.passes.specs.Building.{accessOf, transitIn, membersIn};
-ghost use Rattle.passes.specs.Passed.{Passed};
+ghost use Rattle.passes.specs.Passed.{CellsPassed};
 ghost use Rattle.words.specs.Frames.{OnlyIn, Enough, KeptFrom};
 use crate::own::own_access;
 use access::sets::count;
@@ -72,8 +72,8 @@ fn pass_cell(
     work: &mut [u32],
 )
     requires { ⌜ Ground (now nodes) (now edges) (now closed) grid × (n ≡ nodeCount (now nodes)) × (n ≤ maxNodes) × (u < n) × Enough n (now work) ⌝ }
-    requires { ⌜ Passed (now nodes) (now edges) (now closed) grid n u (now work) × Roads (now edges) (now closed) n (now work) ⌝ }
-    ensures passed { λ _. ⌜ Passed (now (nodes .entry)) (now (edges .entry)) (now (closed .entry)) grid n (u + 1) (now (work .exit)) ⌝ }
+    requires { ⌜ CellsPassed (now nodes) (now edges) (now closed) grid n u (now work) × Roads (now edges) (now closed) n (now work) ⌝ }
+    ensures passed { λ _. ⌜ CellsPassed (now (nodes .entry)) (now (edges .entry)) (now (closed .entry)) grid n (u + 1) (now (work .exit)) ⌝ }
     ensures others { λ _. ⌜ KeptFrom (indexAt n) (now (work .entry)) (now (work .exit)) ⌝ }
 {
     if first_of_cell(nodes, grid, u) {

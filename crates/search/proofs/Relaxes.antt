@@ -29,7 +29,7 @@ pub time-read : (n u : ℕ) (w : List ℕ) → u < n → (d : ℕ) → d ≡ tim
 time-read n u w i d e = ap (λ (l : List ℕ). at l u) (take-take n (searchWords n) w (omega arith)) ∙ (time-at n w u i ∙ sym e)
 
 -- From w₀ to w, with k nodes held: the arcs that the walk has passed are relaxed.
-pub record Passed (b closed : Bytes) (n e u d : ℕ) (w₀ : List ℕ) (a : ArcAt) (w : List ℕ) (k : ℕ) : Type 0 where
+pub record RelaxedArcs (b closed : Bytes) (n e u d : ℕ) (w₀ : List ℕ) (a : ArcAt) (w : List ℕ) (k : ℕ) : Type 0 where
   pub done : List Arc
   pub passes : PassedArcs b closed n w u done a
   pub relaxed : Relaxed n e (relax-all d done (timesIn n (frontIn n w₀))) (frontIn n w₀) (frontIn n w) k
@@ -39,7 +39,7 @@ pub record Passed (b closed : Bytes) (n e u d : ℕ) (w₀ : List ℕ) (a : ArcA
 
 module _ (b closed : Bytes) (n e u d : ℕ) (w₀ : List ℕ) where
   pub passed-first : (k : ℕ) (a : ArcAt) → Holds n k e (frontIn n w₀) → SettledWithin n d (frontIn n w₀) → Roads b closed n w₀ → PassedArcs b closed n w₀ u [] a
-      → Passed b closed n e u d w₀ a w₀ k
+      → RelaxedArcs b closed n e u d w₀ a w₀ k
   unfolding relax-all
   passed-first k a h s r p = record {
     done = [];
@@ -51,7 +51,7 @@ module _ (b closed : Bytes) (n e u d : ℕ) (w₀ : List ℕ) where
   }
 
   -- An arc is relaxed: ys come back for the first 3 n words of w.
-  module _ (a : ArcAt) (k : ℕ) (w ys : List ℕ) (g : Passed b closed n e u d w₀ a w k) (long : searchWords n ≤ length w) (same : length ys ≡ length (take (searchWords n) w)) where
+  module _ (a : ArcAt) (k : ℕ) (w ys : List ℕ) (g : RelaxedArcs b closed n e u d w₀ a w k) (long : searchWords n ≤ length w) (same : length ys ≡ length (take (searchWords n) w)) where
     abbrev whole : List ℕ
     whole = ys ++ drop (searchWords n) w
 
@@ -72,7 +72,7 @@ module _ (b closed : Bytes) (n e u d : ℕ) (w₀ : List ℕ) where
       more : timesIn n ys ≡ relax-all d (g .done ++ arcHere u a ∷ []) (timesIn n (frontIn n w₀))
       more = one ∙ ap (relax-all d (arcHere u a ∷ [])) (g .relaxed .times) ∙ sym (relax-append d (g .done) (arcHere u a ∷ []) (timesIn n (frontIn n w₀)))
 
-      pub passed-next : (a′ : ArcAt) → SteppedArc b closed n whole u a a′ → Passed b closed n e u d w₀ a′ whole r
+      pub passed-next : (a′ : ArcAt) → SteppedArc b closed n whole u a a′ → RelaxedArcs b closed n e u d w₀ a′ whole r
       passed-next a′ s = record {
         done = g .done ++ arcHere u a ∷ [];
         passes = s .passes (g .done) turn-passes;
@@ -84,7 +84,7 @@ module _ (b closed : Bytes) (n e u d : ℕ) (w₀ : List ℕ) where
       }
 
   -- All are passed.
-  pub passed-last : (k : ℕ) (w : List ℕ) (a : ArcAt) → n ≤ a .to → Passed b closed n e u d w₀ a w k
+  pub passed-last : (k : ℕ) (w : List ℕ) (a : ArcAt) → n ≤ a .to → RelaxedArcs b closed n e u d w₀ a w k
       → Relaxed n e (relax-all d (leaving u (arcsIn b closed)) (timesIn n (frontIn n w₀))) (frontIn n w₀) (frontIn n w) k
   passed-last k w a h g =
       relaxed-as n e _ _ (frontIn n w₀) (frontIn n w) k (g .relaxed)

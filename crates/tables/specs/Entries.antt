@@ -4,13 +4,13 @@ use native.Mathlib.Nat.{zero-add, suc-mul, mul-le-mul-right}
 use native.Mathlib.Omega.{arith}
 use mathlib.Core.Path.{_≡_, _∙_}
 use mathlib.Core.Bool.{true, false}
-use mathlib.Core.List.{List, [], _∷_, map, map-map}
+use mathlib.Core.List.{List, [], _∷_, map}
 use lib.ListN.{length, getD, length-map}
 use lib.Dec.{eqb, ltb, leb}
 use borrow.Author.Tests.{eqb-true, ne-eqb, ltb-true, ltb-false, leb-false}
 use Rattle.model.specs.Lists.{Part, gapless, any, range, rising, upTo}
 use Rattle.model.specs.Bytes.{Bytes, numberSize}
-use Rattle.model.specs.Oracle.{startSize, entrySize, listSize, valueSize, noWalk, maxValue, decoded, value, valueBroken, tableEntry, listStart, listCount, listPart, accessAt, accessEntry, accessList, indexes, entryBroken, listBroken, accessBroken, cellBroken, tableBroken}
+use Rattle.model.specs.Oracle.{startSize, entrySize, listSize, valueSize, noWalk, maxValue, decoded, value, valueBroken, tableEntry, listStart, listCount, listPart, accessAt, accessEntry, indexes, entryBroken, listBroken, accessBroken, cellBroken, tableBroken}
 use Rattle.theory.specs.Tests.{both}
 use Rattle.theory.specs.RangeLaws.{length-range, getD-map-range}
 use Rattle.theory.specs.Members.{none-any, →upTo}
@@ -96,11 +96,6 @@ module _ (T : ℕ) (b : Bytes) (u : ℕ) (has : HasList T b u) where
     pub value-in-range : (v : ℕ) → decoded v ≡ accessEntry b u i .distance → InRange v
     unfolding accessEntry
     value-in-range v e = in-range b (accessAt b u i + numberSize) v (its-entry .1) e
-
-  -- The indexes rise and stay below T, so that a list has at most T entries.
-  pub list-few : listCount b u ≤ T
-  unfolding indexes accessList
-  list-few = few T (λ i. accessEntry b u i .index) (listCount b u) (rw map-map at (its-entries .0)) index-below
 
 -- ---- the table
 

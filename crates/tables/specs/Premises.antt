@@ -16,12 +16,12 @@ pub record HasList (T : ℕ) (b : Bytes) (u : ℕ) : Type 0 where
   pub kept : accessBroken nodes T b ≡ false
 
 -- The same, for some number of transit nodes.
-abbrev pub Listed : Bytes → ℕ → Type 0
-Listed b u = (T : ℕ) × HasList T b u
+abbrev pub ListedBelow : Bytes → ℕ → Type 0
+ListedBelow b u = (T : ℕ) × HasList T b u
 
 -- The list of u has an entry i.
 abbrev pub HasEntry : Bytes → ℕ → ℕ → Type 0
-HasEntry b u i = Listed b u × (i < listCount b u)
+HasEntry b u i = ListedBelow b u × (i < listCount b u)
 
 -- A value that is not 'no walk' is a time of at most 409,500,000 seconds.
 abbrev pub InRange : ℕ → Type 0

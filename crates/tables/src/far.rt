@@ -6,7 +6,7 @@ ghost use lib.ListN.{length};
 ghost use Rattle.model.specs.Distance.{soonest};
 ghost use Rattle.model.specs.Oracle.{decoded, listCount, accessEntry, accessList, tableBroken};
 ghost use Rattle.model.specs.Query.{answer, sumBy, farDistance};
-ghost use Rattle.tables.specs.Premises.{HasList, Listed, InRange, entryWith, farFrom};
+ghost use Rattle.tables.specs.Premises.{HasList, ListedBelow, InRange, entryWith, farFrom};
 use crate::lists::entry_index;
 use crate::lists::entry_value;
 use crate::lists::list_count;
@@ -76,7 +76,7 @@ pub fn far_seconds(t: usize, access: &[u8], table: &[u8], s: usize, e: usize) ->
 
 // "Its pairs tried is the product of the two list lengths."
 pub fn pairs_tried(access: &[u8], s: usize, e: usize) -> u32
-    requires { ⌜ Listed (now access) s × Listed (now access) e ⌝ }
+    requires { ⌜ ListedBelow (now access) s × ListedBelow (now access) e ⌝ }
     ensures { λ r. ⌜ r ≡ length (accessList (now (access .entry)) s) * length (accessList (now (access .entry)) e) ⌝ }
 {
     list_count(access, s) as u32 * list_count(access, e) as u32

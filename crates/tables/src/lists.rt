@@ -3,7 +3,7 @@ ghost use mathlib.Core.Path.{_≡_};
 ghost use Prim.Native.Nat.{_<_};
 ghost use Rattle.model.specs.Bytes.{cut};
 ghost use Rattle.model.specs.Oracle.{decoded, listStart, listCount, listPart, accessAt, accessEntry};
-ghost use Rattle.tables.specs.Premises.{Listed, HasEntry, InRange};
+ghost use Rattle.tables.specs.Premises.{ListedBelow, HasEntry, InRange};
 use codec::bytes::read16;
 use codec::lists::list_size;
 use codec::records::COUNT_SIZE;
@@ -12,7 +12,7 @@ use codec::records::NUMBER_SIZE;
 use codec::values::read_value;
 
 pub fn list_start(access: &[u8], u: usize) -> usize
-    requires { ⌜ Listed (now access) u ⌝ }
+    requires { ⌜ ListedBelow (now access) u ⌝ }
     ensures { λ r. ⌜ r ≡ listStart (now (access .entry)) u ⌝ }
 {
     codec::lists::list_start(access, u)
@@ -20,7 +20,7 @@ pub fn list_start(access: &[u8], u: usize) -> usize
 
 // The number of entries of the list of node u.
 pub fn list_count(access: &[u8], u: usize) -> usize
-    requires { ⌜ Listed (now access) u ⌝ }
+    requires { ⌜ ListedBelow (now access) u ⌝ }
     ensures { λ r. ⌜ (r ≡ listCount (now (access .entry)) u) × (r < 65536) ⌝ }
 {
     read16(access, list_start(access, u)) as usize
@@ -50,7 +50,7 @@ pub fn entry_value(access: &[u8], u: usize, i: usize) -> u32
 
 // The list of node u, "its count included".
 pub fn list_part(access: &[u8], u: usize) -> &[u8]
-    requires { ⌜ Listed (now access) u ⌝ }
+    requires { ⌜ ListedBelow (now access) u ⌝ }
     ensures { λ r. ⌜ now r ≡ cut (listPart (now (access .entry)) u) (now (access .entry)) ⌝ }
 {
     let start = list_start(access, u);

@@ -109,8 +109,6 @@ module _ (f : Bytes) (dv : Division) (sound : Sound f) (keeps : gridBroken (dv .
 
 -- The same, of an accepted network.
 module _ (f : Bytes) (dv : Division) (ok : Passed f dv) where
-  pub g-fits : dv .g ≤ maxGrid
-  g-fits = fits f dv (ok .sound) (ok .grid)
 
   pub g-above : 0 < dv .g
   g-above = above f dv (ok .sound) (ok .grid)

@@ -7,15 +7,14 @@ use mathlib.Core.Bool.{Bool, true, _&&_, true≢false}
 use mathlib.Core.List.{List, List·Memᴰ}
 use lib.ListN.{length}
 use Rattle.model.specs.Lists.{any, member, upTo}
-use Rattle.model.specs.Walk.{Arc, Walk, Least}
+use Rattle.model.specs.Walk.{Arc, Least}
 use Rattle.model.specs.Distance.{Distance, unreachable, finite, plus, agree}
 use Rattle.model.specs.Network.{Edge, Network, order, arcs, distance}
 use Rattle.model.specs.Grid.{Grid, Cell}
 use Rattle.model.specs.Access.{crossingEnd, crosses, crossings, between, accessNodes}
 use Rattle.theory.specs.Tests.{and, both, eqb-true, true-eqb}
 use Rattle.theory.specs.Members.{filter→, →filter, any→, →any, map→, member→, →member, →upTo}
-use Rattle.theory.specs.Least.{meets-unique}
-use Rattle.theory.specs.FarModel.{exact}
+use Rattle.theory.specs.FarModel.{exact, distance-least}
 
 -- a lies on a least walk from p to q: the totals are d(p, a), d(a, q) and their sum d(p, q).
 pub record OnLeast (arcs : List Arc) (p q a : ℕ) : Type 0 where
@@ -54,15 +53,12 @@ module _ (net : Network) (ends : (e : Edge) → List·Memᴰ e (net .edges) → 
   least-of : {u t n : ℕ} → u < order net → distance net u t ≡ finite n → Least (arcs net) u t n
   least-of {u} {t} h e = rw e at (exact net ends u t h)
 
-  of-least : {u t n : ℕ} → u < order net → Least (arcs net) u t n → distance net u t ≡ finite n
-  of-least {u} {t} {n} h l = meets-unique (Walk (arcs net) u t) (distance net u t) (finite n) (exact net ends u t h) l
-
   pub between-walks : (p q a : ℕ) → p < order net → a < order net → (between (distance net) p q a ≡ true) ↔ OnLeast (arcs net) p q a
   unfolding between
   between-walks p q a hp ha = (
     λ h. let s = adds (distance net p a) (distance net a q) (distance net p q) h in
         record { i = s .i; j = s .j; before = least-of hp (s .first); after = least-of ha (s .second); whole = least-of hp (s .whole) },
-    λ o. unfold agree plus in rw (of-least hp (o .before), of-least ha (o .after), of-least hp (o .whole)) (true-eqb {m = o .i + o .j} refl),
+    λ o. unfold agree plus in rw (distance-least net ends hp (o .before), distance-least net ends ha (o .after), distance-least net ends hp (o .whole)) (true-eqb {m = o .i + o .j} refl),
   )
 
   -- A crossing node is a node.

@@ -9,16 +9,15 @@ use Rattle.model.specs.Lists.{any, member, upTo, indexOf, concatMap}
 use Rattle.model.specs.Bytes.{Bytes, bytes16}
 use Rattle.model.specs.Contents.{body, file, oracleEdition, nodeBody, edgeBody, closedBody, gridBody, transitBody, accessBody, tableBody}
 use Rattle.model.specs.Distance.{Distance, plus, sooner, soonest}
-use Rattle.model.specs.Network.{Edge, Network, network, nodes, order, distance}
+use Rattle.model.specs.Network.{Edge, network, nodes, order, distance}
 use Rattle.model.specs.Grid.{Grid, Cell, cells, cellAt, cellOf, gridOver, division, divisionBytes, kindOf}
 use Rattle.model.specs.Access.{accessNodes, accessLists, transitNodes}
 use Rattle.model.specs.Oracle.{oracle, accessList, accessBytes, tableBytes, transitCount}
 use Rattle.model.specs.Query.{sumBy, farDistance, farAnswer, localAnswer, kindBetween, answer, answerOf, timeAnswer}
 use Rattle.theory.specs.RangeLaws.{length-range}
-use Rattle.theory.specs.FileLaws.{body-file, length-file, concat-bound, word16-read}
-use Rattle.theory.specs.ReadLaws.{Small, entryOf, list-read, table-read, length-concatMap, length-numbers}
+use Rattle.theory.specs.FileLaws.{body-file, length-file, concat-bound}
+use Rattle.theory.specs.ReadLaws.{Small, entryOf, list-read, table-read, length-numbers}
 use Rattle.model.specs.declared.Division.{Division}
-use Rattle.model.specs.declared.Kind.{Kind}
 use Rattle.model.specs.declared.Kind.the-variants.{Far, Local}
 use Rattle.theory.specs.Members.{length-filter, →filter, →any, →member, →upTo, getD-mem, index-of}
 use Rattle.theory.specs.GridLaws.{far-gap}
@@ -44,8 +43,6 @@ getD-map-in f (x ∷ l) zero a b h = refl
 getD-map-in f (x ∷ l) (suc i) a b h = getD-map-in f l i a b (omega arith)
 
 -- ---- what building goes by
-abbrev pub net-of : Bytes → Network
-net-of f = network f
 
 abbrev pub grid-of : Bytes → Division → Grid
 grid-of f dv = gridOver dv (network f .nodes)

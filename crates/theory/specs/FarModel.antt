@@ -79,9 +79,12 @@ module _ (net : Network) (ends : (e : Edge) → List·Memᴰ e (net .edges) → 
       step unreachable e = none-no-walk (arcs net) (order net) u t inside h e
       step (finite n) e = let l = time-least (arcs net) (order net) u t inside h n e in l
 
+  pub distance-least : {u t n : ℕ} → u < order net → Least (arcs net) u t n → distance net u t ≡ finite n
+  distance-least {u} {t} {n} h l = meets-unique (Walk (arcs net) u t) (distance net u t) (finite n) (exact u t h) l
+
   -- From a node to itself the walk with no arc is the least.
   pub distance-itself : (u : ℕ) → u < order net → distance net u u ≡ finite 0
-  distance-itself u h = meets-unique (Walk (arcs net) u u) (distance net u u) (finite 0) (exact u u h) (least-stay u)
+  distance-itself u h = distance-least h (least-stay u)
 
   -- "Roads run both ways": the distance from a node is the distance to it. What goes by that cites this law: the access nodes for entering are those
   -- for leaving (below), a list's distances from its node are those to it (Built), and a search from a way's end finds the distances to it (the way).
@@ -99,10 +102,6 @@ module _ (net : Network) (ends : (e : Edge) → List·Memᴰ e (net .edges) → 
     -- the square of radius r about the cell of node c
     abbrev pub sq : ℕ → ℕ → Square
     sq r c = square col row r c
-
-    sq-within : (r c v : ℕ) → sq r c v ≡ within r (cellAt cs c) (cellAt cs v)
-    unfolding square within
-    sq-within r c v = refl
 
     -- an edge with one end inside gives its crossing end
     crossing-edge : (r c : ℕ) (e : Edge) → List·Memᴰ e (net .edges) → xor (sq r c (e .first)) (sq r c (e .second)) ≡ true → List·Memᴰ (crossingEnd e) (crossings cs (net .edges) r (cellAt cs c))
@@ -130,9 +129,6 @@ module _ (net : Network) (ends : (e : Edge) → List·Memᴰ e (net .edges) → 
     between-true : (p q x : ℕ) {i j : ℕ} → distance net p x ≡ finite i → distance net x q ≡ finite j → distance net p q ≡ finite (i + j) → between (distance net) p q x ≡ true
     unfolding between agree plus
     between-true p q x {i = i} {j = j} a b c = rw (a, b, c) (true-eqb {m = i + j} refl)
-
-    found : {u t n : ℕ} → u < order net → Least (arcs net) u t n → distance net u t ≡ finite n
-    found {u} {t} {n} h l = meets-unique (Walk (arcs net) u t) (distance net u t) (finite n) (exact u t h) l
 
     module _ (grid : Grid) where
       -- the crossing nodes of the cell of c, of inner and of outer
@@ -166,7 +162,7 @@ module _ (net : Network) (ends : (e : Edge) → List·Memᴰ e (net .edges) → 
       leaving-in c {x} h =
           let a = crossing-in (grid .inner) c (h .crossing) .1 in
           let p = crossing-in 0 c (h .start) .1 in
-          listed c (h .start) (h .crossing) (h .end) (between-true (h .p) (h .q) x (found p (h .before)) (found a (h .after)) (found p (h .whole)))
+          listed c (h .start) (h .crossing) (h .end) (between-true (h .p) (h .q) x (distance-least p (h .before)) (distance-least a (h .after)) (distance-least p (h .whole)))
 
       -- and so is one for entering it, for roads run both ways
       entering-in : (c : ℕ) {x : ℕ} → Through (arcs net) pick (sq (grid .outer) c) (sq (grid .inner) c) (sq 0 c) x → List·Memᴰ x (access c)
@@ -176,7 +172,7 @@ module _ (net : Network) (ends : (e : Edge) → List·Memᴰ e (net .edges) → 
           let q = crossing-in 0 c (h .end) .1 in
           listed c (h .end) (h .crossing) (h .start)
           (between-true (h .q) (h .p) x
-          (both-ways (h .q) x q a ∙ found a (h .after)) (both-ways x (h .p) a p ∙ found p (h .before)) (both-ways (h .q) (h .p) q p ∙ found p (rw add-comm (h .whole))))
+          (both-ways (h .q) x q a ∙ distance-least a (h .after)) (both-ways x (h .p) a p ∙ distance-least p (h .before)) (both-ways (h .q) (h .p) q p ∙ distance-least p (rw add-comm (h .whole))))
 
       -- the access nodes are nodes
       pub access-node : (c : Cell) {x : ℕ} → List·Memᴰ x (accessNodes (distance net) grid cs (net .edges) c) → x < order net

@@ -1,6 +1,6 @@
 -- Times, which are numbers or none, and the least number with a property as a time.
 -- Assumes nothing.
-use mathlib.Core.Path.{_≡_, refl, ap, subst}
+use mathlib.Core.Path.{_≡_, refl, sym, ap, subst}
 use mathlib.Core.Logic.{_⊎_, inl, inr}
 use mathlib.Core.List.{List, [], _∷_, List·Memᴰ, List·Memᴰ·head, List·Memᴰ·tail, List·Memᴰ·cases-cons, List·Memᴰ·not-nil}
 use Prim.Native.Nat.{ℕ, zero, suc, min, _+_, _≤_, _<_}
@@ -11,6 +11,15 @@ use Rattle.theory.specs.Extremes.{either}
 
 pub time-inj : {n k : ℕ} → finite n ≡ finite k → n ≡ k
 time-inj e = cc
+
+IsFinite : Distance → Type 0
+IsFinite unreachable = ⊥
+IsFinite (finite n) = Unit {0}
+
+-- A time is not 'none'.
+pub apart : {n : ℕ} → unreachable ≡ finite n → ⊥
+unfolding IsFinite
+apart e = subst IsFinite (sym e) tt
 
 -- a bound that holds of the least number with P, if there is one, holds of every number with P
 no-least : (P : ℕ → Type 0) → ((k : ℕ) → LeastOf P k → ⊥) → (b k : ℕ) → k < b → P k → ⊥

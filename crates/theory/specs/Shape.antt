@@ -14,10 +14,11 @@ use Rattle.model.specs.Lists.{Part, gapless, any, all, filter, rising, upTo, ra
 use Rattle.model.specs.Bytes.{Bytes, byte, word32, bytes16, bytes32}
 use Rattle.model.specs.Contents.{entry, entryAt, entries, file, bodyPart, contentsBroken, ofItsKind, bodiesBroken}
 use Rattle.model.specs.Distance.{Distance, unreachable, finite}
-use Rattle.model.specs.Oracle.{noWalk, decoded, value, valueBroken}
+use Rattle.model.specs.Oracle.{noWalk, maxValue, decoded, value, valueBroken}
 use Rattle.theory.specs.FileLaws.{nine, entries-step, startOf, start-step, file-offset, file-size, length-file}
 use Rattle.theory.specs.Tests.{both, and, true-eqb}
 use Rattle.theory.specs.Members.{filter→, range→}
+use Rattle.theory.specs.Least.{apart}
 
 -- ---- parts without gaps
 pub gapless-parts : (at s : ℕ) (p : ℕ → Part) (bs : List Bytes)
@@ -45,20 +46,16 @@ kind-read k at (suc j) (b ∷ bs) l h =
 -- ---- a value that decodes to a distance within bounds is in range
 abbrev pub Bounded : Distance → Type 0
 Bounded unreachable = Unit {0}
-Bounded (finite n) = n ≤ 409500000
-
-abbrev IsFinite : Distance → Type 0
-IsFinite unreachable = ⊥
-IsFinite (finite n) = Unit {0}
+Bounded (finite n) = n ≤ maxValue
 
 pub value-fine : (b : Bytes) (p : ℕ) (x : Distance) → value b p ≡ x → Bounded x → valueBroken b p ≡ false
 unfolding value decoded valueBroken
 value-fine b p x e h = step (eqb (word32 b p) noWalk) (word32 b p) x e h
   where
-    step : (c : Bool) (v : ℕ) (x : Distance) → cond c unreachable (finite v) ≡ x → Bounded x → not c && ltb 409500000 v ≡ false
+    step : (c : Bool) (v : ℕ) (x : Distance) → cond c unreachable (finite v) ≡ x → Bounded x → not c && ltb maxValue v ≡ false
     step true v x e h = refl
-    step false v unreachable e h = absurd (subst IsFinite e tt)
-    step false v (finite n) e h = let q : v ≡ n = cc in le-ltb 409500000 v (omega arith)
+    step false v unreachable e h = absurd (apart (sym e))
+    step false v (finite n) e h = let q : v ≡ n = cc in le-ltb maxValue v (omega arith)
 
 -- ---- rising lists
 pub rising-range : (s n : ℕ) → rising (range s n) ≡ true

@@ -22,7 +22,8 @@ unfolding filter
 filter-same p q [] h = refl
 filter-same p q (x ∷ l) h = rw (h x, filter-same p q l h)
 
-one-of : (b c : Bool) → xor b c ≡ true → (b ≡ true) ⊎ (c ≡ true)
+-- One of two that differ holds.
+pub one-of : (b c : Bool) → xor b c ≡ true → (b ≡ true) ⊎ (c ≡ true)
 unfolding xor
 one-of true c h = inl refl
 one-of false true h = inr refl

@@ -210,13 +210,6 @@ module _ (arcs : List Arc) (t : ℕ) (d : ℕ → Distance) (exact : Exact arcs 
   unfolding way wayFrom
   way-none {u} h = rw (exact .nones u .1 h) refl
 
-  -- the arc of a step is the cheapest of those that join its ends
-  pub cheapest : {u v : ℕ} (s : Step d arcs u v) (b : Arc) → List·Memᴰ b arcs → b .from ≡ u → b .to ≡ v → s .arc .cost ≤ b .cost
-  cheapest {u} {v} s b m p q =
-      let w : Walk arcs (b .to) t (s .k) = rw q (exact .times v (s .k) .0 (s .there) .has) in
-      let w′ : Walk arcs u t (b .cost + s .k) = rw (← p) (go b m w) in
-      omega (arith, exact .times u (s .n) .0 (s .here) .least (b .cost + s .k) w′, s .sum)
-
   -- each other least walk's nodes come after it
   pub way-order : {u n : ℕ} → Least arcs u t n → (w : Walk arcs u t n) → (nodesOf w ≡ way d arcs u) ⊎ Before (way d arcs u) (nodesOf w)
   way-order {u} l w = step (compared (nodesOf w) (way d arcs u))

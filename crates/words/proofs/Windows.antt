@@ -10,9 +10,9 @@ use lib.ListN.{length, set, take, drop, replicate, length-drop}
 use lib.Seq.{length-take-le, take-at, drop-at, getD-take}
 use Rattle.bitset.specs.Bits.{setWords, isIn, insertIn, flags}
 use Rattle.bitset.proofs.Members.{flags-same, flags-insert, flags-none}
-use Rattle.words.specs.Regions.{regionAt, region, regionFlags, counts, countsIn, searchWords}
+use Rattle.words.specs.Regions.{searchWords, regionAt, region, regionFlags, counts, countsIn, searchWords}
 use Rattle.words.specs.Frames.{OnlyIn, Only, KeptFrom}
-use Rattle.words.proofs.Stays.{before-kept, after-kept}
+use Rattle.words.proofs.Stays.{kept-more, before-kept, after-kept}
 
 -- ---- where the regions stand
 pub at-words : (n k : ℕ) → k < 3 → k * n ≡ regionAt n k
@@ -144,3 +144,7 @@ module _ (n j k : ℕ) (w w′ : List ℕ) (differ : j ≡ k → ⊥) (o : Only 
 
   pub flags-kept : regionFlags n j w′ ≡ regionFlags n j w
   flags-kept = flags-same n (drop (regionAt n j) w′) (drop (regionAt n j) w) (λ v h. in-kept v h)
+
+-- A set behind the words of a search, which leaves the words from there on.
+pub region-later : (n k : ℕ) (w w′ : List ℕ) → 3 ≤ k → KeptFrom (searchWords n) w w′ → region n k w′ ≡ region n k w
+region-later n k w w′ h e = ap (take (setWords n)) (kept-more (searchWords n) (regionAt n k) w w′ (omega (arith, at-sets n k h)) e)

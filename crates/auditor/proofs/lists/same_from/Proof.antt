@@ -1,9 +1,10 @@
 -- `lists::same_from` meets its contract.
 use mathlib.Core.Path.{_∙_}
 use borrow.Author.Needs.{needs}
-use Rattle.auditor.proofs.Behind.{among-behind, equal-both}
+use Rattle.auditor.proofs.Behind.{equal-both}
 use Rattle.auditor.proofs.lists.same_from.Statement.{statement}
 use Rattle.auditor.proofs.lists.same_from.Tie as tie
+use Rattle.passes.proofs.Seeking.{among-later}
 
 search-own-requires : tie.Need-search-own-requires
 search-own-requires c κs =
@@ -17,7 +18,7 @@ is-list-requires : tie.Need-is-list-requires
 is-list-requires c κs =
     let s = c .before .before .before .before .before .before .before .before .before .before in
     let a = s .args in
-    (search needs, search needs, among-behind (a .n) (a .work .now) _ (c .before .before .before .before .search-own .ensures .1) (s .pre .0 .3), search needs)
+    (search needs, search needs, among-later (a .n) (a .work .now) _ (c .before .before .before .before .search-own .ensures .1) (s .pre .0 .3), search needs)
 
 same-length : tie.Need-same-length
 same-length c = search needs

@@ -9,13 +9,13 @@ use Rattle.theory.specs.RangeLaws.{rest}
 use Rattle.passes.proofs.Seeking.{sought-later}
 use Rattle.auditor.specs.Same.{sameBeside}
 use Rattle.auditor.proofs.Tested.{left-all, left-fails, left-goes, left-none}
-use Rattle.auditor.proofs.Behind.{Kept, kept-same, kept-then, own-behind, transit-behind, roads-behind}
+use Rattle.auditor.proofs.Behind.{KeptSets, kept-same, kept-then, own-behind, transit-behind, roads-behind}
 use Rattle.auditor.proofs.lists.same_in_cell.Statement.{statement}
 use Rattle.auditor.proofs.lists.same_in_cell.Tie as tie
 
 abbrev Inv-loop : tie.InvT-loop
 Inv-loop nodes edges closed grid access n u left work₀ square v₀ work v =
-    Kept n work₀ work × (all (sameBeside nodes edges closed grid access u) (upTo n) ≡ all (sameBeside nodes edges closed grid access u) (rest v n))
+    KeptSets n work₀ work × (all (sameBeside nodes edges closed grid access u) (upTo n) ≡ all (sameBeside nodes edges closed grid access u) (rest v n))
 
 abbrev μ-loop : tie.MeasureT-loop
 μ-loop nodes edges closed grid access n u left work₀ square v₀ work v = n - v

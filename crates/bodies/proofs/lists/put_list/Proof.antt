@@ -4,9 +4,8 @@ use mathlib.Core.Path.{ap, _∙_}
 use borrow.Author.Needs.{needs}
 use Rattle.model.specs.Bytes.{Bytes, splice}
 use Rattle.model.specs.Oracle.{listSize, listStart}
-use Rattle.passes.proofs.Seeking.{sought-later}
+use Rattle.passes.proofs.Seeking.{sought-later, among-later}
 use Rattle.passes.proofs.Listing.{members-few}
-use Rattle.bodies.proofs.OwnLists.{among-later}
 use Rattle.bodies.proofs.lists.put_list.Statement.{statement}
 use Rattle.bodies.proofs.lists.put_list.Tie as tie
 

@@ -3,10 +3,10 @@ use native.Mathlib.Omega.{arith}
 use mathlib.Core.Path.{sym, _∙_, refl}
 use borrow.Author.Tests.{not-true, not-false}
 use borrow.Author.Needs.{needs}
-use Rattle.bodies.proofs.Lent.{region-later}
 use Rattle.bodies.proofs.Tables.{no-row, row-fits, one-row}
 use Rattle.bodies.proofs.table.put_row.Statement.{statement}
 use Rattle.bodies.proofs.table.put_row.Tie as tie
+use Rattle.words.proofs.Windows.{region-later}
 
 has-requires : tie.Need-has-requires
 has-requires c κs = search needs

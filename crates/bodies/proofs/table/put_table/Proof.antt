@@ -10,11 +10,11 @@ use Rattle.passes.specs.Building.{membersIn}
 use Rattle.words.specs.Regions.{region, transit, searchWords}
 use Rattle.model.specs.Lists.{concatMap}
 use Rattle.words.specs.Frames.{KeptFrom}
-use Rattle.bodies.proofs.Lent.{region-later}
 use Rattle.bodies.proofs.Tables.{rows, rows-start}
 use Rattle.bodies.proofs.table.put_table.Statement.{statement}
 use Rattle.bodies.proofs.table.put_table.Tie as tie
 use Rattle.index.proofs.Laid.{roads-from}
+use Rattle.words.proofs.Windows.{region-later}
 
 abbrev Inv-loop : tie.InvT-loop
 Inv-loop edges closed n t work₀ out₀ at₀ v₀ work out at v =

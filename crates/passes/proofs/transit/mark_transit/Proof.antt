@@ -6,7 +6,7 @@ use borrow.Author.Needs.{needs}
 use lib.ListN.{length}
 use Rattle.index.proofs.Laid.{roads-kept, roads-only}
 use Rattle.words.specs.Frames.{KeptFrom}
-use Rattle.passes.specs.Passed.{Passed}
+use Rattle.passes.specs.Passed.{CellsPassed}
 use Rattle.passes.proofs.Passing.{passed-none, passed-all}
 use Rattle.passes.proofs.transit.mark_transit.Statement.{statement}
 use Rattle.passes.proofs.transit.mark_transit.Tie as tie
@@ -15,7 +15,7 @@ use Rattle.words.specs.Regions.{indexAt}
 
 abbrev Inv-loop : tie.InvT-loop
 Inv-loop nodes edges closed grid n work₀ u₀ work u =
-    (u ≤ n) × (length work ≡ length work₀) × Passed nodes edges closed grid n u work × (KeptFrom (indexAt n) work₀ work)
+    (u ≤ n) × (length work ≡ length work₀) × CellsPassed nodes edges closed grid n u work × (KeptFrom (indexAt n) work₀ work)
 
 abbrev μ-loop : tie.MeasureT-loop
 μ-loop nodes edges closed grid n work₀ u₀ work u = n - u

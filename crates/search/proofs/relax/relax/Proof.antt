@@ -5,14 +5,14 @@ use mathlib.Core.Path.{_≡_, refl, sym}
 use borrow.Author.Needs.{needs}
 use lib.ListN.{length}
 use lib.Seq.{length-take-le}
-use Rattle.search.proofs.Relaxes.{Passed, passed-first, turn-passes, turn-roads, passed-next, passed-last, time-read}
+use Rattle.search.proofs.Relaxes.{RelaxedArcs, passed-first, turn-passes, turn-roads, passed-next, passed-last, time-read}
 use Rattle.search.proofs.relax.relax.Statement.{statement}
 use Rattle.search.proofs.relax.relax.Tie as tie
 use Rattle.arcs.specs.Leaving.{arcRank}
 use Rattle.arcs.proofs.Passes.{passes-first}
 
 abbrev Inv-loop : tie.InvT-loop
-Inv-loop edges closed work₀ n k e u d front held₀ a₀ work held a = (length work ≡ length work₀) × Passed edges closed n e u d work₀ a work held
+Inv-loop edges closed work₀ n k e u d front held₀ a₀ work held a = (length work ≡ length work₀) × RelaxedArcs edges closed n e u d work₀ a work held
 
 abbrev μ-loop : tie.MeasureT-loop
 μ-loop edges closed work₀ n k e u d front held₀ a₀ work held a = arcRank edges a
