@@ -44,8 +44,11 @@ module _ (word : ℕ → ℕ) (n k : ℕ) (w₀ : List ℕ) where
     next long x e = record {
       room = omega arith;
       size = length-set w (regionAt n k + i) x ∙ g .size;
-      others = only-then _ _ w₀ w (set w (regionAt n k + i) x) (g .others) (record { front = take-set-le (regionAt n k) w (regionAt n k + i) x (omega arith); back =
-          drop-set-lt (regionAt n k + setWords n) w (regionAt n k + i) x (omega arith) });
+      others = only-then _ _ w₀ w (set w (regionAt n k + i) x) (g .others) (record {
+        front = take-set-le (regionAt n k) w (regionAt n k + i) x (omega arith);
+        back =
+            drop-set-lt (regionAt n k + setWords n) w (regionAt n k + i) x (omega arith);
+      });
       made = λ p j l. pick p j l (ℕ-discrete j i);
       ahead = λ j l. getD-set-other w (regionAt n k + i) (regionAt n k + j) x 0 (λ q. absurd (omega arith)) ∙ g .ahead j (omega arith);
     }

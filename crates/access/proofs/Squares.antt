@@ -177,7 +177,7 @@ module _ {nodes edges closed : Bytes} {grid : Grid} (ground : Ground nodes edges
   unfolding crossings openEdges
   listed x o =
       let e = →map (edge edges) (filter (isOpen (words16 closed)) (upTo (edgeCount edges)))
-          (→filter (isOpen (words16 closed)) (upTo (edgeCount edges)) (→upTo (edgeCount edges) (o .j) (o .real .below)) (o .real .unclosed)) in
+      (→filter (isOpen (words16 closed)) (upTo (edgeCount edges)) (→upTo (edgeCount edges) (o .j) (o .real .below)) (o .real .unclosed)) in
       let m = →map crossingEnd _ (→filter (crosses (cellsIn grid nodes) r c) (openIn edges closed) e (sym (same (o .j) (o .real .below)) ∙ o .crosses)) in
       subst (λ (z : ℕ). List·Memᴰ z (crossings (cellsIn grid nodes) (openIn edges closed) r c)) (sym (o .end)) m
 

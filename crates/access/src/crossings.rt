@@ -12,12 +12,12 @@ ghost use Rattle.crossing.specs.Beside.{crossesSquare};
 ghost use Rattle.words.specs.Regions.{regionAt, regionFlags, indexAt};
 ghost use Rattle.access.specs.Crossed.{Put, CrossingsOf};
 ghost use Rattle.words.specs.Frames.{Only, Enough};
+use arcs::cursor::first_edge;
+use arcs::cursor::next_edge;
 use codec::records::EDGE_SIZE;
 use crossing::square::crosses_edge;
 use crossing::square::crossing_end;
 use grid::square::Square;
-use arcs::cursor::first_edge;
-use arcs::cursor::next_edge;
 use words::regions::clear;
 use words::regions::put;
 

@@ -13,13 +13,13 @@ ghost use Rattle.marks.specs.Due.{Flagged, due, turned};
 ghost use Rattle.words.specs.Regions.{regionFlags, marks, want, timesIn, orderIn, searchWords};
 ghost use Rattle.marks.specs.Ordered.{Ordered};
 ghost use Rattle.words.specs.Frames.{Only, Enough, KeptFrom};
+use marks::leads::leads;
+use search::wanted::search_wanted;
 use words::regions::MARKS;
 use words::regions::WANT;
 use words::regions::clear;
 use words::regions::has;
 use words::regions::put;
-use marks::leads::leads;
-use search::wanted::search_wanted;
 
 // Whether v is to be marked: it is wanted itself, or leads on.
 fn is_due(edges: &[u8], closed: &[u8], n: usize, work: &[u32], v: usize) -> bool

@@ -56,7 +56,6 @@ pub state-first : (arcs : List Arc) (N s : ℕ) → s < N → State arcs N s (se
 state-first arcs N s s-in = record { inv = start-inv arcs N s s-in; kept = kept-start N (set (replicate N noWalk) s 0); filled = omega (arith, zeros-all N) }
 
 module _ (arcs : List Arc) (N s : ℕ) (within : Within N arcs) (s-in : s < N) (d done order : List ℕ) (st : State arcs N s d done order) where
-
   pub state-turn : (u : ℕ) → Nearest N d done u → (out : List Arc) → Out arcs u out → State arcs N s (relax-all (at d u) out d) (set done u 1) (u ∷ order)
   state-turn u near out o = record {
     inv = settle-inv arcs N s within s-in d done (st .inv) u near out o;

@@ -39,7 +39,7 @@ module _ (edges closed : Bytes) (u : ℕ) (done : List ℕ) where
   unfolding arcsIn openEdges
   open-arc j a o m =
       let e = →map (edge edges) (filter (isOpen (words16 closed)) (upTo (edgeCount edges)))
-          (→filter (isOpen (words16 closed)) (upTo (edgeCount edges)) (→upTo (edgeCount edges) j (o .below)) (o .unclosed)) in
+      (→filter (isOpen (words16 closed)) (upTo (edgeCount edges)) (→upTo (edgeCount edges) j (o .below)) (o .unclosed)) in
       →concatMap arcsOf (openEdges edges (words16 closed)) e m
 
   module _ (all : AllOf edges closed u done) (a : Arc) where

@@ -131,7 +131,7 @@ module _ (edges closed : Bytes) (n : ℕ) (w : List ℕ) (u : ℕ) (roads : Road
         all j o (no d) =
             let h : roads .indexed .size ≡ size = sym (roads .indexed .chained .sized u u-in) ∙ sym e in
             let l : Lists ix n link (j / roads .indexed .size) =
-                subst (λ (z : ℕ). Lists ix n z (j / roads .indexed .size)) (sym f) (roads .indexed .chained .covers u j u-in (o .below) (omega arith) o) in
+            subst (λ (z : ℕ). Lists ix n z (j / roads .indexed .size)) (sym f) (roads .indexed .chained .covers u j u-in (o .below) (omega arith) o) in
             inr (omega arith, subst (λ (z : ℕ). Lists ix n link (j / z)) h l)
 
     pub first-listed : (c : Cursor) → size ≡ 1 → AtEntry edges n ix link c → PassedEdges edges closed n w u [] c

@@ -10,14 +10,14 @@ ghost use Rattle.index.specs.Index.{Within, OpenAt, Roads};
 ghost use Rattle.words.specs.Regions.{indexIn};
 ghost use Rattle.arcs.specs.Cursor.{Valid, PassedEdges, Stepped, rank};
 ghost use Rattle.arcs.specs.Seeking.{Seeking, Since, FoundFrom, FirstOpen, AtEntry, blockAt};
+use codec::records::EDGE_SIZE;
+use codec::records::edge_first;
+use codec::records::edge_second;
 use index::open::is_open;
 use index::positions::block_in;
 use index::positions::block_size;
 use index::positions::first_link;
 use index::positions::next_in;
-use codec::records::EDGE_SIZE;
-use codec::records::edge_first;
-use codec::records::edge_second;
 
 // The edge found, or the number of edges where there is none any more; where its block stops; the next entry of the chain; and the size of the blocks.
 pub struct Cursor {

@@ -65,8 +65,8 @@ module _ (b : Bytes) (f : ℕ → Bytes) where
       let here : f k ≡ take (size k m at g) (drop at b) = sym a ∙ its-cut k m at g in
       let later : concat (map f (range (suc k) m)) ≡ drop (at + length (f k)) b = lists-follow m (suc k) (at + length (f k)) (next k m at g a) (λ v l h. same v (omega arith) (omega arith)) in
       rw later (ap (λ (x : ℕ). f k ++ drop (at + x) b) (its-size k m at g a)
-          ∙ (ap (λ (l : Bytes). l ++ drop (at + size k m at g) b) here
-              ∙ (ap (λ (l : Bytes). take (size k m at g) (drop at b) ++ l) (sym (drop-drop (size k m at g) at b)) ∙ take-append-drop (size k m at g) (drop at b))))
+      ∙ (ap (λ (l : Bytes). l ++ drop (at + size k m at g) b) here
+      ∙ (ap (λ (l : Bytes). take (size k m at g) (drop at b) ++ l) (sym (drop-drop (size k m at g) at b)) ∙ take-append-drop (size k m at g) (drop at b))))
 
   module _ (small : AreBytes b) where
     starts-follow : (m k at : ℕ) → startSize * (k + m) ≤ length b → Stand k m at → ((v : ℕ) → k ≤ v → v < k + m → Alike v)
@@ -106,7 +106,7 @@ module _ (b : Bytes) (f : ℕ → Bytes) where
       let more = concat (map f (range (suc k) m)) in
       pick (ℕ-discrete v k) (here k m at g first more e)
       (λ d. follow-lists m (suc k) (at + length (f k)) (next k m at g (here k m at g first more e)) (λ u i j. sized u (omega arith) (omega arith))
-          (later k m at g first more e) v (omega arith) (omega arith))
+      (later k m at g first more e) v (omega arith) (omega arith))
     where
       pick : Dec (v ≡ k) → Alike k → ((v ≡ k → ⊥) → Alike v) → Alike v
       pick (yes q) a r = rw q a

@@ -45,7 +45,7 @@ module _ (nodes edges closed : Bytes) (grid : Grid) (few : nodeCount nodes ≤ m
       let a = accessOf nodes edges closed grid v in
       let entries = concatMap (λ x. entryBytes t x (d v x)) a in
       let first : word16 ((bytes16 (length a) ++ entries) ++ l) 0 ≡ length a = ap (λ (b : Bytes). word16 b 0) (append-assoc (bytes16 (length a)) entries l)
-          ∙ word16-read (length a) (entries ++ l) (omega (arith, access-few nodes edges closed grid (nodeCount nodes) refl v)) in
+      ∙ word16-read (length a) (entries ++ l) (omega (arith, access-few nodes edges closed grid (nodeCount nodes) refl v)) in
       rw first (sym (length-list d t v a))
 
 module _ (o : Bytes) (shaped : wellShaped o ≡ true) (small : AreBytes o) (grid : Grid) (made : gridOf grid ≡ gridOver (division (gridBody o)) (nodes (nodeBody o))) where
@@ -73,7 +73,7 @@ module _ (o : Bytes) (shaped : wellShaped o ≡ true) (small : AreBytes o) (grid
   unfolding sameLists sameList
   lists-tell =
       same-whole n (transitCount (transitBody o)) (accessBody o) (listIn (nodeBody o) (edgeBody o) (closedBody o) grid) (p .access) (part-bytes o small 5)
-          (sized (nodeBody o) (edgeBody o) (closedBody o) grid (node-bytes o (p .sound) .0)) ∙
+      (sized (nodeBody o) (edgeBody o) (closedBody o) grid (node-bytes o (p .sound) .0)) ∙
       ap (equal (accessBody o)) access-is
 
   bodies-tell : sameBodies (nodeBody o) (edgeBody o) (closedBody o) grid (transitBody o) (accessBody o) (tableBody o)
@@ -100,9 +100,14 @@ module _ (o : Bytes) (shaped : wellShaped o ≡ true) (grid : Grid) (made : grid
     (r : cb ≡ closedBody o) (ab : Bytes) (s : ab ≡ accessBody o) where
   pub bodies-asked : (n room : ℕ) → n ≡ nodeCount (nodeBody o) → workWords n ≤ room → Ground nb eb cb grid × (n ≡ nodeCount nb) × (n ≤ maxNodes) × (workWords n ≤ room) × KeepsLists n ab × (1 ≤ n)
   bodies-asked n room e h =
-      let k = all-shaped o shaped in
-      (record { over = over-oracle o nb p grid made k; edges-rule = rw (p, q) (k .sound .some-edge); closed-rule = rw (q, r) (k .sound .closed) }, rw p e,
-          rw e (node-bytes o (k .sound) .0), h, (transitCount (transitBody o), rw (e, s) (k .access)), rw e (node-bytes o (k .sound) .1))
+      let k = all-shaped o shaped in (
+        record { over = over-oracle o nb p grid made k; edges-rule = rw (p, q) (k .sound .some-edge); closed-rule = rw (q, r) (k .sound .closed) },
+        rw p e,
+        rw e (node-bytes o (k .sound) .0),
+        h,
+        (transitCount (transitBody o), rw (e, s) (k .access)),
+        rw e (node-bytes o (k .sound) .1),
+      )
 
   pub bodies-told : AreBytes o → (tb xb : Bytes) → tb ≡ transitBody o → xb ≡ tableBody o → sameBodies nb eb cb grid tb ab xb ≡ not (differsFromBuilt o)
   unfolding oracleGrid

@@ -55,4 +55,4 @@ module _ (nodes edges closed : Bytes) (grid : Grid) (access : Bytes) (u : ℕ) w
     this-cell w ts os v e =
         rw (e, ts, os, same-access nodes edges closed grid u v (same-cell cs u v .0 e))
         (ap (equal (cut (listPart access v) access))
-            (list-values (distance (networkIn nodes edges closed)) v n _ _ _ (distance-words nodes edges closed grid n size v) (access-below nodes edges closed grid n size v)))
+        (list-values (distance (networkIn nodes edges closed)) v n _ _ _ (distance-words nodes edges closed grid n size v) (access-below nodes edges closed grid n size v)))

@@ -65,7 +65,7 @@ module _ (nodes edges closed : Bytes) (grid : Grid) (access : Bytes) where
       let c : all (sameBeside nodes edges closed grid access u) (upTo n) ≡ true = asked (firstOfCell cs u) _ f (below→ (sameOfCell nodes edges closed grid access) n h u (omega arith)) in
       asked (sameCell cs u v) _ (same-cell cs u v .1 q) (below→ (sameBeside nodes edges closed grid access u) n c v l)))
       (λ h. →below _ n (λ u m. let c : all (sameBeside nodes edges closed grid access u) (upTo n) ≡ true =
-          →below _ n (λ v l. rw (below→ (sameList nodes edges closed grid access) n h v l) (or-true (not (sameCell cs u v)))) in
+      →below _ n (λ v l. rw (below→ (sameList nodes edges closed grid access) n h v l) (or-true (not (sameCell cs u v)))) in
       rw c (or-true (not (firstOfCell cs u)))))
 
   pub by-cells-to : (m : ℕ) → m ≡ nodeCount nodes → all (sameOfCell nodes edges closed grid access) (upTo m) ≡ sameLists nodes edges closed grid access

@@ -26,12 +26,12 @@ use crossing::cells::first_of_cell;
 use emit::lists::same_list;
 use grid::Grid;
 use grid::square::Square;
-use words::regions::OWN;
-use words::regions::TRANSIT;
-use words::regions::region_at;
 use passes::own::own_wanted;
 use passes::own::search_own;
 use tables::lists::list_part;
+use words::regions::OWN;
+use words::regions::TRANSIT;
+use words::regions::region_at;
 
 // Whether b is the list of the times in region TIMES to the nodes of region OWN, with their indexes in region TRANSIT.
 fn is_list(work: &[u32], n: usize, b: &[u8]) -> bool

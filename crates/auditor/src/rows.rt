@@ -17,10 +17,10 @@ ghost use Rattle.words.specs.Frames.{Enough, KeptFrom};
 use bitset::bits::set_words;
 use emit::compare::Compared;
 use emit::rows::same_row;
+use search::front::search_front;
 use words::regions::TRANSIT;
 use words::regions::has;
 use words::regions::region_at;
-use search::front::search_front;
 
 // Whether b is the row of the times in region TIMES, with the columns of region TRANSIT.
 fn is_row(work: &[u32], n: usize, b: &[u8]) -> bool

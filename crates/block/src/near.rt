@@ -14,18 +14,18 @@ ghost use Rattle.opened.specs.Opened.{Opened};
 ghost use Rattle.words.specs.Frames.{KeptFrom};
 ghost use Rattle.block.specs.Near.{wantedIn, Wants, WantsToo, WantedTimes, NearTimes};
 ghost use Rattle.words.specs.Regions.{gridAt, searchWords};
-use grid::Grid;
-use words::regions::WANT;
-use words::regions::clear;
-use words::regions::has;
-use words::regions::put;
 use checks::kinds::is_local;
 use checks::kinds::kind_in;
+use grid::Grid;
 use reader::oracle::CLOSED;
 use reader::oracle::EDGES;
 use reader::oracle::node_count;
 use reader::oracle::oracle_body;
 use search::wanted::search_wanted;
+use words::regions::WANT;
+use words::regions::clear;
+use words::regions::has;
+use words::regions::put;
 
 // Wants t where it is local to s. How many more nodes are wanted: none where t was wanted before.
 fn want_end(o: &[u8], grid: Grid, s: usize, t: usize, work: &mut [u32]) -> usize

@@ -21,12 +21,12 @@ ghost use Rattle.words.specs.Regions.{gridAt};
 use crate::near::search_near;
 use codec::records::NO_WALK;
 use grid::Grid;
-use words::regions::WANT;
-use words::regions::has;
 use model::Answer;
 use opened::answers::far_of;
 use opened::opening::opened_grid;
 use reader::oracle::node_count;
+use words::regions::WANT;
+use words::regions::has;
 
 // The seconds of an answer as the table marks them.
 pub fn seconds_of(a: Answer) -> u32

@@ -97,8 +97,16 @@ module _ (b e c : Bytes) (grid : Grid) (n : ℕ) where
   -- The words go on to serve where the transit nodes stay.
   module _ (w w′ : List ℕ) (based : Based b e c grid n w) (k : length w′ ≡ length w) where
     pub based-still : KeptFrom (regionAt n transit) w w′ → Based b e c grid n w′
-    based-still q = record { ground = based .ground; count = based .count; few = based .few; words = omega (arith, based .words, k); some = based .some; roads =
-        roads-from e c n w w′ (regionAt n transit) (omega arith) q (based .roads); transits = ap (λ (l : List ℕ). membersOf n (take (setWords n) l)) q ∙ based .transits }
+    based-still q = record {
+      ground = based .ground;
+      count = based .count;
+      few = based .few;
+      words = omega (arith, based .words, k);
+      some = based .some;
+      roads =
+          roads-from e c n w w′ (regionAt n transit) (omega arith) q (based .roads);
+      transits = ap (λ (l : List ℕ). membersOf n (take (setWords n) l)) q ∙ based .transits;
+    }
 
     pub based-later : KeptFrom (searchWords n) w w′ → Based b e c grid n w′
     based-later q = based-still (kept-more (searchWords n) (regionAt n transit) w w′ (omega arith) q)
@@ -124,8 +132,10 @@ module _ (b e c : Bytes) (grid : Grid) (n : ℕ) where
         (based .few, v-in, based .words, among b e c grid n (based .count) w u u-in (based .transits) os, s),
         (
           based .roads,
-          (start-fits n (listIn b e c grid) body (l .begun) v v-in,
-              omega (arith, ap listSize (s .count), its-size, start-at n (listIn b e c grid) body (l .begun) v v-in, fits-at n (listIn b e c grid) body (l .begun) v v-in)),
+          (
+            start-fits n (listIn b e c grid) body (l .begun) v v-in,
+            omega (arith, ap listSize (s .count), its-size, start-at n (listIn b e c grid) body (l .begun) v v-in, fits-at n (listIn b e c grid) body (l .begun) v v-in),
+          ),
         ),
       )
 

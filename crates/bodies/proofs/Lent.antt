@@ -13,4 +13,3 @@ unfolding splice
 part-written a e out ys h l k =
     let z : a + length ys ≡ e = omega (arith, k, mid-len a e out l) in
     rw (post-is a e out h, z) (sym (append-assoc (take a out) ys (drop e out)))
-

@@ -83,4 +83,4 @@ module _ (edges closed : Bytes) (n : ℕ) (work : List ℕ) where
   rows-start t out e l =
       written-start (members-all rows (region n transit work) n)
       (l ∙ rw e (sym (length-concatMap rows (valueSize * length (membersIn n transit work)) (λ v. unfold rowIn in
-          length-row (distanceWords (arcsIn edges closed) n v) (membersIn n transit work)) (membersIn n transit work))))
+      length-row (distanceWords (arcsIn edges closed) n v) (membersIn n transit work)) (membersIn n transit work))))

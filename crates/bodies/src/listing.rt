@@ -20,9 +20,9 @@ use crossing::cells::first_of_cell;
 use emit::starts::write_starts;
 use grid::Grid;
 use grid::square::Square;
+use passes::own::own_wanted;
 use words::regions::COUNTS;
 use words::regions::region_at;
-use passes::own::own_wanted;
 
 // Writes the list of v, if v has the cell of u, which the square is of. The cell has `left` access nodes.
 fn list_beside(

@@ -17,10 +17,10 @@ ghost use Rattle.bodies.specs.Rows.{rowIn};
 use bitset::bits::set_words;
 use codec::records::VALUE_SIZE;
 use emit::rows::write_row;
+use search::front::search_front;
 use words::regions::TRANSIT;
 use words::regions::has;
 use words::regions::region_at;
-use search::front::search_front;
 
 // Writes the row of the node whose times stand in the first region, from `at` on.
 fn write_times(n: usize, t: usize, work: &[u32], out: &mut [u8], at: usize)

@@ -33,8 +33,13 @@ module _ (f : Bytes) (dv : Division) (sizes : List ℕ) (long : networkHead ≤ 
   pub length-front : length sizes ≡ oracleEntries → length (frontBytes f dv sizes) ≡ gridEnd (length f)
   unfolding frontBytes divisionBytes bytes16 entryAt
   length-front seven =
-      omega (arith, length-append (headBytes oracleEdition sizes ++ drop networkHead f) (divisionBytes dv), length-append (headBytes oracleEdition sizes) (drop networkHead f),
-          length-head oracleEdition sizes, length-drop networkHead f)
+      omega (
+        arith,
+        length-append (headBytes oracleEdition sizes ++ drop networkHead f) (divisionBytes dv),
+        length-append (headBytes oracleEdition sizes) (drop networkHead f),
+        length-head oracleEdition sizes,
+        length-drop networkHead f,
+      )
 
   pub front-ends : {old new : Bytes} {m : ℕ} → Wrote old oracleHead (drop networkHead f) m new → m ≡ networkEnd (length f)
   front-ends w = omega (arith, w .ends, length-drop networkHead f)
@@ -73,8 +78,13 @@ module _ (b e c : Bytes) (grid : Grid) (n t a : ℕ) (w : List ℕ) (p : Planned
           → ((n ≤ maxNodes) × Enough n w′ × (t ≡ length (membersIn n transit w′))
           × (k + valueSize * t * t ≤ length next) × (t ≤ maxNodes)) × Roads e c n w′
       table-room l = (
-        (after .few, after .words, rw (after .transits) (p .transits), omega (arith, transit-ends q, r .ends, p .access),
-            omega (arith, p .transits, p .based .few, transit-few b e c grid n (p .based .count))),
+        (
+          after .few,
+          after .words,
+          rw (after .transits) (p .transits),
+          omega (arith, transit-ends q, r .ends, p .access),
+          omega (arith, p .transits, p .based .few, transit-few b e c grid n (p .based .count)),
+        ),
         after .roads,
       )
 

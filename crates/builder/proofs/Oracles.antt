@@ -63,9 +63,9 @@ module _ (f : Bytes) (dv : Division) (b e c : Bytes) (grid : Grid) (n : ℕ) (l 
     network-bytes =
         let three : List Bytes = map (body f) (upTo networkEntries) in
         let is : f ≡ headBytes networkEdition (map length three) ++ concat three = whole-file f small networkEdition networkEntries (l .passed .contents) (l .passed .bodies)
-            ∙ file-head networkEdition three in
+        ∙ file-head networkEdition three in
         let behind : drop networkHead f ≡ concat three = ap (drop networkHead) is
-            ∙ drop-at (headBytes networkEdition (map length three)) (concat three) networkHead (length-head networkEdition (map length three)) in
+        ∙ drop-at (headBytes networkEdition (map length three)) (concat three) networkHead (length-head networkEdition (map length three)) in
         behind ∙ rw (append-nil, ← l .of-nodes, ← l .of-edges, ← l .of-closed)
 
     pub joined : networkHead + length b + length e + length c ≡ length f
@@ -81,7 +81,7 @@ module _ (f : Bytes) (dv : Division) (b e c : Bytes) (grid : Grid) (n : ℕ) (l 
       whole-is =
           rw (sizes-are, network-bytes)
           (all-joined (headBytes oracleEdition (map length bodies)) b e c (divisionBytes dv) (numbersBytes (transitIn b e c grid)) (whole n (listIn b e c grid))
-              (tableBytes (distance (networkIn b e c)) (transitIn b e c grid)) ∙
+          (tableBytes (distance (networkIn b e c)) (transitIn b e c grid)) ∙
           sym (built-is ∙ file-head oracleEdition bodies))
 
       length-back : length (backBytes b e c grid n) ≡ backSize t a

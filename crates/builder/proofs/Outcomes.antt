@@ -72,8 +72,12 @@ module _ (f : Bytes) (dv : Division) where
   -- ---- a rule before 15
   module _ (work : List ℕ) (out : Bytes) (r : ℕ) (e : r ≡ firstBroken (workRules f dv (length work))) where
     pub build-refused : (r ≡ 0 → ⊥) → Build f dv work out (record { rule = r; size = 0; transit = 0 }) work out
-    build-refused h = record { result = rw same (unfold builtAfter in rw (ne-eqb r 0 h)); words =
-        rw same (words-kept (workRules f dv (length work)) (work-unwritten (length work)) r e f work h); bytes = rw same (unfold outputAfter in rw (ne-eqb r 0 h)) }
+    build-refused h = record {
+      result = rw same (unfold builtAfter in rw (ne-eqb r 0 h));
+      words =
+          rw same (words-kept (workRules f dv (length work)) (work-unwritten (length work)) r e f work h);
+      bytes = rw same (unfold outputAfter in rw (ne-eqb r 0 h));
+    }
       where
         same : buildRefusal f dv work out ≡ r
         same = unfold buildRefusal in (ap firstBroken (rules-are (length work) (length out)) ∙ sym (sooner (workRules f dv (length work)) r e _ h))

@@ -24,7 +24,6 @@ use checks::refusals::number_if;
 use checks::room::zero_front;
 use grid::Grid;
 use index::chains::build_index;
-use words::regions::TRANSIT;
 use model::Built;
 use model::Division;
 use passes::transit::mark_transit;
@@ -32,6 +31,7 @@ use reader::files::accept_refusal;
 use reader::oracle::CLOSED;
 use reader::oracle::EDGES;
 use reader::oracle::NODES;
+use words::regions::TRANSIT;
 use words::regions::WORDS;
 
 // Rules 1 to 8, and 14.

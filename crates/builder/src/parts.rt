@@ -23,9 +23,9 @@ use contents::ORACLE_HEAD;
 use emit::copy::copy;
 use emit::head::write_head;
 use emit::numbers::write_numbers;
+use model::Division;
 use words::regions::TRANSIT;
 use words::regions::region_at;
-use model::Division;
 
 // The head, for bodies of these sizes.
 pub fn put_head(sizes: [u32; ORACLE_ENTRIES], out: &mut [u8])

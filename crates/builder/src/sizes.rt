@@ -16,9 +16,9 @@ use codec::records::START_SIZE;
 use codec::records::VALUE_SIZE;
 use contents::NETWORK_HEAD;
 use contents::ORACLE_ENTRIES;
+use contents::ORACLE_HEAD;
 use words::regions::COUNTS;
 use words::regions::region_at;
-use contents::ORACLE_HEAD;
 
 // The size of n lists with these numbers of entries.
 fn lists_size(counts: &[u32], n: usize) -> usize

@@ -152,11 +152,11 @@ module _ {f : Bytes} {dv : Division} {work work′ : List ℕ} {out out′ : Byt
   pub audit-accepts : {words words′ : List ℕ} {k : ℕ} → Audit o words k words′ → wordsNeeded f ≤ length words → k ≡ 0
   audit-accepts = laws.audit-accepts call done
 
--- ==== Demand 3
+  -- ==== Demand 3
 
--- "However the places lie, under whichever grid from 1 to 64, for every accepted network with any number of equally quick ways, and for every pair of
--- places, one place twice included, the built oracle, given enough working memory, answers the least total wherever there is a walk on open roads from
--- the first to the second: some such walk has it, and every other has at least as many seconds. It answers 'none' exactly when there is no walk."
+  -- "However the places lie, under whichever grid from 1 to 64, for every accepted network with any number of equally quick ways, and for every pair of
+  -- places, one place twice included, the built oracle, given enough working memory, answers the least total wherever there is a walk on open roads from
+  -- the first to the second: some such walk has it, and every other has at least as many seconds. It answers 'none' exactly when there is no walk."
   module _ (s t : ℕ) (hs : s < N) (ht : t < N) where
     pub time-built : {words words′ : List ℕ} {a : Answer} → TimeCall o s t words a words′ → wordsNeeded f ≤ length words
         → Answers (Walk (arcs (network f)) s t) (kindBetween o s t) (pairsTried (kindBetween o s t) o s t) a

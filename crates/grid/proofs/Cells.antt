@@ -53,8 +53,14 @@ module _ {r : Grid} {b : Bytes} (over : Over r b) where
   spreads = ap (λ (m : model.Grid). m .spread) (over .made)
 
   pub holds : (d : Bool) (i : ℕ) → i < nodeCount b → InSpan r (origin d r) (along d (node b i))
-  holds d i h = record { least = omega (arith, starts d, mid); most = omega (arith, starts d, mid, wide d); narrow =
-      omega (arith, spreads, every-most false b (over .coordinates), every-most true b (over .coordinates)); some = bounds .0; few = bounds .1 }
+  holds d i h = record {
+    least = omega (arith, starts d, mid);
+    most = omega (arith, starts d, mid, wide d);
+    narrow =
+        omega (arith, spreads, every-most false b (over .coordinates), every-most true b (over .coordinates));
+    some = bounds .0;
+    few = bounds .1;
+  }
     where
       bounds : (0 < r .g) × (r .g ≤ maxGrid)
       bounds = g-bounds (r .g) (over .grid-rule)

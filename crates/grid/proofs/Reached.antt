@@ -47,7 +47,7 @@ module _ (r : Grid) (b : Bounded r) where
   start-most k =
       let p : min k (r .g) * (r .spread + 1) ≤ r .g * (r .spread + 1) = mul-le-mul {n₁ = min k (r .g)} {m₁ = r .spread + 1} {n₂ = r .g} {m₂ = r .spread + 1} (omega arith) (omega arith) in
       let q = div-lt-iff-lt-mul {k = r .g} {x = min k (r .g) * (r .spread + 1) + (r .g - 1)} {y =
-          suc (r .spread + 1)} (b .some) .1 (omega (arith, suc-mul (r .spread + 1) (r .g), mul-comm (r .g) (r .spread + 1))) in
+      suc (r .spread + 1)} (b .some) .1 (omega (arith, suc-mul (r .spread + 1) (r .g), mul-comm (r .g) (r .spread + 1))) in
       omega arith
 
   -- m is the index cut off, as the code has it.
@@ -59,9 +59,9 @@ module _ (r : Grid) (b : Bounded r) where
   unfolding startOf
   start-rises j k h =
       let p : min j (r .g) * (r .spread + 1) ≤ min k (r .g) * (r .spread + 1) =
-          mul-le-mul {n₁ = min j (r .g)} {m₁ = r .spread + 1} {n₂ = min k (r .g)} {m₂ = r .spread + 1} (omega arith) (omega arith) in
+      mul-le-mul {n₁ = min j (r .g)} {m₁ = r .spread + 1} {n₂ = min k (r .g)} {m₂ = r .spread + 1} (omega arith) (omega arith) in
       le-div-iff-mul-le {k = r .g} {x = startOf r j} {y =
-          min k (r .g) * (r .spread + 1) + (r .g - 1)} (b .some) .1 (omega (arith, div-mul-le-self (min j (r .g) * (r .spread + 1) + (r .g - 1)) (r .g)))
+      min k (r .g) * (r .spread + 1) + (r .g - 1)} (b .some) .1 (omega (arith, div-mul-le-self (min j (r .g) * (r .spread + 1) + (r .g - 1)) (r .g)))
 
   module _ (from x : ℕ) (h : InSpan r from x) where
     -- The column or the row of the coordinate x.
@@ -112,5 +112,11 @@ module _ {r : Grid} {b : Bytes} (over : Over r b) where
   pub has-within : (c : model.Cell) (k : ℕ) (s : Square) → SquareOf r c k s → (v : ℕ) → v < nodeCount b → reachesNode s (node b v) ≡ within k c (cellOf (gridOf r) (node b v))
   unfolding reachesNode within cellOf
   has-within c k s q v h =
-      rw (q .left, q .width, q .bottom, q .height, reached r bounded (r .left) (node b v .x) (holds over false v h) (c .column) k (bounded .left),
-          reached r bounded (r .bottom) (node b v .y) (holds over true v h) (c .row) k (bounded .bottom))
+      rw (
+        q .left,
+        q .width,
+        q .bottom,
+        q .height,
+        reached r bounded (r .left) (node b v .x) (holds over false v h) (c .column) k (bounded .left),
+        reached r bounded (r .bottom) (node b v .y) (holds over true v h) (c .row) k (bounded .bottom),
+      )

@@ -75,7 +75,6 @@ module _ (k : ℕ) (key : ℕ → ℕ) where
   pub down-step : (i c : ℕ) → Lesser k key i c → key c < key i → OrderedDown k i key → (key′ : ℕ → ℕ) → Exchanged k i c key key′ → OrderedDown k c key′
   down-step i c q r u key′ x = record { rest = rest′; over = over′ }
     where
-
       rest′ : (a b : ℕ) → Below a b → b < k → a ≢ c → key′ a ≤ key′ b
       rest′ a b h l n = pick (ℕ-discrete a i) (ℕ-discrete b i) (ℕ-discrete b c)
         where

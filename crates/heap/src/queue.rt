@@ -6,11 +6,11 @@ ghost use Rattle.words.specs.Regions.{timesIn};
 ghost use Rattle.words.specs.Times.{time};
 ghost use Rattle.heap.specs.Words.{position};
 ghost use Rattle.heap.specs.Queue.{Queue, Went, Entered, Lowered, Taken, lowered};
-use crate::sift::down;
-use crate::sift::up;
 use crate::positions::node_at;
 use crate::positions::position_of;
 use crate::positions::swap;
+use crate::sift::down;
+use crate::sift::up;
 use words::times::store_time;
 use words::times::time_of;
 

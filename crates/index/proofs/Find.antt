@@ -70,7 +70,7 @@ module _ (closed : Bytes) (m i : ℕ) (h : numbersBroken m closed ≡ false) whe
   found-closed mid x l e q =
       let r : i ≡ word16 closed (numberSize * mid) = omega arith in
       rw r (rw (→member (word16 closed (numberSize * mid)) (words16 closed)
-          (→map (λ k. word16 closed (numberSize * k)) (upTo (length closed / numberSize)) (→upTo (length closed / numberSize) mid l))))
+      (→map (λ k. word16 closed (numberSize * k)) (upTo (length closed / numberSize)) (→upTo (length closed / numberSize) mid l))))
 
   pub hidden-open : (low high : ℕ) → high ≤ low → Hidden closed i low high → true ≡ isOpen (words16 closed) i
   unfolding isOpen words16

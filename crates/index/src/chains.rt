@@ -11,13 +11,13 @@ ghost use Rattle.index.specs.Grown.{Growing, Grown, OnlyAt, AtEnd, IfOpe
 ghost use Rattle.words.specs.Regions.{indexAt};
 use crate::open::is_open;
 use crate::positions::block_of;
-use words::regions::WORDS;
-use words::regions::index_at;
 use crate::positions::next_of;
 use bitset::words::fill;
 use codec::records::EDGE_SIZE;
 use codec::records::edge_first;
 use codec::records::edge_second;
+use words::regions::WORDS;
+use words::regions::index_at;
 
 // The greatest block, and how many edges the numbers of blocks of one serve.
 const MAX_SIZE: usize = 16384;

@@ -13,8 +13,8 @@ use crate::lines::write_pair;
 use model::Answer;
 use model::Kind;
 use opened::answers::far_of;
-use opened::ways::times_from;
 use opened::opening::opened_kind;
+use opened::ways::times_from;
 use reader::oracle::node_count;
 use tables::far::answer_of;
 

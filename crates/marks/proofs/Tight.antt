@@ -73,8 +73,12 @@ module _ (p : Arc → Bool) (edges closed : Bytes) (n : ℕ) (w : List ℕ) (v :
   module _ (u : Unled p edges closed n w v a) where
     pub unled-next : (r : Bool) (a′ : ArcAt) → r ≡ false → r ≡ p (arcHere v a) → SteppedArc edges closed n w v a a′ → Unled p edges closed n w v a′
     unled-next r a′ e f s =
-        record { done = u .done ++ arcHere v a ∷ []; passes = s .passes (u .done) (u .passes); none =
-            λ x m. ⊎-elim (λ k. u .none x k) (λ q. ap p q ∙ sym f ∙ e) (mem-split x (arcHere v a) (u .done) m) }
+        record {
+          done = u .done ++ arcHere v a ∷ [];
+          passes = s .passes (u .done) (u .passes);
+          none =
+              λ x m. ⊎-elim (λ k. u .none x k) (λ q. ap p q ∙ sym f ∙ e) (mem-split x (arcHere v a) (u .done) m);
+        }
 
     pub led : (r : Bool) → r ≡ true → r ≡ p (arcHere v a) → a .to < n → true ≡ any p (arcsIn edges closed)
     unfolding leaving

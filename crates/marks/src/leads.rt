@@ -10,10 +10,10 @@ ghost use Rattle.words.specs.Frames.{Enough};
 ghost use Rattle.marks.specs.Due.{leading};
 ghost use Rattle.words.specs.Regions.{timesIn, marksIn};
 ghost use Rattle.arcs.specs.Leaving.{maxCost};
-use bitset::bits::contains;
 use arcs::cursor::first_edge;
 use arcs::leaving::arc_at;
 use arcs::leaving::next_arc;
+use bitset::bits::contains;
 use words::regions::QUEUE;
 use words::times::time_of;
 

@@ -63,8 +63,10 @@ module _ (arcs : List Arc) (n t : ℕ) (within : Within n arcs) (positive : Posi
       let f = within a i in
       let r = found .rest (a .to) (f .1) out (a .from) m in (
         rw (early (a .to) (f .1), early (a .from) (f .0)) (not-tight (a .cost) (at d (a .to)) (at d (a .from)) (positive a i) (r .0)),
-        rw (late arcs n t (a .to) (f .1),
-            late arcs n t (a .from) (f .0)) (not-tight (a .cost) (coded (dist arcs n t (a .to))) (coded (dist arcs n t (a .from))) (positive a i) (omega (arith, found .exact (a .from) m .0, r .1))),
+        rw (
+          late arcs n t (a .to) (f .1),
+          late arcs n t (a .from) (f .0),
+        ) (not-tight (a .cost) (coded (dist arcs n t (a .to))) (coded (dist arcs n t (a .from))) (positive a i) (omega (arith, found .exact (a .from) m .0, r .1))),
       )
 
   module _ (s : ℕ) (s-in : s < n) (wanted : 0 < at want s) where

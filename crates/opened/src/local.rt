@@ -12,14 +12,14 @@ ghost use Rattle.index.specs.Index.{Roads};
 ghost use Rattle.words.specs.Frames.{Enough, KeptFrom};
 ghost use Rattle.opened.specs.Opened.{Opened};
 ghost use Rattle.words.specs.Regions.{timesIn, orderIn, wantIn, gridAt};
-use words::regions::WANT;
-use words::regions::clear;
-use words::regions::put;
 use reader::oracle::CLOSED;
 use reader::oracle::EDGES;
 use reader::oracle::node_count;
 use reader::oracle::oracle_body;
 use search::wanted::search_wanted;
+use words::regions::WANT;
+use words::regions::clear;
+use words::regions::put;
 
 // The wanted set of a search has t alone.
 fn want_only(work: &mut [u32], n: usize, t: usize)

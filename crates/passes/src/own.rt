@@ -63,14 +63,7 @@ pub fn own_wanted(
 
 // Searches from v for these `left` access nodes: the times that it leaves give the list of v. A list without access nodes has no times, so
 // nothing is searched for it.
-pub fn search_own(
-    edges: &[u8],
-    closed: &[u8],
-    n: usize,
-    v: usize,
-    left: usize,
-    work: &mut [u32],
-)
+pub fn search_own(edges: &[u8], closed: &[u8], n: usize, v: usize, left: usize, work: &mut [u32])
     requires { ⌜ (n ≤ maxNodes) × (v < n) × Enough n (now work) × Sought n left (now work) × Roads (now edges) (now closed) n (now work) ⌝ }
     ensures list { λ _. ⌜ listBytesOf (timesIn n (now (work .exit))) (membersIn n transit (now (work .exit))) (membersIn n own (now (work .exit))) ≡ listBytesOf (distanceWords (arcsIn (now (edges .entry)) (now (closed .entry))) n v) (membersIn n transit (now (work .entry))) (membersIn n own (now (work .entry))) ⌝ }
     ensures others { λ _. ⌜ KeptFrom (searchWords n) (now (work .entry)) (now (work .exit)) ⌝ }

@@ -8,12 +8,12 @@ ghost use Rattle.index.specs.Index.{Roads};
 ghost use Rattle.words.specs.Frames.{Enough, KeptFrom};
 ghost use Rattle.search.specs.Holds.{Holds, Relaxed, SettledWithin};
 ghost use Rattle.words.specs.Regions.{frontIn, timesIn, searchWords};
-use words::regions::SEARCH;
-use words::times::time_of;
 use crate::regions::offer_in;
 use arcs::cursor::first_edge;
 use arcs::leaving::arc_at;
 use arcs::leaving::next_arc;
+use words::regions::SEARCH;
+use words::times::time_of;
 
 // Relaxes the arcs out of u, than which no settled node is farther, in the first 3 n words. The number of nodes held.
 pub fn relax(

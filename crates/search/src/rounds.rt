@@ -11,11 +11,11 @@ ghost use Rattle.search.specs.Holds.{Holds, SettledFirst};
 ghost use Rattle.search.specs.Round.{Round};
 ghost use Rattle.words.specs.Regions.{frontIn, timesIn, orderIn, settledIn, searchWords};
 ghost use Rattle.search.specs.Order.{settleOrder};
-use words::regions::SEARCH;
 use crate::regions::plain_order;
 use crate::regions::reset;
 use crate::regions::settle_nearest;
 use crate::relax::relax;
+use words::regions::SEARCH;
 
 // Only s is reached, and no node is settled. The number of nodes held.
 pub fn begin(work: &mut [u32], n: usize, s: usize) -> usize

@@ -10,12 +10,12 @@ ghost use Rattle.heap.specs.Words.{low};
 ghost use Rattle.index.specs.Index.{Roads};
 ghost use Rattle.words.specs.Regions.{timesIn, orderIn, wantIn, searchWords};
 ghost use Rattle.words.specs.Frames.{Enough, KeptFrom};
-use words::regions::SEARCH;
 use crate::rounds::begin;
 use crate::rounds::finish;
 use crate::rounds::round;
 use bitset::bits::contains;
 use heap::positions::HALF;
+use words::regions::SEARCH;
 
 // How many wanted nodes are lacking, where `left` were before the node at position e of the order was settled.
 fn left_then(work: &[u32], n: usize, e: usize, left: usize) -> usize

@@ -109,7 +109,6 @@ module _ (f : Bytes) (dv : Division) (sound : Sound f) (keeps : gridBroken (dv .
 
 -- The same, of an accepted network.
 module _ (f : Bytes) (dv : Division) (ok : Passed f dv) where
-
   pub g-above : 0 < dv .g
   g-above = above f dv (ok .sound) (ok .grid)
 

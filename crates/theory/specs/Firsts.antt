@@ -55,7 +55,6 @@ none = refl
 
 -- One rule more, after rules that are kept.
 module _ (xs : List Rule) (n : ℕ) {b : Bool} (c : counted xs ≡ true) (h : firstBroken xs ≡ 0) where
-
   pub one-kept : b ≡ false → 0 ≡ firstBroken (xs ++ (rule n b ∷ []))
   one-kept e = goes n [] e none ∙ sym (first-append xs (rule n b ∷ []) c h)
 

@@ -181,7 +181,12 @@ fn build_wrong(net: &[u8], words: usize, room: usize, rule: u32, size: u32) -> u
     if 30 < words || 150 < room {
         return 1;
     }
-    let b = build(net, Division { g: 6 }, &mut work[0..words], &mut out[0..room]);
+    let b = build(
+        net,
+        Division { g: 6 },
+        &mut work[0..words],
+        &mut out[0..room],
+    );
     one_if(!((b.rule == rule) & (b.size == size)))
 }
 

@@ -57,7 +57,7 @@ module _ (d : ℕ → Distance) (u : ℕ) where
           → leastOf (min s (a .to)) (nexts d (xs ++ ys) u) ≡ leastOf (leastOf (min s (a .to)) (nexts d xs u)) (nexts d ys u)
           → leastOf s (nexts d (xs ++ ys) u) ≡ leastOf (leastOf s (nexts d xs u)) (nexts d ys u)
           → leastOf s (map (λ x. x .to) (cond b (a ∷ filter test (xs ++ ys)) (filter test (xs ++ ys)))) ≡ leastOf
-              (leastOf s (map (λ x. x .to) (cond b (a ∷ filter test xs) (filter test xs)))) (nexts d ys u)
+          (leastOf s (map (λ x. x .to) (cond b (a ∷ filter test xs) (filter test xs)))) (nexts d ys u)
       step true p q = p
       step false p q = q
 

@@ -14,10 +14,10 @@ ghost use Rattle.words.specs.Frames.{Enough};
 ghost use Rattle.way.specs.Distances.{distanceIn};
 ghost use Rattle.words.specs.Regions.{timesIn};
 ghost use Rattle.arcs.specs.Leaving.{maxCost};
-use codec::records::NO_WALK;
 use arcs::cursor::first_edge;
 use arcs::leaving::arc_at;
 use arcs::leaving::next_arc;
+use codec::records::NO_WALK;
 
 // The lower of `best` and v where v is next by an arc of `cost` seconds, and else `best`. 'No walk' is no time to add, and the sum is wide, so that it
 // need not be kept small.

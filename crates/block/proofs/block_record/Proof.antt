@@ -96,7 +96,7 @@ block-record-meets : {M : Type 1} (𝓤 : URA M) (H : Heap 𝓤) (A : Atoms 𝓤
     → Meets 𝓤 H A block-record.signature (WpFn 𝓤 H (𝓣 .C) (𝓣 .Λ) code.function) (block-record.spec 𝓤 H A mem run)
 block-record-meets 𝓤 H A W mem run 𝓣 =
     walk-meets 𝓤 H A block-record.ended stayed W (goes 𝓤 H A W mem run) (block-record.clauses 𝓤 H A mem run) (WpFn 𝓤 H (𝓣 .C) (𝓣 .Λ) code.function)
-      (WpFn-mono 𝓤 H (W .laws) 𝓣 code.function) (block-record-walks 𝓤 H A W mem run (𝓣 .C) (𝓣 .Λ))
+    (WpFn-mono 𝓤 H (W .laws) 𝓣 code.function) (block-record-walks 𝓤 H A W mem run (𝓣 .C) (𝓣 .Λ))
 
 pub block-record-spec : {M : Type 1} → stated.statement M
 unfolding code.routine tablesOf

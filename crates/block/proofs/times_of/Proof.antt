@@ -60,7 +60,7 @@ module _ {M : Type 1} (𝓤 : URA M) (H : Heap 𝓤) (A : Atoms 𝓤) (W : Given
       qed W (‵ (T.the-row .own h (mach ∷ [])) ∷ []) ∵
       suffices ! _ (ends-at 𝓤 H A times-of.ended stayed (times-of.clauses 𝓤 H A mem run) W ((tt, tt, tt, (h, tt), (mach ∷ [], tt)), tt) field (h .times) (tt, tt) (tt, tt)) $ says ! refl $
       nothing ! $ move ! (1 ∷ 0 ∷ []) $ fjoin ! $ owned ! squared (Is squared) (array-makes 𝓤 H A W (Array u32 12) (array-makes 𝓤 H A W u32 (uint-makes 𝓤 H A W w32) 12) 12)
-          (h .times) _ is $ move ! (1 ∷ 0 ∷ []) $ nothing ! $ done !
+      (h .times) _ is $ move ! (1 ∷ 0 ∷ []) $ nothing ! $ done !
 
   -- the field is the record's list
   given : Is T.the-row h (mach ∷ []) → Is squared (h .times) (field ∷ [])
@@ -77,15 +77,17 @@ module _ {M : Type 1} (𝓤 : URA M) (H : Heap 𝓤) (A : Atoms 𝓤) (W : Given
 
 module _ {M : Type 1} (𝓤 : URA M) (H : Heap 𝓤) (A : Atoms 𝓤) (W : Given 𝓤 H A) (mem : Memory → SProp 𝓤) (run : Routine → Fun 𝓤) where
   times-of-walks : (C : Calls 𝓤 H) (Λ : Loops 𝓤 H) → Walks 𝓤 H A times-of.ended stayed (WpFn 𝓤 H C Λ code.function) (times-of.clauses 𝓤 H A mem run)
-  times-of-walks C Λ = walked 𝓤 H A times-of.ended stayed (times-of.clauses 𝓤 H A mem run) (WpFn 𝓤 H C Λ code.function) (λ κs. (LL.vals T.the-type T′.the-laws,
-      tt)) (λ κs. (LL.tells T.the-type T′.the-laws, tt))
+  times-of-walks C Λ = walked 𝓤 H A times-of.ended stayed (times-of.clauses 𝓤 H A mem run) (WpFn 𝓤 H C Λ code.function) (λ κs. (
+    LL.vals T.the-type T′.the-laws,
+    tt,
+  )) (λ κs. (LL.tells T.the-type T′.the-laws, tt))
       (λ κs qs bounds a g are. via 𝓤 _ (fst∗ 𝓤 _ (emp 𝓤)) (walk 𝓤 H A W mem run (a .0) C Λ (are .0) (LL.lawful T.the-type T′.the-laws 𝓤 H A W .typed (a .0) _ (are .0) .0)))
 
 times-of-meets : {M : Type 1} (𝓤 : URA M) (H : Heap 𝓤) (A : Atoms 𝓤) → Given 𝓤 H A → (mem : Memory → SProp 𝓤) (run : Routine → Fun 𝓤) (𝓣 : Tables 𝓤 H)
     → Meets 𝓤 H A times-of.signature (WpFn 𝓤 H (𝓣 .C) (𝓣 .Λ) code.function) (times-of.spec 𝓤 H A mem run)
 times-of-meets 𝓤 H A W mem run 𝓣 =
     walk-meets 𝓤 H A times-of.ended stayed W (goes-none 𝓤 H A W 0 (λ _. T.the-row) yes (λ κs x f. refl), tt) (times-of.clauses 𝓤 H A mem run)
-      (WpFn 𝓤 H (𝓣 .C) (𝓣 .Λ) code.function) (WpFn-mono 𝓤 H (W .laws) 𝓣 code.function) (times-of-walks 𝓤 H A W mem run (𝓣 .C) (𝓣 .Λ))
+    (WpFn 𝓤 H (𝓣 .C) (𝓣 .Λ) code.function) (WpFn-mono 𝓤 H (W .laws) 𝓣 code.function) (times-of-walks 𝓤 H A W mem run (𝓣 .C) (𝓣 .Λ))
 
 pub times-of-spec : {M : Type 1} → stated.statement M
 unfolding code.routine tablesOf

@@ -19,11 +19,10 @@ put-crossings-requires : tie.Need-put-crossings-requires
 put-crossings-requires c κs =
     let s = c .before .before .before .before .before .before .before .before .before .before in
     let a = s .args in
-    let p = s .pre in
-    (
+    let p = s .pre in (
       (p .0 .1, p .0 .2, search needs, p .0 .4, omega arith),
       roads-from (a .edges .now) (a .closed .now) (a .n) (a .work .now) _ (regionAt (a .n) transit) (omega arith)
-        (c .before .before .before .before .cell-gather .ensures .1) (p .1),
+          (c .before .before .before .before .cell-gather .ensures .1) (p .1),
     )
 
 meet-requires : tie.Need-meet-requires
@@ -42,7 +41,7 @@ returns c =
     let cell = modelCell (a .c) in
     access-cell (a .nodes .now) (a .edges .now) (a .closed .now) (a .grid) (p .0) (a .n) (p .1) cell (a .work .now) _ _ _
     (gathered .0) (gathered .1) (inner .0 (a .grid) cell _ (p .0) (c .before .before .before .before .before .before .before .before .inner-square .ensures))
-      (inner .1) (c .before .before .meet .ensures .0) (c .before .before .meet .ensures .1)
+    (inner .1) (c .before .before .meet .ensures .0) (c .before .before .meet .ensures .1)
 
 pub cell-access-spec : {M : Type 1} → statement M
 cell-access-spec =

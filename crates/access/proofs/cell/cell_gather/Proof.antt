@@ -21,18 +21,22 @@ put-crossings-requires-2 : tie.Need-put-crossings-requires-2
 put-crossings-requires-2 c κs =
     let s = c .before .before .before .before .before .before .before .before .before .before .before in
     let a = s .args in
-    let p = s .pre in
-    ((p .0 .1, p .0 .2, search needs, p .0 .4, omega arith), roads-only (a .edges .now) (a .closed .now) (a .n) (a .work .now) _ _ _ (omega arith)
-      (c .before .before .before .before .put-crossings .ensures .1) (p .1))
+    let p = s .pre in (
+      (p .0 .1, p .0 .2, search needs, p .0 .4, omega arith),
+      roads-only (a .edges .now) (a .closed .now) (a .n) (a .work .now) _ _ _ (omega arith)
+          (c .before .before .before .before .put-crossings .ensures .1) (p .1),
+    )
 
 gather-requires : tie.Need-gather-requires
 gather-requires c κs =
     let s = c .before .before .before .before .before .before .before .before .before .before .before .before .before .before .before in
     let a = s .args in
-    let p = s .pre in
-    (search needs, roads-crossed (a .edges .now) (a .closed .now) (a .n) (a .work .now) _ _
-      (c .before .before .before .before .before .before .before .before .put-crossings .ensures .1) (c .before .before .before .put-crossings2 .ensures .1)
-      (p .1))
+    let p = s .pre in (
+      search needs,
+      roads-crossed (a .edges .now) (a .closed .now) (a .n) (a .work .now) _ _
+          (c .before .before .before .before .before .before .before .before .put-crossings .ensures .1) (c .before .before .before .put-crossings2 .ensures .1)
+          (p .1),
+    )
 
 same-length : tie.Need-same-length
 same-length c = search needs
@@ -47,9 +51,9 @@ returns c =
     let cell = modelCell (a .c) in
     gathered-cell (a .nodes .now) (a .edges .now) (a .closed .now) (a .grid) (p .0) (a .n) (p .1) cell (a .work .now) _ _ _
     (starts .0 (a .grid) cell 0 (p .0)
-      (c .before .before .before .before .before .before .before .before .before .before .before .before .before .square .ensures)) (starts .1)
-      (goals .0 (a .grid) cell _ (p .0) (c .before .before .before .before .before .before .before .before .outer-square .ensures)) (goals .1)
-      (c .before .before .gather .ensures .0) (c .before .before .gather .ensures .1)
+    (c .before .before .before .before .before .before .before .before .before .before .before .before .before .square .ensures)) (starts .1)
+    (goals .0 (a .grid) cell _ (p .0) (c .before .before .before .before .before .before .before .before .outer-square .ensures)) (goals .1)
+    (c .before .before .gather .ensures .0) (c .before .before .gather .ensures .1)
 
 pub cell-gather-spec : {M : Type 1} → statement M
 cell-gather-spec =

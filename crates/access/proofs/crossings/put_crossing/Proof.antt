@@ -29,10 +29,14 @@ same-length : tie.Need-same-length
 same-length c = search needs
 
 returns : tie.Need-returns
-returns c =
-    (c .before .before .put .ensures .0 ∙ rw (c .before .before .before .crossing-end .ensures,
-      ← c .before .before .before .before .before .before .crosses-edge .ensures, c .before .before .before .before .before .if1 .taken),
-      c .before .before .put .ensures .1)
+returns c = (
+  c .before .before .put .ensures .0 ∙ rw (
+    c .before .before .before .crossing-end .ensures,
+    ← c .before .before .before .before .before .before .crosses-edge .ensures,
+    c .before .before .before .before .before .if1 .taken,
+  ),
+  c .before .before .put .ensures .1,
+)
 
 returns-2 : tie.Need-returns-2
 returns-2 c = (rw (← c .before .crosses-edge .ensures, c .if1 .left), only-same _ _ _)

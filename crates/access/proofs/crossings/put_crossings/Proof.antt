@@ -35,11 +35,10 @@ put-crossings-at-requires c κs =
     let a = s .args in
     let p = s .pre in
     let l = c .before .before .before .before .loop in
-    let cleared = c .before .before .before .before .before .before .before .clear in
-    (
+    let cleared = c .before .before .before .before .before .before .before .clear in (
       (p .0 .0, p .0 .1, omega (arith, l .inv .0, cleared .kept .0, p .0 .2), search needs, p .0 .4),
       roads-only (a .edges .now) (a .closed .now) (a .n) (a .work .now) (l .work) _ _ (p .0 .4)
-        (only-then _ _ (a .work .now) _ (l .work) (cleared .ensures .1) (l .inv .1 .others)) (p .1),
+          (only-then _ _ (a .work .now) _ (l .work) (cleared .ensures .1) (l .inv .1 .others)) (p .1),
     )
 
 add-v : tie.Need-add-v Inv-loop μ-loop
@@ -67,8 +66,7 @@ returns c =
     let a = s .args in
     let p = s .pre .0 in
     let l = c .before .loop in
-    let cleared = c .before .before .before .before .clear .ensures in
-    (
+    let cleared = c .before .before .before .before .clear .ensures in (
       λ grid cell r ground q. crossings-put ground r cell _ q (a .n) (p .0) (a .k) _ (cleared .0) (l .v) (search needs) (l .work) (l .inv .1),
       only-then _ _ (a .work .now) _ (l .work) (cleared .1) (l .inv .1 .others),
     )

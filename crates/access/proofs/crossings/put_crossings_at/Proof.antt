@@ -32,9 +32,13 @@ next-edge-requires : tie.Need-next-edge-requires Inv-loop μ-loop
 next-edge-requires c κs =
     let l = c .before .before .before .before .before .before .before .loop in
     let p = c .before .before .before .before .before .before .before .before .before .before .before .before .before .before .pre in
-    let o = c .before .before .before .put-crossing .ensures .1 in
-    ((search needs, search needs, search needs), (walked-roads _ _ _ _ _ _ _ _ _ (l .work) (l .inv .2) (p .0 .4) _ o (p .1),
-      (walked-valid _ _ _ _ _ _ _ _ _ (l .work) (l .inv .2) (p .0 .4) _ o, omega (arith, l .inv .0))))
+    let o = c .before .before .before .put-crossing .ensures .1 in (
+      (search needs, search needs, search needs),
+      (
+        walked-roads _ _ _ _ _ _ _ _ _ (l .work) (l .inv .2) (p .0 .4) _ o (p .1),
+        (walked-valid _ _ _ _ _ _ _ _ _ (l .work) (l .inv .2) (p .0 .4) _ o, omega (arith, l .inv .0)),
+      ),
+    )
 
 loop-less : tie.Need-loop-less Inv-loop μ-loop
 loop-less c = c .next-edge .ensures .less
@@ -43,9 +47,12 @@ loop-again : tie.Need-loop-again Inv-loop μ-loop
 loop-again c =
     let put-crossing = c .before .before .before .before .put-crossing in
     let l = c .before .before .before .before .before .before .before .before .loop in
-    let p = c .before .before .before .before .before .before .before .before .before .before .before .before .before .before .before .pre in
-    (l .inv .0, search needs, walked-next _ _ _ _ _ _ _ _ _ (l .work) (l .inv .2) (p .0 .4) _ (put-crossing .ensures .1) (p .1 .ends)
-      (omega (arith, l .inv .0)) (put-crossing .ensures .0) _ (c .next-edge .ensures))
+    let p = c .before .before .before .before .before .before .before .before .before .before .before .before .before .before .before .pre in (
+      l .inv .0,
+      search needs,
+      walked-next _ _ _ _ _ _ _ _ _ (l .work) (l .inv .2) (p .0 .4) _ (put-crossing .ensures .1) (p .1 .ends)
+          (omega (arith, l .inv .0)) (put-crossing .ensures .0) _ (c .next-edge .ensures),
+    )
 
 same-length : tie.Need-same-length Inv-loop μ-loop
 same-length c = search needs

@@ -28,11 +28,10 @@ gather-from-requires c κs =
     let s = c .before .before .before .before .before .before .before .before .before .before .before .before in
     let clear = c .before .before .before .before .before .before .before .clear in
     let a = s .args in
-    let l = c .before .before .loop in
-    (
+    let l = c .before .before .loop in (
       (search needs, search needs, omega (arith, l .inv .size, clear .kept .0), wanted-left _ _ _ (l .p) (l .work) (l .inv) _ (c .before .before .before .count .ensures)),
       roads-gathering _ _ _ (l .p) (l .work) (l .inv) (a .edges .now) (a .closed .now)
-        (roads-only (a .edges .now) (a .closed .now) (a .n) (a .work .now) _ _ _ (omega arith) (clear .ensures .1) (s .pre .1)),
+          (roads-only (a .edges .now) (a .closed .now) (a .n) (a .work .now) _ _ _ (omega arith) (clear .ensures .1) (s .pre .1)),
     )
 
 add-p : tie.Need-add-p Inv-loop μ-loop

@@ -22,8 +22,8 @@ returns c =
     let toward = c .before .before .before .before .before .before .toward in
     let a = c .before .before .before .before .before .before .before .before .before .before .before .before .before .before .args in
     from-start _ (a .n) (a .p) (a .work .now) (search needs) (sym (c .before .before .before .before .before .before .before .before .if1 .taken) ∙
-      c .before .before .before .before .before .before .before .before .before .has .ensures) _ _ (toward .ensures .1) (toward .ensures .0)
-      (c .before .before .unite .ensures .0) (c .before .before .unite .ensures .1)
+    c .before .before .before .before .before .before .before .before .before .has .ensures) _ _ (toward .ensures .1) (toward .ensures .0)
+    (c .before .before .unite .ensures .0) (c .before .before .unite .ensures .1)
 
 same-length-2 : tie.Need-same-length-2
 same-length-2 c = search needs

@@ -38,8 +38,14 @@ add-meet-word-3 c = omega (arith, c .before .before .before .before .region-at3 
 
 meet-word-requires : tie.Need-meet-word-requires Inv-loop μ-loop
 meet-word-requires c κs =
-    omega (arith, c .before .before .before .before .before .before .region-at .ensures, c .before .before .before .before .before .region-at2 .ensures,
-      c .before .before .before .before .region-at3 .ensures, c .before .before .before .set-words .ensures, c .before .before .loop .inv .size)
+    omega (
+      arith,
+      c .before .before .before .before .before .before .region-at .ensures,
+      c .before .before .before .before .before .region-at2 .ensures,
+      c .before .before .before .before .region-at3 .ensures,
+      c .before .before .before .set-words .ensures,
+      c .before .before .loop .inv .size,
+    )
 
 add-i : tie.Need-add-i Inv-loop μ-loop
 add-i c = omega (arith, c .before .before .before .before .before .before .set-words .ensures)
@@ -54,11 +60,11 @@ loop-again c =
     let a = s .args in
     let l = c .before .before .before .before .before .loop in
     rw (c .before .before .meet-word .ensures) (meet-next (a .n) (a .a) (a .b) (a .into) (a .work .now) (l .i) (l .work) (l .inv) (p .1 .0) (p .1 .1) _ _ _
-      (c .before .before .before .before .before .before .before .before .before .region-at .ensures)
-      (c .before .before .before .before .before .before .before .before .region-at2 .ensures)
-      (c .before .before .before .before .before .before .before .region-at3 .ensures)
-      (omega (arith, c .before .before .before .before .before .before .set-words .ensures, c .before .before .before .before .loop-test .taken))
-      (p .0 .2))
+    (c .before .before .before .before .before .before .before .before .before .region-at .ensures)
+    (c .before .before .before .before .before .before .before .before .region-at2 .ensures)
+    (c .before .before .before .before .before .before .before .region-at3 .ensures)
+    (omega (arith, c .before .before .before .before .before .before .set-words .ensures, c .before .before .before .before .loop-test .taken))
+    (p .0 .2))
 
 same-length : tie.Need-same-length Inv-loop μ-loop
 same-length c = search needs

@@ -32,8 +32,13 @@ add-unite-word-2 c = omega (arith, c .before .before .before .before .region-at2
 
 unite-word-requires : tie.Need-unite-word-requires Inv-loop μ-loop
 unite-word-requires c κs =
-    omega (arith, c .before .before .before .before .before .region-at .ensures, c .before .before .before .before .region-at2 .ensures,
-      c .before .before .before .set-words .ensures, c .before .before .loop .inv .size)
+    omega (
+      arith,
+      c .before .before .before .before .before .region-at .ensures,
+      c .before .before .before .before .region-at2 .ensures,
+      c .before .before .before .set-words .ensures,
+      c .before .before .loop .inv .size,
+    )
 
 add-i : tie.Need-add-i Inv-loop μ-loop
 add-i c = omega (arith, c .before .before .before .before .before .before .set-words .ensures)
@@ -48,9 +53,9 @@ loop-again c =
     let a = s .args in
     let l = c .before .before .before .before .before .loop in
     rw (c .before .before .unite-word .ensures) (unite-next (a .n) (a .from) (a .into) (a .work .now) (p .2) (l .i) (l .work) (l .inv) _ _
-      (c .before .before .before .before .before .before .before .before .region-at .ensures)
-      (c .before .before .before .before .before .before .before .region-at2 .ensures)
-      (omega (arith, c .before .before .before .before .before .before .set-words .ensures, c .before .before .before .before .loop-test .taken)) (p .1))
+    (c .before .before .before .before .before .before .before .before .region-at .ensures)
+    (c .before .before .before .before .before .before .before .region-at2 .ensures)
+    (omega (arith, c .before .before .before .before .before .before .set-words .ensures, c .before .before .before .before .loop-test .taken)) (p .1))
 
 same-length : tie.Need-same-length Inv-loop μ-loop
 same-length c = search needs
@@ -59,9 +64,11 @@ returns : tie.Need-returns Inv-loop μ-loop
 returns c =
     let s = c .before .before .before .before .before .before in
     let a = s .args in
-    let l = c .before .loop in
-    (unite-last (a .n) (a .from) (a .into) (a .work .now) (s .pre .2) (l .i) (l .work) (l .inv)
-      (omega (arith, c .before .before .set-words .ensures, c .loop-test .left)), l .inv .others)
+    let l = c .before .loop in (
+      unite-last (a .n) (a .from) (a .into) (a .work .now) (s .pre .2) (l .i) (l .work) (l .inv)
+          (omega (arith, c .before .before .set-words .ensures, c .loop-test .left)),
+      l .inv .others,
+    )
 
 pub unite-spec : {M : Type 1} → statement M
 unite-spec =

@@ -16,9 +16,11 @@ same-length : tie.Need-same-length
 same-length c = search needs
 
 returns : tie.Need-returns
-returns c =
-    (c .before .before .put .ensures .0 ∙ turn-due _ _ _ _ _ (sym (c .before .before .before .before .if1 .taken) ∙
-      c .before .before .before .before .before .is-due .ensures), c .before .before .put .ensures .1)
+returns c = (
+  c .before .before .put .ensures .0 ∙ turn-due _ _ _ _ _ (sym (c .before .before .before .before .if1 .taken) ∙
+      c .before .before .before .before .before .is-due .ensures),
+  c .before .before .put .ensures .1,
+)
 
 same-length-2 : tie.Need-same-length-2
 same-length-2 c = search needs

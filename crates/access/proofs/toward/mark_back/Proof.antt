@@ -31,11 +31,10 @@ mark-at-requires c κs =
     let clear = c .before .before .before .before .before .clear in
     let l = c .before .before .loop in
     let a = s .args in
-    let k = clear .kept .0 in
-    (
+    let k = clear .kept .0 in (
       (search needs, search needs, omega (arith, l .inv .size, k), node-in _ _ _ _ (omega (arith, k)) (l .i) (l .work) (l .inv) (search needs)),
       roads-only (a .edges .now) (a .closed .now) (a .n) (a .work .now) (l .work) _ _ (omega arith)
-        (only-then _ _ (a .work .now) _ (l .work) (clear .ensures .1) (l .inv .others)) (s .pre .1),
+          (only-then _ _ (a .work .now) _ (l .work) (clear .ensures .1) (l .inv .others)) (s .pre .1),
     )
 
 add-i : tie.Need-add-i Inv-loop μ-loop
@@ -50,8 +49,8 @@ loop-again c =
     let a = s .args in
     let l = c .before .before .before .before .before .loop in
     next _ _ _ _ (omega (arith, c .before .before .before .before .before .before .before .before .clear .kept .0)) (l .i) (l .work) (l .inv) (search needs)
-      (arcs-positive (a .n) (a .edges .now) (s .pre .1 .ends) (a .closed .now)) _ (search needs) (c .before .before .mark-at .ensures .1)
-      (c .before .before .mark-at .ensures .0)
+    (arcs-positive (a .n) (a .edges .now) (s .pre .1 .ends) (a .closed .now)) _ (search needs) (c .before .before .mark-at .ensures .1)
+    (c .before .before .mark-at .ensures .0)
 
 same-length : tie.Need-same-length Inv-loop μ-loop
 same-length c = search needs

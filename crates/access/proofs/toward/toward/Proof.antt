@@ -21,9 +21,10 @@ mark-back-requires : tie.Need-mark-back-requires
 mark-back-requires c κs =
     let start = c .before .before .before .before .before .before .before .before in
     let a = start .args in
-    let s = c .before .before .before .search-wanted .ensures in
-    ((search needs, s .0 .1, search needs, stopped-ordered _ _ _ _ _ _ (s .0 .0), search needs),
-      roads-from (a .edges .now) (a .closed .now) (a .n) (a .work .now) _ (searchWords (a .n)) (omega arith) (s .1) (start .pre .1))
+    let s = c .before .before .before .search-wanted .ensures in (
+      (search needs, s .0 .1, search needs, stopped-ordered _ _ _ _ _ _ (s .0 .0), search needs),
+      roads-from (a .edges .now) (a .closed .now) (a .n) (a .work .now) _ (searchWords (a .n)) (omega arith) (s .1) (start .pre .1),
+    )
 
 same-length : tie.Need-same-length
 same-length c = search needs
@@ -34,9 +35,10 @@ returns c =
     let search-wanted = c .before .before .before .before .before .before .search-wanted in
     let a = start .args in
     let s = search-wanted .ensures in
-    let m = c .before .before .mark-back .ensures in
-    (toward-found (arcsIn (a .edges .now) (a .closed .now)) (a .n) (a .p) (search-wanted .result) (a .work .now) _ _ (s .0 .0) (s .1) (m .0),
-      rest-kept (a .n) (a .work .now) _ _ (omega (arith, start .pre .0 .1)) (s .1) (m .1))
+    let m = c .before .before .mark-back .ensures in (
+      toward-found (arcsIn (a .edges .now) (a .closed .now)) (a .n) (a .p) (search-wanted .result) (a .work .now) _ _ (s .0 .0) (s .1) (m .0),
+      rest-kept (a .n) (a .work .now) _ _ (omega (arith, start .pre .0 .1)) (s .1) (m .1),
+    )
 
 pub toward-spec : {M : Type 1} → statement M
 toward-spec = tie.close (tie.spec search-wanted-requires mark-back-requires same-length returns)

@@ -14,9 +14,11 @@ listed-requires : tie.Need-listed-requires
 listed-requires c κs =
     let s = c .before .before .before .before .before .before in
     let p = s .pre in
-    let a = s .args in
-    (search needs, link-in (a .edges .now) (a .closed .now) (a .n) (a .work .now) (a .u) (p .1) (p .0 .2) _ _ (c .before .before .block-size .ensures .0)
-      (c .before .first-link .ensures .0))
+    let a = s .args in (
+      search needs,
+      link-in (a .edges .now) (a .closed .now) (a .n) (a .work .now) (a .u) (p .1) (p .0 .2) _ _ (c .before .before .block-size .ensures .0)
+          (c .before .first-link .ensures .0),
+    )
 
 returns : tie.Need-returns
 returns c =
@@ -24,7 +26,7 @@ returns c =
     let p = s .pre in
     let a = s .args in
     first-listed (a .edges .now) (a .closed .now) (a .n) (a .work .now) (a .u) (p .1) (p .0 .2) _ _ (c .before .before .before .block-size .ensures .0)
-      (c .before .before .first-link .ensures .0) _ (c .before .if1 .taken) (c .listed .ensures)
+    (c .before .before .first-link .ensures .0) _ (c .before .if1 .taken) (c .listed .ensures)
 
 first-stop-requires : tie.Need-first-stop-requires
 first-stop-requires c κs = search needs
@@ -33,9 +35,14 @@ seek-requires : tie.Need-seek-requires
 seek-requires c κs =
     let s = c .before .before .before .before .before .before .before in
     let p = s .pre in
-    let a = s .args in
-    (p .0, (p .1, first-seeking (a .edges .now) (a .closed .now) (a .n) (a .work .now) (a .u) (p .1) (p .0 .2) _ _
-      (c .before .before .before .block-size .ensures .0) (c .before .before .first-link .ensures .0) _ (c .first-stop .ensures .0) (c .before .if1 .left)))
+    let a = s .args in (
+      p .0,
+      (
+        p .1,
+        first-seeking (a .edges .now) (a .closed .now) (a .n) (a .work .now) (a .u) (p .1) (p .0 .2) _ _
+            (c .before .before .before .block-size .ensures .0) (c .before .before .first-link .ensures .0) _ (c .first-stop .ensures .0) (c .before .if1 .left),
+      ),
+    )
 
 returns-2 : tie.Need-returns-2
 returns-2 c =
@@ -43,8 +50,8 @@ returns-2 c =
     let p = s .pre in
     let a = s .args in
     first-passing (a .edges .now) (a .closed .now) (a .n) (a .work .now) (a .u) (p .1) (p .0 .2) _ _
-      (c .before .before .before .before .block-size .ensures .0) (c .before .before .before .first-link .ensures .0) _ _ (c .before .first-stop .ensures .1)
-      (c .seek .ensures)
+    (c .before .before .before .before .block-size .ensures .0) (c .before .before .before .first-link .ensures .0) _ _ (c .before .first-stop .ensures .1)
+    (c .seek .ensures)
 
 pub first-edge-spec : {M : Type 1} → statement M
 first-edge-spec =

@@ -18,9 +18,11 @@ unfolding edgeCount
 within-block-requires c κs =
     let s = c .before .before .before .before in
     let p = s .pre in
-    let a = s .args in
-    (p .1 .0 .rising, subst (λ (z : Cursor). Seeking (a .edges .now) (a .n) (a .work .now) (a .u) z) (sym (c .block-at .ensures))
-      (seeking-block (a .edges .now) (a .closed .now) (a .n) (a .work .now) (a .u) (p .1 .0) (p .0 .2) (a .c) (p .1 .1 .0) (p .1 .1 .1) (p .1 .1 .2)))
+    let a = s .args in (
+      p .1 .0 .rising,
+      subst (λ (z : Cursor). Seeking (a .edges .now) (a .n) (a .work .now) (a .u) z) (sym (c .block-at .ensures))
+          (seeking-block (a .edges .now) (a .closed .now) (a .n) (a .work .now) (a .u) (p .1 .0) (p .0 .2) (a .c) (p .1 .1 .0) (p .1 .1 .1) (p .1 .1 .2)),
+    )
 
 returns : tie.Need-returns
 unfolding edgeCount
@@ -29,8 +31,8 @@ returns c =
     let p = s .pre in
     let a = s .args in
     since-next (a .edges .now) (a .closed .now) (a .n) (a .work .now) (a .u) (p .1 .0) (p .0 .2) (a .c) (p .1 .1 .0) (p .1 .1 .1) (p .1 .1 .2) _
-      (subst (λ (z : Cursor). Since (a .edges .now) (a .closed .now) (a .n) (a .work .now) (a .u) z (c .within-block .result)) (c .before .block-at .ensures)
-      (c .within-block .ensures))
+    (subst (λ (z : Cursor). Since (a .edges .now) (a .closed .now) (a .n) (a .work .now) (a .u) z (c .within-block .result)) (c .before .block-at .ensures)
+    (c .within-block .ensures))
 
 pub in-next-block-spec : {M : Type 1} → statement M
 in-next-block-spec = tie.close (tie.spec block-at-requires within-block-requires returns)

@@ -15,8 +15,8 @@ returns c =
     let p = s .pre in
     let a = s .args in
     stepped (a .edges .now) (a .closed .now) (a .n) (a .work .now) (a .u) (p .1 .0) (p .0 .2) (a .c) (p .1 .1 .0) (p .1 .1 .1) _
-      (sought-next (a .edges .now) (a .closed .now) (a .n) (a .work .now) (a .u) (p .1 .0) (p .0 .2) (a .c) (p .1 .1 .0) (p .1 .1 .1) _ (c .before .if1 .taken)
-      (c .listed .ensures))
+    (sought-next (a .edges .now) (a .closed .now) (a .n) (a .work .now) (a .u) (p .1 .0) (p .0 .2) (a .c) (p .1 .1 .0) (p .1 .1 .1) _ (c .before .if1 .taken)
+    (c .listed .ensures))
 
 add-t9 : tie.Need-add-t9
 unfolding edgeCount

@@ -17,9 +17,11 @@ unfolding edgeCount
 edge-second-requires c κs = omega (arith, c .before .before .before .before .pre .1)
 
 returns : tie.Need-returns
-returns c =
-    (λ e. absurd (false≢true e), λ e. none-here _ _ _ _ (λ z. c .before .before .if1 .taken (c .before .before .before .edge-first .ensures .0 ∙ z))
-      (λ z. c .if2 .taken (c .before .edge-second .ensures .0 ∙ z)))
+returns c = (
+  λ e. absurd (false≢true e),
+  λ e. none-here _ _ _ _ (λ z. c .before .before .if1 .taken (c .before .before .before .edge-first .ensures .0 ∙ z))
+      (λ z. c .if2 .taken (c .before .edge-second .ensures .0 ∙ z)),
+)
 
 is-open-requires : tie.Need-is-open-requires
 unfolding edgeCount
@@ -28,8 +30,8 @@ is-open-requires c κs = c .before .before .before .before .pre .0
 returns-2 : tie.Need-returns-2
 returns-2 c =
     by-closed _ _ _ _ _ (c .before .before .before .before .before .pre .1)
-      (⊎-elim (λ w. inr (sym (w .1 .ensures .0) ∙ w .2 .left)) (λ w. inl (sym (c .before .before .edge-first .ensures .0) ∙ w .left)) (c .before .if1 .came))
-      (c .is-open .ensures)
+    (⊎-elim (λ w. inr (sym (w .1 .ensures .0) ∙ w .2 .left)) (λ w. inl (sym (c .before .before .edge-first .ensures .0) ∙ w .left)) (c .before .if1 .came))
+    (c .is-open .ensures)
 
 pub open-at-spec : {M : Type 1} → statement M
 open-at-spec =

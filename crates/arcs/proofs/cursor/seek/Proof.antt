@@ -24,8 +24,8 @@ returns : tie.Need-returns Inv-loop μ-loop
 unfolding edgeCount
 returns c =
     sought-none _ _ _ _ _ (c .before .before .before .before .before .before .before .before .before .pre .0 .2) _ _
-      (since-then _ _ _ _ _ _ _ _ (c .before .before .before .before .before .within-block .ensures) (c .before .before .before .before .loop .inv))
-      (c .before .before .if1 .taken) (c .if2 .taken)
+    (since-then _ _ _ _ _ _ _ _ (c .before .before .before .before .before .within-block .ensures) (c .before .before .before .before .loop .inv))
+    (c .before .before .if1 .taken) (c .if2 .taken)
 
 in-next-block-requires : tie.Need-in-next-block-requires Inv-loop μ-loop
 in-next-block-requires c κs =
@@ -41,7 +41,7 @@ loop-again c = since-then _ _ _ _ _ _ _ _ (c .before .before .before .before .be
 returns-2 : tie.Need-returns-2 Inv-loop μ-loop
 returns-2 c =
     sought-found _ _ _ _ _ (c .before .before .before .before .before .before .before .pre .0 .2) _ _
-      (since-then _ _ _ _ _ _ _ _ (c .before .before .before .within-block .ensures) (c .before .before .loop .inv)) (c .if1 .left)
+    (since-then _ _ _ _ _ _ _ _ (c .before .before .before .within-block .ensures) (c .before .before .loop .inv)) (c .if1 .left)
 
 pub seek-spec : {M : Type 1} → statement M
 seek-spec =

@@ -33,9 +33,11 @@ returns-2 c =
     let s = c .before .before .before .before .before .before in
     let p = s .pre in
     let a = s .args in
-    let l : a .c .edge < edgeCount (a .edges .now) = omega (arith, c .before .before .before .before .if1 .left) in
-      (refl, found-arc (a .edges .now) (a .n) (a .u) (a .c) (p .0) l (p .1 l) _ _ _ _ (c .before .before .before .edge-first .ensures .0)
-      (c .before .before .edge-second .ensures .0) (c .before .other-end .ensures) (c .edge-seconds .ensures))
+    let l : a .c .edge < edgeCount (a .edges .now) = omega (arith, c .before .before .before .before .if1 .left) in (
+      refl,
+      found-arc (a .edges .now) (a .n) (a .u) (a .c) (p .0) l (p .1 l) _ _ _ _ (c .before .before .before .edge-first .ensures .0)
+          (c .before .before .edge-second .ensures .0) (c .before .other-end .ensures) (c .edge-seconds .ensures),
+    )
 
 pub arc-at-spec : {M : Type 1} → statement M
 arc-at-spec =

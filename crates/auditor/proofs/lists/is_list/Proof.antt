@@ -56,16 +56,16 @@ same-list-requires c κs =
     let set-words = c .before .before .before .before .before .set-words in
     let a = s .args in
     list-asked (a .n) (a .work .now) (search needs) (search needs) _ (set-is (a .n) transit _ _ (a .work .now) (c .before .before .before .region-at2 .ensures)
-      (set-words .ensures)) _ (set-is (a .n) own _ _ (a .work .now) (c .before .before .before .before .region-at .ensures) (set-words .ensures))
-      (search needs) (s .pre .2)
+    (set-words .ensures)) _ (set-is (a .n) own _ _ (a .work .now) (c .before .before .before .before .region-at .ensures) (set-words .ensures))
+    (search needs) (s .pre .2)
 
 returns : tie.Need-returns
 returns c =
     let set-words = c .before .before .before .before .before .before .set-words in
     let a = c .before .before .before .before .before .before .before .before .before .args in
     c .same-list .ensures ∙ list-shown (a .n) (a .work .now) (search needs) (search needs) _
-      (set-is (a .n) transit _ _ (a .work .now) (c .before .before .before .before .region-at2 .ensures) (set-words .ensures)) _
-      (set-is (a .n) own _ _ (a .work .now) (c .before .before .before .before .before .region-at .ensures) (set-words .ensures)) (a .b .now)
+    (set-is (a .n) transit _ _ (a .work .now) (c .before .before .before .before .region-at2 .ensures) (set-words .ensures)) _
+    (set-is (a .n) own _ _ (a .work .now) (c .before .before .before .before .before .region-at .ensures) (set-words .ensures)) (a .b .now)
 
 pub is-list-spec : {M : Type 1} → statement M
 is-list-spec =

@@ -18,9 +18,18 @@ same-from-requires : tie.Need-same-from-requires
 same-from-requires c κs =
     let s = c .before .before .before .before .before .before .before .before in
     let a = s .args in
-    let p = s .pre in
-    ((p .0 .2, p .0 .4, p .0 .5, among (a .nodes .now) (a .edges .now) (a .closed .now) (a .grid) (a .n) (p .0 .1) (a .work .now) (a .u) (p .0 .3) (p .1 .0 .0)
-      (p .1 .0 .1), listed (a .n) (a .access .now) (p .0 .6) (a .v) (p .0 .4), p .1 .1 .0), p .1 .1 .1)
+    let p = s .pre in (
+      (
+        p .0 .2,
+        p .0 .4,
+        p .0 .5,
+        among (a .nodes .now) (a .edges .now) (a .closed .now) (a .grid) (a .n) (p .0 .1) (a .work .now) (a .u) (p .0 .3) (p .1 .0 .0)
+            (p .1 .0 .1),
+        listed (a .n) (a .access .now) (p .0 .6) (a .v) (p .0 .4),
+        p .1 .1 .0,
+      ),
+      p .1 .1 .1,
+    )
 
 same-length : tie.Need-same-length
 same-length c = search needs
@@ -29,10 +38,12 @@ returns-2 : tie.Need-returns-2
 returns-2 c =
     let s = c .before .before .before .before .before .before .before .before .before .before .before in
     let a = s .args in
-    let p = s .pre in
-    (c .before .before .same-from .ensures .0 ∙ this-cell (a .nodes .now) (a .edges .now) (a .closed .now) (a .grid) (a .access .now) (a .u) (a .n) (p .0 .1)
-      (a .work .now) (p .1 .0 .0) (p .1 .0 .1) (a .v) (sym (c .before .before .before .before .before .beside .ensures _ _ (p .0 .7)) ∙ not-false _
-      (c .before .before .before .before .if1 .left)), c .before .before .same-from .ensures .1)
+    let p = s .pre in (
+      c .before .before .same-from .ensures .0 ∙ this-cell (a .nodes .now) (a .edges .now) (a .closed .now) (a .grid) (a .access .now) (a .u) (a .n) (p .0 .1)
+          (a .work .now) (p .1 .0 .0) (p .1 .0 .1) (a .v) (sym (c .before .before .before .before .before .beside .ensures _ _ (p .0 .7)) ∙ not-false _
+          (c .before .before .before .before .if1 .left)),
+      c .before .before .same-from .ensures .1,
+    )
 
 pub same-beside-spec : {M : Type 1} → statement M
 same-beside-spec =

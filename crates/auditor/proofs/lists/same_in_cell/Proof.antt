@@ -31,12 +31,28 @@ same-beside-requires c κs =
     let s = c .before .before .before .before .before .before .before .before .before in
     let a = s .args in
     let p = s .pre in
-    let l = c .before .before .loop in
-    ((p .0 .0, p .0 .1, p .0 .2, p .0 .3, c .before .loop-test .taken, omega (arith, l .inv .0 .size), p .0 .5,
-      c .before .before .before .cell-square .ensures), ((rw (transit-behind (a .n) (a .work .now) (l .work) (l .inv .0 .behind)) (p .1 .0 .0),
-      rw (own-behind (a .n) (a .work .now) (l .work) (l .inv .0 .behind)) (p .1 .0 .1)),
-      (sought-later (a .n) (a .left) (a .work .now) (p .1 .1 .0) (l .work) (l .inv .0 .behind),
-      roads-behind (a .n) (a .work .now) (l .work) (l .inv .0 .behind) (a .edges .now) (a .closed .now) (p .1 .1 .1))))
+    let l = c .before .before .loop in (
+      (
+        p .0 .0,
+        p .0 .1,
+        p .0 .2,
+        p .0 .3,
+        c .before .loop-test .taken,
+        omega (arith, l .inv .0 .size),
+        p .0 .5,
+        c .before .before .before .cell-square .ensures,
+      ),
+      (
+        (
+          rw (transit-behind (a .n) (a .work .now) (l .work) (l .inv .0 .behind)) (p .1 .0 .0),
+          rw (own-behind (a .n) (a .work .now) (l .work) (l .inv .0 .behind)) (p .1 .0 .1),
+        ),
+        (
+          sought-later (a .n) (a .left) (a .work .now) (p .1 .1 .0) (l .work) (l .inv .0 .behind),
+          roads-behind (a .n) (a .work .now) (l .work) (l .inv .0 .behind) (a .edges .now) (a .closed .now) (p .1 .1 .1),
+        ),
+      ),
+    )
 
 same-length : tie.Need-same-length Inv-loop μ-loop
 same-length c = omega (arith, c .before .before .before .before .before .before .loop .inv .0 .size)
@@ -44,9 +60,11 @@ same-length c = omega (arith, c .before .before .before .before .before .before 
 returns : tie.Need-returns Inv-loop μ-loop
 returns c =
     let same-beside = c .before .before .before .same-beside in
-    let l = c .before .before .before .before .before .before .loop in
-    (sym (left-fails _ _ _ (l .inv .1) (c .before .before .before .before .before .loop-test .taken)
-      (sym (same-beside .ensures .0) ∙ not-true _ (c .if1 .taken))), same-beside .ensures .1 ∙ l .inv .0 .behind)
+    let l = c .before .before .before .before .before .before .loop in (
+      sym (left-fails _ _ _ (l .inv .1) (c .before .before .before .before .before .loop-test .taken)
+          (sym (same-beside .ensures .0) ∙ not-true _ (c .if1 .taken))),
+      same-beside .ensures .1 ∙ l .inv .0 .behind,
+    )
 
 add-v : tie.Need-add-v Inv-loop μ-loop
 add-v c = search needs
@@ -57,9 +75,10 @@ loop-less c = search needs
 loop-again : tie.Need-loop-again Inv-loop μ-loop
 loop-again c =
     let same-beside = c .before .before .before .same-beside in
-    let l = c .before .before .before .before .before .before .loop in
-    (kept-then _ _ _ _ (l .inv .0) (search needs) (same-beside .ensures .1),
-      left-goes _ _ _ (l .inv .1) (c .before .before .before .before .before .loop-test .taken) (sym (same-beside .ensures .0) ∙ not-false _ (c .if1 .left)))
+    let l = c .before .before .before .before .before .before .loop in (
+      kept-then _ _ _ _ (l .inv .0) (search needs) (same-beside .ensures .1),
+      left-goes _ _ _ (l .inv .1) (c .before .before .before .before .before .loop-test .taken) (sym (same-beside .ensures .0) ∙ not-false _ (c .if1 .left)),
+    )
 
 same-length-2 : tie.Need-same-length-2 Inv-loop μ-loop
 same-length-2 c = c .before .loop .inv .0 .size

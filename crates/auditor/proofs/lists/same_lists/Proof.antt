@@ -19,7 +19,7 @@ use Rattle.index.proofs.Laid.{roads-from}
 abbrev Inv-loop : tie.InvT-loop
 Inv-loop nodes edges closed grid access n work₀ u₀ work u =
     (length work ≡ length work₀) × (KeptFrom (regionAt n transit) work₀ work) ×
-      (all (sameOfCell nodes edges closed grid access) (upTo n) ≡ all (sameOfCell nodes edges closed grid access) (rest u n))
+    (all (sameOfCell nodes edges closed grid access) (upTo n) ≡ all (sameOfCell nodes edges closed grid access) (rest u n))
 
 abbrev μ-loop : tie.MeasureT-loop
 μ-loop nodes edges closed grid access n work₀ u₀ work u = n - u
@@ -32,10 +32,13 @@ same-of-cell-requires c κs =
     let s = c .before .before .before .before .before .before .before .before in
     let a = s .args in
     let p = s .pre in
-    let l = c .before .before .loop in
-    ((p .0 .0, p .0 .1, p .0 .2, c .before .loop-test .taken, omega (arith, l .inv .0), p .0 .4),
-      (transit-kept (a .n) (a .work .now) (l .work) (l .inv .1) ∙ p .1 .0,
-      roads-from (a .edges .now) (a .closed .now) (a .n) (a .work .now) (l .work) (regionAt (a .n) transit) (omega arith) (l .inv .1) (p .1 .1)))
+    let l = c .before .before .loop in (
+      (p .0 .0, p .0 .1, p .0 .2, c .before .loop-test .taken, omega (arith, l .inv .0), p .0 .4),
+      (
+        transit-kept (a .n) (a .work .now) (l .work) (l .inv .1) ∙ p .1 .0,
+        roads-from (a .edges .now) (a .closed .now) (a .n) (a .work .now) (l .work) (regionAt (a .n) transit) (omega arith) (l .inv .1) (p .1 .1),
+      ),
+    )
 
 same-length : tie.Need-same-length Inv-loop μ-loop
 same-length c = omega (arith, c .before .before .before .before .before .before .loop .inv .0)
@@ -45,10 +48,11 @@ returns c =
     let s = c .before .before .before .before .before .before .before .before .before .before .before .before in
     let same-of-cell = c .before .before .before .same-of-cell in
     let l = c .before .before .before .before .before .before .loop in
-    let a = s .args in
-    (sym (sym (by-cells-to (a .nodes .now) (a .edges .now) (a .closed .now) (a .grid) (a .access .now) (a .n) (s .pre .0 .1)) ∙ left-fails _ _ _ (l .inv .2)
-      (c .before .before .before .before .before .loop-test .taken) (sym (same-of-cell .ensures .0) ∙ not-true _ (c .if1 .taken))),
-      same-of-cell .ensures .1 ∙ l .inv .1)
+    let a = s .args in (
+      sym (sym (by-cells-to (a .nodes .now) (a .edges .now) (a .closed .now) (a .grid) (a .access .now) (a .n) (s .pre .0 .1)) ∙ left-fails _ _ _ (l .inv .2)
+          (c .before .before .before .before .before .loop-test .taken) (sym (same-of-cell .ensures .0) ∙ not-true _ (c .if1 .taken))),
+      same-of-cell .ensures .1 ∙ l .inv .1,
+    )
 
 add-u : tie.Need-add-u Inv-loop μ-loop
 add-u c = search needs
@@ -59,9 +63,12 @@ loop-less c = search needs
 loop-again : tie.Need-loop-again Inv-loop μ-loop
 loop-again c =
     let same-of-cell = c .before .before .before .same-of-cell in
-    let l = c .before .before .before .before .before .before .loop in
-    (omega (arith, l .inv .0), same-of-cell .ensures .1 ∙ l .inv .1, left-goes _ _ _ (l .inv .2) (c .before .before .before .before .before .loop-test .taken)
-      (sym (same-of-cell .ensures .0) ∙ not-false _ (c .if1 .left)))
+    let l = c .before .before .before .before .before .before .loop in (
+      omega (arith, l .inv .0),
+      same-of-cell .ensures .1 ∙ l .inv .1,
+      left-goes _ _ _ (l .inv .2) (c .before .before .before .before .before .loop-test .taken)
+          (sym (same-of-cell .ensures .0) ∙ not-false _ (c .if1 .left)),
+    )
 
 same-length-2 : tie.Need-same-length-2 Inv-loop μ-loop
 same-length-2 c = c .before .loop .inv .0
@@ -70,9 +77,11 @@ returns-2 : tie.Need-returns-2 Inv-loop μ-loop
 returns-2 c =
     let s = c .before .before .before .before .before .before .before in
     let l = c .before .loop in
-    let a = s .args in
-    (sym (sym (by-cells-to (a .nodes .now) (a .edges .now) (a .closed .now) (a .grid) (a .access .now) (a .n) (s .pre .0 .1)) ∙ left-none _ _ _ (l .inv .2)
-      (c .loop-test .left)), l .inv .1)
+    let a = s .args in (
+      sym (sym (by-cells-to (a .nodes .now) (a .edges .now) (a .closed .now) (a .grid) (a .access .now) (a .n) (s .pre .0 .1)) ∙ left-none _ _ _ (l .inv .2)
+          (c .loop-test .left)),
+      l .inv .1,
+    )
 
 pub same-lists-spec : {M : Type 1} → statement M
 same-lists-spec =

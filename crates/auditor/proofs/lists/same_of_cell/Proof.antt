@@ -24,10 +24,20 @@ same-in-cell-requires c κs =
     let s = c .before .before .before .before .before .before .before .before .before .before .before .before in
     let own-wanted = c .before .before .before .own-wanted in
     let a = s .args in
-    let p = s .pre in
-    ((p .0 .0, p .0 .1, p .0 .2, p .0 .3, omega arith, p .0 .5), ((transit-kept (a .n) (a .work .now) _ (own-wanted .ensures .1 .1) ∙ p .1 .0,
-      own-wanted .ensures .0), (own-wanted .ensures .1 .0, roads-from (a .edges .now) (a .closed .now) (a .n) (a .work .now) _ (regionAt (a .n) transit)
-      (omega arith) (own-wanted .ensures .1 .1) (p .1 .1))))
+    let p = s .pre in (
+      (p .0 .0, p .0 .1, p .0 .2, p .0 .3, omega arith, p .0 .5),
+      (
+        (
+          transit-kept (a .n) (a .work .now) _ (own-wanted .ensures .1 .1) ∙ p .1 .0,
+          own-wanted .ensures .0,
+        ),
+        (
+          own-wanted .ensures .1 .0,
+          roads-from (a .edges .now) (a .closed .now) (a .n) (a .work .now) _ (regionAt (a .n) transit)
+              (omega arith) (own-wanted .ensures .1 .1) (p .1 .1),
+        ),
+      ),
+    )
 
 same-length : tie.Need-same-length
 same-length c = search needs
@@ -35,12 +45,13 @@ same-length c = search needs
 returns-2 : tie.Need-returns-2
 returns-2 c =
     let s = c .before .before .before .before .before .before .before .before .before .before .before .before .before .before .before in
-    let a = s .args in
-    (c .before .before .same-in-cell .ensures .0 ∙ first-node (a .nodes .now) (a .edges .now) (a .closed .now) (a .grid) (a .access .now) (a .u) (a .n)
-      (s .pre .0 .1) (sym (c .before .before .before .before .before .before .before .before .before .first-of-cell .ensures) ∙ not-false _
-      (c .before .before .before .before .before .before .before .before .if1 .left)),
+    let a = s .args in (
+      c .before .before .same-in-cell .ensures .0 ∙ first-node (a .nodes .now) (a .edges .now) (a .closed .now) (a .grid) (a .access .now) (a .u) (a .n)
+          (s .pre .0 .1) (sym (c .before .before .before .before .before .before .before .before .before .first-of-cell .ensures) ∙ not-false _
+          (c .before .before .before .before .before .before .before .before .if1 .left)),
       kept-more (searchWords (a .n)) (regionAt (a .n) transit) _ _ (omega arith) (c .before .before .same-in-cell .ensures .1) ∙
-      c .before .before .before .before .before .before .own-wanted .ensures .1 .1)
+          c .before .before .before .before .before .before .own-wanted .ensures .1 .1,
+    )
 
 pub same-of-cell-spec : {M : Type 1} → statement M
 same-of-cell-spec =

@@ -34,17 +34,18 @@ slice-aggregate-same-row c = let a = c .before .before .before .before .before .
 
 same-row-requires : tie.Need-same-row-requires
 same-row-requires c κs =
-    let a = c .before .before .before .before .before .before .args in
-    (has-transit (a .n) (a .work .now) (search needs) (search needs) _
-      (set-is (a .n) transit _ _ (a .work .now) (c .before .before .before .region-at .ensures) (c .before .before .set-words .ensures)),
-      has-times (a .n) (a .work .now) (search needs))
+    let a = c .before .before .before .before .before .before .args in (
+      has-transit (a .n) (a .work .now) (search needs) (search needs) _
+          (set-is (a .n) transit _ _ (a .work .now) (c .before .before .before .region-at .ensures) (c .before .before .set-words .ensures)),
+      has-times (a .n) (a .work .now) (search needs),
+    )
 
 returns : tie.Need-returns
 returns c =
     let a = c .before .before .before .before .before .before .before .args in
     c .same-row .ensures ∙ row-shown (a .n) (a .work .now) (search needs) (search needs) _
-      (set-is (a .n) transit _ _ (a .work .now) (c .before .before .before .before .region-at .ensures) (c .before .before .before .set-words .ensures))
-      (a .b .now)
+    (set-is (a .n) transit _ _ (a .work .now) (c .before .before .before .before .region-at .ensures) (c .before .before .before .set-words .ensures))
+    (a .b .now)
 
 pub is-row-spec : {M : Type 1} → statement M
 is-row-spec =

@@ -35,11 +35,13 @@ same-length-2 c = search needs
 returns-2 : tie.Need-returns-2
 returns-2 c =
     let search-front = c .before .before .before .before .search-front in
-    let a = c .before .before .before .before .before .before .before .before .before .before .before .before .before .args in
-    (c .row-at .ensures ∙ (ap (λ (r : Bytes). compared (a .table .now) (a .at) r)
-      (row-behind (a .n) (a .work .now) _ (search-front .ensures .1) _ (a .v) _ (search-front .ensures .0 .0)) ∙ row-in (a .n) (a .v) (a .work .now)
-      (search needs) (a .table .now) (a .at) _ (sym (c .before .before .before .before .before .before .before .has .ensures) ∙ not-false _
-      (c .before .before .before .before .before .before .if1 .left))), search-front .ensures .1)
+    let a = c .before .before .before .before .before .before .before .before .before .before .before .before .before .args in (
+      c .row-at .ensures ∙ (ap (λ (r : Bytes). compared (a .table .now) (a .at) r)
+          (row-behind (a .n) (a .work .now) _ (search-front .ensures .1) _ (a .v) _ (search-front .ensures .0 .0)) ∙ row-in (a .n) (a .v) (a .work .now)
+          (search needs) (a .table .now) (a .at) _ (sym (c .before .before .before .before .before .before .before .has .ensures) ∙ not-false _
+          (c .before .before .before .before .before .before .if1 .left))),
+      search-front .ensures .1,
+    )
 
 pub same-from-spec : {M : Type 1} → statement M
 same-from-spec =

@@ -23,9 +23,16 @@ same-from-requires c κs =
     let s = c .before .before .before .before .before .before .before in
     let p = s .pre in
     let a = s .args in
-    let l = c .before .before .loop in
-    ((search needs, search needs, omega (arith, l .inv .kept .size), size-behind (a .n) (a .work .now) (l .work) (l .inv .kept .behind) (a .size) (p .0 .2),
-      l .inv .left .within), roads-behind (a .n) (a .work .now) (l .work) (l .inv .kept .behind) (a .edges .now) (a .closed .now) (p .1))
+    let l = c .before .before .loop in (
+      (
+        search needs,
+        search needs,
+        omega (arith, l .inv .kept .size),
+        size-behind (a .n) (a .work .now) (l .work) (l .inv .kept .behind) (a .size) (p .0 .2),
+        l .inv .left .within,
+      ),
+      roads-behind (a .n) (a .work .now) (l .work) (l .inv .kept .behind) (a .edges .now) (a .closed .now) (p .1),
+    )
 
 enum-known-next : tie.Need-enum-known-next Inv-loop μ-loop
 enum-known-next c = search needs
@@ -39,9 +46,11 @@ same-length c = omega (arith, c .before .before .before .before .before .before 
 returns : tie.Need-returns Inv-loop μ-loop
 returns c =
     let same-from = c .before .before .before .before .same-from in
-    let l = c .before .before .before .before .before .before .before .loop in
-    (sym (rows-differ _ _ _ _ _ _ _ (l .inv) (c .before .before .before .before .before .before .loop-test .taken) _ (same-from .ensures .0)
-      (c .enum-told .given .1)), same-from .ensures .1 ∙ l .inv .kept .behind)
+    let l = c .before .before .before .before .before .before .before .loop in (
+      sym (rows-differ _ _ _ _ _ _ _ (l .inv) (c .before .before .before .before .before .before .loop-test .taken) _ (same-from .ensures .0)
+          (c .enum-told .given .1)),
+      same-from .ensures .1 ∙ l .inv .kept .behind,
+    )
 
 add-v : tie.Need-add-v Inv-loop μ-loop
 add-v c = search needs
@@ -54,7 +63,7 @@ loop-again c =
     let same-from = c .before .before .before .before .before .same-from in
     let l = c .before .before .before .before .before .before .before .before .loop in
     rows-next _ _ _ _ _ _ _ (l .inv) (c .before .before .before .before .before .before .before .loop-test .taken) _ (same-from .ensures .0) _
-      (c .before .next .given .1) _ (search needs) (same-from .ensures .1)
+    (c .before .next .given .1) _ (search needs) (same-from .ensures .1)
 
 same-length-2 : tie.Need-same-length-2 Inv-loop μ-loop
 same-length-2 c = c .before .loop .inv .kept .size

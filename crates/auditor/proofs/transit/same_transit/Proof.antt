@@ -35,7 +35,7 @@ returns : tie.Need-returns
 returns c =
     let a = c .before .before .before .before .before .before .args in
     c .same-numbers .ensures ∙ numbers-shown (a .n) (a .work .now) (search needs) (search needs) _
-      (set-is (a .n) transit _ _ (a .work .now) (c .before .before .before .region-at .ensures) (c .before .before .set-words .ensures)) (a .b .now)
+    (set-is (a .n) transit _ _ (a .work .now) (c .before .before .before .region-at .ensures) (c .before .before .set-words .ensures)) (a .b .now)
 
 pub same-transit-spec : {M : Type 1} → statement M
 same-transit-spec =

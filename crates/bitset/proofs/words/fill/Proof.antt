@@ -33,7 +33,7 @@ loop-less c = search needs
 
 again : (c : tie.In-loop Inv-loop μ-loop)
     → set (c .before .loop .s) (c .before .loop .i) (c .before .before .args .x) ≡ replicate (c .before .loop .i + 1) (c .before .before .args .x) ++ drop
-        (c .before .loop .i + 1) (c .before .before .args .s .now)
+    (c .before .loop .i + 1) (c .before .before .args .s .now)
 again c =
     let h : c .before .loop .i < length (c .before .before .args .s .now) = omega arith in
     rw (c .before .loop .inv .3) (fill-more _ _ _ h)

@@ -51,7 +51,7 @@ returns-2 c =
     let made = c .block-record2 in
     let k = stays _ _ _ (opened .0) (rows .kept .1 .1 .1 .0) (rows .ensures .1) in
     block-given _ _ _ _ _ (block-refusal .ensures) (made .result) _ _ (if1 .left) (made .ensures .0) (made .ensures .1 ∙ rows .ensures .0)
-      (k .rest ∙ opened .1) (zero-words .ensures)
+    (k .rest ∙ opened .1) (zero-words .ensures)
 
 pub block-spec : {M : Type 1} → statement M
 block-spec =

@@ -38,7 +38,7 @@ returns-3 c =
     let names-broken = c .before .before .before .names-broken in
     let if2 = c .before .before .if2 in
     decides _ _ (named-lists-refusal .ensures) (named-counted _ _) (if1 .left) 17
-      (second-part (sym (names-broken .ensures) ∙ if2 .left) (c .before .names-broken2 .ensures)) (c .number-if .ensures)
+    (second-part (sym (names-broken .ensures) ∙ if2 .left) (c .before .names-broken2 .ensures)) (c .number-if .ensures)
 
 pub sides-refusal-spec : {M : Type 1} → statement M
 sides-refusal-spec =

@@ -16,9 +16,11 @@ returns : tie.Need-returns
 returns c =
     let s = c .before .before .before .before .before .before .before in
     let p = s .pre in
-    let a = s .args in
-    (opened-refused (a .o .now) (a .starts .now) (a .ends .now) (a .work .now) (p) _ (c .before .before .sides-refusal .ensures) (c .block-record .result)
-      (c .before .if1 .taken) (c .block-record .ensures .0) (c .block-record .ensures .1), (p, refl))
+    let a = s .args in (
+      opened-refused (a .o .now) (a .starts .now) (a .ends .now) (a .work .now) (p) _ (c .before .before .sides-refusal .ensures) (c .block-record .result)
+          (c .before .if1 .taken) (c .block-record .ensures .0) (c .block-record .ensures .1),
+      (p, refl),
+    )
 
 times-between-requires : tie.Need-times-between-requires
 times-between-requires c κs =
@@ -40,10 +42,12 @@ returns-2 c =
     let p = s .pre in
     let times-between = c .before .before .before .times-between in
     let a = s .args in
-    let k = stays (a .o .now) (a .work .now) _ (p) (times-between .kept .1 .1 .1 .0) (times-between .ensures .1) in
-    (opened-given (a .o .now) (a .starts .now) (a .ends .now) (a .work .now) (p) _ (c .before .before .before .before .before .before .sides-refusal .ensures)
-      (c .block-record2 .result) (c .before .before .before .before .before .if1 .left) (c .block-record2 .ensures .0)
-      (c .block-record2 .ensures .1 ∙ times-between .ensures .0), (k .opened, k .rest))
+    let k = stays (a .o .now) (a .work .now) _ (p) (times-between .kept .1 .1 .1 .0) (times-between .ensures .1) in (
+      opened-given (a .o .now) (a .starts .now) (a .ends .now) (a .work .now) (p) _ (c .before .before .before .before .before .before .sides-refusal .ensures)
+          (c .block-record2 .result) (c .before .before .before .before .before .if1 .left) (c .block-record2 .ensures .0)
+          (c .block-record2 .ensures .1 ∙ times-between .ensures .0),
+      (k .opened, k .rest),
+    )
 
 pub block-spec : {M : Type 1} → statement M
 block-spec =

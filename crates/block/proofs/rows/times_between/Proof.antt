@@ -19,7 +19,7 @@ use Rattle.words.specs.Regions.{gridAt}
 abbrev Inv-loop : tie.InvT-loop
 Inv-loop o starts ends work₀ grid times₀ i₀ work times i =
     (i ≤ length starts) × (times ≡ blockOf o (take i starts) ends) × (length work ≡ length work₀) ×
-      (KeptFrom (gridAt (nodeCount (nodeBody o))) work₀ work)
+    (KeptFrom (gridAt (nodeCount (nodeBody o))) work₀ work)
 
 abbrev μ-loop : tie.MeasureT-loop
 μ-loop o starts ends work₀ grid times₀ i₀ work times i = length starts - i
@@ -33,9 +33,10 @@ loop-holds c = let a = c .before .before .before .before .before .before .args i
 with-start-requires : tie.Need-with-start-requires Inv-loop μ-loop
 with-start-requires c κs =
     let p = c .before .before .before .before .before .before .before .before .before .pre in
-    let l = c .before .before .loop in
-    ((opened-kept _ _ _ (p .0 .0) (l .inv .2) (l .inv .3), c .before .before .before .opened-grid .ensures, p .0 .1, p .0 .2),
-      (p .1 .0, p .1 .1, c .before .loop-test .taken, l .inv .1))
+    let l = c .before .before .loop in (
+      (opened-kept _ _ _ (p .0 .0) (l .inv .2) (l .inv .3), c .before .before .before .opened-grid .ensures, p .0 .1, p .0 .2),
+      (p .1 .0, p .1 .1, c .before .loop-test .taken, l .inv .1),
+    )
 
 add-i : tie.Need-add-i Inv-loop μ-loop
 add-i c = search needs

@@ -59,8 +59,7 @@ loop-again c =
     let start = c .before .before .before .before .before .before .before in
     let a = start .args in
     let p = start .pre in
-    let l = c .before .before .before .loop in
-    (
+    let l = c .before .before .before .loop in (
       omega arith,
       l .inv .1,
       rw (l .inv .2, c .square .ensures)

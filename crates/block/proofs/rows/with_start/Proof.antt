@@ -21,11 +21,13 @@ returns : tie.Need-returns
 returns c =
     let s = c .before .before .before .before .before .before .before in
     let a = s .args in
-    let p = s .pre in
-    (c .with-row-again .ensures ∙ rw (p .1 .3) (ap (set (blockOf (a .o .now) (take (a .i) (a .starts .now)) (a .ends .now)) (a .i))
-      (row-before (a .o .now) (a .starts .now) (a .ends .now) (a .i) (p .1 .2) (c .before .before .first-named .result) (c .before .if1 .taken) ∙
-      ap (rowOf (a .o .now) (a .ends .now)) (c .before .before .first-named .ensures .1)) ∙ block-more (a .o .now) (a .starts .now) (a .ends .now) (a .i)
-      (p .1 .2) (omega (arith, p .1 .0))), refl)
+    let p = s .pre in (
+      c .with-row-again .ensures ∙ rw (p .1 .3) (ap (set (blockOf (a .o .now) (take (a .i) (a .starts .now)) (a .ends .now)) (a .i))
+          (row-before (a .o .now) (a .starts .now) (a .ends .now) (a .i) (p .1 .2) (c .before .before .first-named .result) (c .before .if1 .taken) ∙
+          ap (rowOf (a .o .now) (a .ends .now)) (c .before .before .first-named .ensures .1)) ∙ block-more (a .o .now) (a .starts .now) (a .ends .now) (a .i)
+          (p .1 .2) (omega (arith, p .1 .0))),
+      refl,
+    )
 
 mul-with-row : tie.Need-mul-with-row
 mul-with-row c = search needs
@@ -40,10 +42,14 @@ with-row-requires : tie.Need-with-row-requires
 with-row-requires c κs =
     let s = c .before .before .before .before .before .before .before .before in
     let a = s .args in
-    let p = s .pre in
-    ((p .0 .0, p .0 .1, named-there _ _ _ (p .1 .2) (p .0 .2), p .0 .3, p .1 .1),
-      (omega (arith, p .1 .0), ap (λ (l : List (List ℕ)). getD l (a .i) []) (p .1 .3) ∙ row-unused (a .o .now) (a .starts .now) (a .ends .now) (a .i) (p .1 .2)
-      (omega (arith, p .1 .0))))
+    let p = s .pre in (
+      (p .0 .0, p .0 .1, named-there _ _ _ (p .1 .2) (p .0 .2), p .0 .3, p .1 .1),
+      (
+        omega (arith, p .1 .0),
+        ap (λ (l : List (List ℕ)). getD l (a .i) []) (p .1 .3) ∙ row-unused (a .o .now) (a .starts .now) (a .ends .now) (a .i) (p .1 .2)
+            (omega (arith, p .1 .0)),
+      ),
+    )
 
 same-length : tie.Need-same-length
 same-length c = search needs
@@ -52,9 +58,10 @@ returns-2 : tie.Need-returns-2
 returns-2 c =
     let s = c .before .before .before .before .before .before .before .before .before .before .before in
     let a = s .args in
-    let p = s .pre in
-    (c .before .before .with-row .ensures .0 ∙ rw (p .1 .3) (block-more (a .o .now) (a .starts .now) (a .ends .now) (a .i) (p .1 .2) (omega (arith, p .1 .0))),
-      c .before .before .with-row .ensures .1)
+    let p = s .pre in (
+      c .before .before .with-row .ensures .0 ∙ rw (p .1 .3) (block-more (a .o .now) (a .starts .now) (a .ends .now) (a .i) (p .1 .2) (omega (arith, p .1 .0))),
+      c .before .before .with-row .ensures .1,
+    )
 
 pub with-start-spec : {M : Type 1} → statement M
 with-start-spec =

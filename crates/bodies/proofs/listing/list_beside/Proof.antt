@@ -15,7 +15,7 @@ put-list-requires c κs =
     let p = s .pre in
     let a = s .args in
     list-room (a .nodes .now) (a .edges .now) (a .closed .now) (a .grid) (a .n) (a .work .now) (p .0 .0) (a .u) (a .v) (p .0 .1) (p .0 .2) (p .1 .0 .0)
-      (a .body .now) (p .1 .1) (sym (c .before .before .before .beside .ensures _ _ (p .0 .3)) ∙ c .before .before .if1 .taken) (a .left) (p .1 .0 .1)
+    (a .body .now) (p .1 .1) (sym (c .before .before .before .beside .ensures _ _ (p .0 .3)) ∙ c .before .before .if1 .taken) (a .left) (p .1 .0 .1)
 
 same-length : tie.Need-same-length
 same-length c = search needs
@@ -28,18 +28,22 @@ returns c =
     let s = c .before .before .before .before .before .before .before .before .before .before .before .before .before .before in
     let p = s .pre in
     let put-list = c .before .before .before .before .put-list in
-    let a = s .args in
-    (list-done (a .nodes .now) (a .edges .now) (a .closed .now) (a .grid) (a .n) (a .work .now) (p .0 .0) (a .u) (a .v) (p .0 .1) (p .0 .2) (p .1 .0 .0)
-      (a .body .now) (p .1 .1) (sym (c .before .before .before .before .before .before .before .before .beside .ensures _ _ (p .0 .3)) ∙
-      c .before .before .before .before .before .before .before .if1 .taken) _ (put-list .ensures .0), put-list .ensures .1)
+    let a = s .args in (
+      list-done (a .nodes .now) (a .edges .now) (a .closed .now) (a .grid) (a .n) (a .work .now) (p .0 .0) (a .u) (a .v) (p .0 .1) (p .0 .2) (p .1 .0 .0)
+          (a .body .now) (p .1 .1) (sym (c .before .before .before .before .before .before .before .before .beside .ensures _ _ (p .0 .3)) ∙
+          c .before .before .before .before .before .before .before .if1 .taken) _ (put-list .ensures .0),
+      put-list .ensures .1,
+    )
 
 returns-2 : tie.Need-returns-2
 returns-2 c =
     let s = c .before .before .before .before .before .before .before in
     let p = s .pre in
-    let a = s .args in
-    (list-other (a .nodes .now) (a .edges .now) (a .closed .now) (a .grid) (a .n) (a .work .now) (p .0 .0) (a .u) (a .v) (p .0 .1) (p .0 .2) (p .1 .0 .0)
-      (a .body .now) (p .1 .1) (sym (c .before .beside .ensures _ _ (p .0 .3)) ∙ c .if1 .left), refl)
+    let a = s .args in (
+      list-other (a .nodes .now) (a .edges .now) (a .closed .now) (a .grid) (a .n) (a .work .now) (p .0 .0) (a .u) (a .v) (p .0 .1) (p .0 .2) (p .1 .0 .0)
+          (a .body .now) (p .1 .1) (sym (c .before .beside .ensures _ _ (p .0 .3)) ∙ c .if1 .left),
+      refl,
+    )
 
 pub list-beside-spec : {M : Type 1} → statement M
 list-beside-spec =

@@ -34,9 +34,11 @@ loop-holds c =
     let p = s .pre in
     let a = s .args in
     let o = c .before .before .before .own-wanted .ensures in
-    let b = based-still (a .nodes .now) (a .edges .now) (a .closed .now) (a .grid) (a .n) (a .work .now) _ (p .0) (search needs) (o .1 .1) in
-    (refl, record { based = b; owns = o .0; sought = o .1 .0; kept = refl; others = refl },
-      cell-none (a .nodes .now) (a .edges .now) (a .closed .now) (a .grid) (a .n) (a .body .now) (a .u) (p .2))
+    let b = based-still (a .nodes .now) (a .edges .now) (a .closed .now) (a .grid) (a .n) (a .work .now) _ (p .0) (search needs) (o .1 .1) in (
+      refl,
+      record { based = b; owns = o .0; sought = o .1 .0; kept = refl; others = refl },
+      cell-none (a .nodes .now) (a .edges .now) (a .closed .now) (a .grid) (a .n) (a .body .now) (a .u) (p .2),
+    )
 
 list-beside-requires : tie.Need-list-beside-requires Inv-loop μ-loop
 list-beside-requires c κs =
@@ -53,9 +55,12 @@ loop-less c = search needs
 loop-again : tie.Need-loop-again Inv-loop μ-loop
 loop-again c =
     let list-beside = c .before .before .before .before .list-beside in
-    let a = c .before .before .before .before .before .before .before .before .before .before .before .before .before .before .before .before .before .before .before .args in
-    (search needs, working-next (a .nodes .now) (a .edges .now) (a .closed .now) (a .grid) (a .n) (a .u) _ _ _ _
-      (c .before .before .before .before .before .before .before .before .loop .inv .1) (search needs) (list-beside .ensures .1), list-beside .ensures .0)
+    let a = c .before .before .before .before .before .before .before .before .before .before .before .before .before .before .before .before .before .before .before .args in (
+      search needs,
+      working-next (a .nodes .now) (a .edges .now) (a .closed .now) (a .grid) (a .n) (a .u) _ _ _ _
+          (c .before .before .before .before .before .before .before .before .loop .inv .1) (search needs) (list-beside .ensures .1),
+      list-beside .ensures .0,
+    )
 
 same-length : tie.Need-same-length Inv-loop μ-loop
 same-length c = omega (arith, c .before .loop .inv .1 .kept)
@@ -65,9 +70,10 @@ same-length-2 c = search needs
 
 returns : tie.Need-returns Inv-loop μ-loop
 returns c =
-    let a = c .before .before .before .before .before .before .before .before .before .before .before .before .args in
-    (cell-all (a .nodes .now) (a .edges .now) (a .closed .now) (a .grid) (a .n) _ (a .u) _ (c .loop-test .left) (c .before .loop .inv .2),
-      c .before .loop .inv .1 .others ∙ c .before .before .before .before .before .own-wanted .ensures .1 .1)
+    let a = c .before .before .before .before .before .before .before .before .before .before .before .before .args in (
+      cell-all (a .nodes .now) (a .edges .now) (a .closed .now) (a .grid) (a .n) _ (a .u) _ (c .loop-test .left) (c .before .loop .inv .2),
+      c .before .loop .inv .1 .others ∙ c .before .before .before .before .before .own-wanted .ensures .1 .1,
+    )
 
 pub lists-of-cell-spec : {M : Type 1} → statement M
 lists-of-cell-spec =

@@ -13,7 +13,7 @@ use Rattle.bodies.proofs.listing.put_lists.Tie as tie
 abbrev Inv-loop : tie.InvT-loop
 Inv-loop nodes edges closed grid n work₀ body₀ u₀ work body u =
     (length work ≡ length work₀) × (length body ≡ length body₀) × Based nodes edges closed grid n work ×
-      (KeptFrom (regionAt n transit) work₀ work) × Listed nodes edges closed grid n u body
+    (KeptFrom (regionAt n transit) work₀ work) × Listed nodes edges closed grid n u body
 
 abbrev μ-loop : tie.MeasureT-loop
 μ-loop nodes edges closed grid n work₀ body₀ u₀ work body u = n - u
@@ -38,9 +38,14 @@ loop-again : tie.Need-loop-again Inv-loop μ-loop
 loop-again c =
     let l = c .before .before .before .before .before .before .before .before .loop in
     let lists-at = c .before .before .before .before .lists-at in
-    let a = c .before .before .before .before .before .before .before .before .before .before .before .before .before .before .args in
-    (search needs, search needs, based-still (a .nodes .now) (a .edges .now) (a .closed .now) (a .grid) (a .n) _ _ (l .inv .2) (search needs)
-      (lists-at .ensures .1), lists-at .ensures .1 ∙ l .inv .3, lists-at .ensures .0)
+    let a = c .before .before .before .before .before .before .before .before .before .before .before .before .before .before .args in (
+      search needs,
+      search needs,
+      based-still (a .nodes .now) (a .edges .now) (a .closed .now) (a .grid) (a .n) _ _ (l .inv .2) (search needs)
+          (lists-at .ensures .1),
+      lists-at .ensures .1 ∙ l .inv .3,
+      lists-at .ensures .0,
+    )
 
 same-length : tie.Need-same-length Inv-loop μ-loop
 same-length c = search needs

@@ -50,7 +50,7 @@ returns : tie.Need-returns
 returns c =
     let a = c .before .before .before .before .before .before .before .before .args in
     starts-put (a .n) (a .work .now) _ (counts-is (a .n) _ (a .work .now) (c .before .before .before .before .before .region-at .ensures)) (a .body .now) _
-      (c .before .before .write-starts .ensures)
+    (c .before .before .write-starts .ensures)
 
 pub put-starts-spec : {M : Type 1} → statement M
 put-starts-spec =

@@ -26,10 +26,16 @@ put-own-requires c κs =
     let s = c .before .before .before .before .before .before .before .before .before .before .before in
     let p = s .pre in
     let a = s .args in
-    let e = c .before .before .before .before .before .search-own .ensures .1 in
-    ((search needs, search needs, among-later (a .n) (a .work .now) _ e (p .0 .3),
-      c .before .before .list-size .ensures ∙ ap listSize (sought-later (a .n) (a .left) (a .work .now) (p .0 .4) _ e .count), search needs),
-      (search needs, omega (arith, c .before .before .list-size .ensures, p .1 .1 .1)))
+    let e = c .before .before .before .before .before .search-own .ensures .1 in (
+      (
+        search needs,
+        search needs,
+        among-later (a .n) (a .work .now) _ e (p .0 .3),
+        c .before .before .list-size .ensures ∙ ap listSize (sought-later (a .n) (a .left) (a .work .now) (p .0 .4) _ e .count),
+        search needs,
+      ),
+      (search needs, omega (arith, c .before .before .list-size .ensures, p .1 .1 .1)),
+    )
 
 same-length : tie.Need-same-length
 same-length c = search needs

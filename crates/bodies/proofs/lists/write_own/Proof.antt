@@ -57,8 +57,8 @@ write-list-requires c κs =
     let a = s .args in
     let p = s .pre in
     own-parts (a .n) (a .work .now) (p .4) (p .1) _ (set-is (a .n) own _ _ (a .work .now) (c .before .before .before .before .before .region-at .ensures)
-      (set-words .ensures)) _ (set-is (a .n) transit _ _ (a .work .now) (c .before .before .before .before .region-at2 .ensures) (set-words .ensures))
-      (a .out .now) (p .0) (p .2) (p .3)
+    (set-words .ensures)) _ (set-is (a .n) transit _ _ (a .work .now) (c .before .before .before .before .region-at2 .ensures) (set-words .ensures))
+    (a .out .now) (p .0) (p .2) (p .3)
 
 same-length : tie.Need-same-length
 same-length c = search needs
@@ -70,9 +70,9 @@ returns c =
     let a = s .args in
     let p = s .pre in
     own-written (a .n) (a .work .now) (p .4) (p .1) _ (set-is (a .n) own _ _ (a .work .now)
-      (c .before .before .before .before .before .before .before .before .region-at .ensures) (set-words .ensures)) _
-      (set-is (a .n) transit _ _ (a .work .now) (c .before .before .before .before .before .before .before .region-at2 .ensures) (set-words .ensures)) _
-      (c .before .before .write-list .ensures)
+    (c .before .before .before .before .before .before .before .before .region-at .ensures) (set-words .ensures)) _
+    (set-is (a .n) transit _ _ (a .work .now) (c .before .before .before .before .before .before .before .region-at2 .ensures) (set-words .ensures)) _
+    (c .before .before .write-list .ensures)
 
 pub write-own-spec : {M : Type 1} → statement M
 write-own-spec =

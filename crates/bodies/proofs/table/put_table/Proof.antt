@@ -19,7 +19,7 @@ use Rattle.words.proofs.Windows.{region-later}
 abbrev Inv-loop : tie.InvT-loop
 Inv-loop edges closed n t work₀ out₀ at₀ v₀ work out at v =
     (length work ≡ length work₀) × (length out ≡ length out₀) × (KeptFrom (searchWords n) work₀ work) × Written
-      (concatMap (rows edges closed n work₀) (membersIn n transit work₀)) at out (membersFrom (rows edges closed n work₀) (region n transit work₀) n v)
+    (concatMap (rows edges closed n work₀) (membersIn n transit work₀)) at out (membersFrom (rows edges closed n work₀) (region n transit work₀) n v)
 
 abbrev μ-loop : tie.MeasureT-loop
 μ-loop edges closed n t work₀ out₀ at₀ v₀ work out at v = n - v
@@ -37,9 +37,13 @@ put-row-requires c κs =
     let a = start .args in
     let l = c .before .before .before .loop in
     let p = start .pre in
-    let s = region-later (a .n) transit (a .work .now) (l .work) (omega arith) (l .inv .2) in
-    (search needs, (roads-from (a .edges .now) (a .closed .now) (a .n) (a .work .now) (l .work) (searchWords (a .n)) (omega arith) (l .inv .2) (p .1 .0),
-      (rw s (p .1 .1 .0), rw s (written-fits (members-step _ _ _ _ (c .before .before .loop-test .taken)) (l .inv .3)))))
+    let s = region-later (a .n) transit (a .work .now) (l .work) (omega arith) (l .inv .2) in (
+      search needs,
+      (
+        roads-from (a .edges .now) (a .closed .now) (a .n) (a .work .now) (l .work) (searchWords (a .n)) (omega arith) (l .inv .2) (p .1 .0),
+        (rw s (p .1 .1 .0), rw s (written-fits (members-step _ _ _ _ (c .before .before .loop-test .taken)) (l .inv .3))),
+      ),
+    )
 
 add-v : tie.Need-add-v Inv-loop μ-loop
 add-v c = search needs
@@ -52,9 +56,13 @@ loop-again c =
     let a = c .before .before .before .before .before .before .before .before .before .before .before .before .before .args in
     let l = c .before .before .before .before .before .before .before .before .loop in
     let put-row = c .before .before .before .before .put-row in
-    let s = region-later (a .n) transit (a .work .now) (l .work) (omega arith) (l .inv .2) in
-    (search needs, search needs, put-row .ensures .1 ∙ l .inv .2, written-next
-      (members-step _ _ _ _ (c .before .before .before .before .before .before .before .loop-test .taken)) (l .inv .3) (rw s at (put-row .ensures .0)))
+    let s = region-later (a .n) transit (a .work .now) (l .work) (omega arith) (l .inv .2) in (
+      search needs,
+      search needs,
+      put-row .ensures .1 ∙ l .inv .2,
+      written-next
+          (members-step _ _ _ _ (c .before .before .before .before .before .before .before .loop-test .taken)) (l .inv .3) (rw s at (put-row .ensures .0)),
+    )
 
 same-length : tie.Need-same-length Inv-loop μ-loop
 same-length c = search needs

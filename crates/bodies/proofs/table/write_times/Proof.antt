@@ -53,7 +53,7 @@ write-row-requires c κs =
     let a = s .args in
     let p = s .pre in
     row-room (a .n) (a .at) (a .t) (a .work .now) (a .out .now) (p .0) (p .1) (p .2) (p .3) _
-      (set-is (a .n) transit _ _ (a .work .now) (c .before .before .before .before .region-at .ensures) (c .before .before .before .set-words .ensures))
+    (set-is (a .n) transit _ _ (a .work .now) (c .before .before .before .before .region-at .ensures) (c .before .before .before .set-words .ensures))
 
 same-length : tie.Need-same-length
 same-length c = search needs
@@ -64,9 +64,9 @@ returns c =
     let a = s .args in
     let p = s .pre in
     row-written (a .n) (a .at) (a .t) (a .work .now) (a .out .now) (p .0) (p .1) (p .2) (p .3) _
-      (set-is (a .n) transit _ _ (a .work .now) (c .before .before .before .before .before .before .before .region-at .ensures)
-      (c .before .before .before .before .before .before .set-words .ensures)) (c .before .before .write-row .last .1 .1 .1 .0)
-      (c .before .before .write-row .kept .1 .1 .1 .0) (c .before .before .write-row .ensures)
+    (set-is (a .n) transit _ _ (a .work .now) (c .before .before .before .before .before .before .before .region-at .ensures)
+    (c .before .before .before .before .before .before .set-words .ensures)) (c .before .before .write-row .last .1 .1 .1 .0)
+    (c .before .before .write-row .kept .1 .1 .1 .0) (c .before .before .write-row .ensures)
 
 pub write-times-spec : {M : Type 1} → statement M
 write-times-spec =

@@ -23,21 +23,28 @@ build-of-requires c κs = work-kept _ _ _ (sym (c .before .before .before .build
 node-count-requires : tie.Need-node-count-requires
 node-count-requires c κs =
     let p = work-kept _ _ _ (sym (c .before .before .before .before .before .before .before .before .before .build-refusal .ensures) ∙
-      c .before .before .before .before .before .before .before .before .if1 .left) .0 in
+    c .before .before .before .before .before .before .before .before .if1 .left) .0 in
     (p .contents, p .bodies)
 
 mul-zero-front : tie.Need-mul-zero-front
 mul-zero-front c =
-    omega (arith, c .node-count .ensures, node-bytes _ (work-kept _ _ _
-      (sym (c .before .before .before .before .before .before .before .before .before .before .build-refusal .ensures) ∙
-      c .before .before .before .before .before .before .before .before .before .if1 .left) .0 .sound) .0)
+    omega (
+      arith,
+      c .node-count .ensures,
+      node-bytes _ (work-kept _ _ _
+          (sym (c .before .before .before .before .before .before .before .before .before .before .build-refusal .ensures) ∙
+          c .before .before .before .before .before .before .before .before .before .if1 .left) .0 .sound) .0,
+    )
 
 zero-front-requires : tie.Need-zero-front-requires
 unfolding wordsNeeded
 zero-front-requires c κs =
-    omega (arith, c .node-count .ensures,
+    omega (
+      arith,
+      c .node-count .ensures,
       work-kept _ _ _ (sym (c .before .before .before .before .before .before .before .before .before .before .build-refusal .ensures) ∙
-      c .before .before .before .before .before .before .before .before .before .if1 .left) .1)
+          c .before .before .before .before .before .before .before .before .before .if1 .left) .1,
+    )
 
 same-length : tie.Need-same-length
 same-length c = search needs
@@ -50,9 +57,9 @@ returns-2 c =
     let build-of = c .before .before .before .before .before .before .before .before .before .build-of in
     let a = c .before .before .before .before .before .before .before .before .before .before .before .before .before .before .before .before .before .args in
     build-given (a .network .now) (a .dv) (a .work .now) (a .out .now) _
-      (c .before .before .before .before .before .before .before .before .before .before .before .before .before .build-refusal .ensures) _ _ _ _
-      (c .before .before .before .before .before .before .before .before .before .before .before .before .if1 .left) (build-of .ensures .0)
-      (build-of .ensures .1) (c .before .before .zero-front .ensures ∙ needed _ _ (c .before .before .before .node-count .ensures) _)
+    (c .before .before .before .before .before .before .before .before .before .before .before .before .before .build-refusal .ensures) _ _ _ _
+    (c .before .before .before .before .before .before .before .before .before .before .before .before .if1 .left) (build-of .ensures .0)
+    (build-of .ensures .1) (c .before .before .zero-front .ensures ∙ needed _ _ (c .before .before .before .node-count .ensures) _)
 
 pub build-spec : {M : Type 1} → statement M
 build-spec =

@@ -21,15 +21,15 @@ bytes c i = omega (arith, c .before .before .before .before .before .before .bef
 plan : (c : tie.After-access-size) →
     let a = c .before .before .before .before .before .before .before .before .before .before .before .before .before .before .args in
     Planned (a .nodes .now) (a .edges .now) (a .closed .now) (a .grid) (a .n)
-      (c .before .before .count .result) (c .access-size .result) (c .before .before .before .before .before .before .prepare .last .1 .1 .1 .1 .1 .0)
+    (c .before .before .count .result) (c .access-size .result) (c .before .before .before .before .before .before .prepare .last .1 .1 .1 .1 .1 .0)
 plan c =
     let s = c .before .before .before .before .before .before .before .before .before .before .before .before .before .before in
     let p = s .pre in
     let prepare = c .before .before .before .before .before .before .prepare in
     let a = s .args in
     planned (a .network .now) (a .dv) (a .nodes .now) (a .edges .now) (a .closed .now) (a .grid) (a .n) (p .0) _
-      (omega (arith, p .1, prepare .kept .1 .1 .1 .1 .1 .0)) (prepare .ensures .0) (prepare .ensures .1 .0) (prepare .ensures .1 .1 .0) _ _
-      (c .before .before .count .ensures) (c .access-size .ensures)
+    (omega (arith, p .1, prepare .kept .1 .1 .1 .1 .1 .0)) (prepare .ensures .0) (prepare .ensures .1 .0) (prepare .ensures .1 .1 .0) _ _
+    (c .before .before .count .ensures) (c .access-size .ensures)
 
 sized : (c : tie.After-access-size) →
     let a = c .before .before .before .before .before .before .before .before .before .before .before .before .before .before .args in
@@ -59,8 +59,12 @@ count-requires c κs =
     let s = c .before .before .before .before .before .before .before .before .before .before .before in
     let p = s .pre in
     let a = s .args in
-    omega (arith, laid-some (a .network .now) (a .dv) (a .nodes .now) (a .edges .now) (a .closed .now) (a .grid) (a .n) (p .0), p .1,
-      c .before .before .before .prepare .kept .1 .1 .1 .1 .1 .0)
+    omega (
+      arith,
+      laid-some (a .network .now) (a .dv) (a .nodes .now) (a .edges .now) (a .closed .now) (a .grid) (a .n) (p .0),
+      p .1,
+      c .before .before .before .prepare .kept .1 .1 .1 .1 .1 .0,
+    )
 
 access-size-requires : tie.Need-access-size-requires
 access-size-requires c κs =
@@ -69,7 +73,7 @@ access-size-requires c κs =
     let prepare = c .before .before .before .before .before .prepare in
     let a = s .args in
     sizes-requires (a .network .now) (a .dv) (a .nodes .now) (a .edges .now) (a .closed .now) (a .grid) (a .n) (p .0) _
-      (omega (arith, p .1, prepare .kept .1 .1 .1 .1 .1 .0)) (prepare .ensures .0) (prepare .ensures .1 .0) (prepare .ensures .1 .1 .0)
+    (omega (arith, p .1, prepare .kept .1 .1 .1 .1 .1 .0)) (prepare .ensures .0) (prepare .ensures .1 .0) (prepare .ensures .1 .1 .0)
 
 whole-size-requires : tie.Need-whole-size-requires
 whole-size-requires c κs =
@@ -82,22 +86,27 @@ same-length c = search needs
 
 returns : tie.Need-returns
 returns c =
-    let a = c .before .before .before .before .before .before .before .before .before .before .before .before .before .before .before .before .args in
-    (given-short (a .network .now) (a .dv) (a .out .now) (omega (arith, c .if1 .taken, c .before .whole-size .ensures, sized (c .before .before))),
-      c .before .before .before .before .before .before .before .before .prepare .ensures .1 .1 .1)
+    let a = c .before .before .before .before .before .before .before .before .before .before .before .before .before .before .before .before .args in (
+      given-short (a .network .now) (a .dv) (a .out .now) (omega (arith, c .if1 .taken, c .before .whole-size .ensures, sized (c .before .before))),
+      c .before .before .before .before .before .before .before .before .prepare .ensures .1 .1 .1,
+    )
 
 write-oracle-requires : tie.Need-write-oracle-requires
 write-oracle-requires c κs =
     let s = c .before .before .before .before .before .before .before .before .before .before .before .before .before .before .before .before .before .before in
     let start = c .before .before .before .before in
-    let a = s .args in
-    ((plan (start), joined (a .network .now) (a .dv) (a .nodes .now) (a .edges .now) (a .closed .now) (a .grid) (a .n) (s .pre .0) (bytes (start))),
-      (omega (arith, c .before .before .if1 .left, c .before .before .before .whole-size .ensures), small (start)))
+    let a = s .args in (
+      (plan (start), joined (a .network .now) (a .dv) (a .nodes .now) (a .edges .now) (a .closed .now) (a .grid) (a .n) (s .pre .0) (bytes (start))),
+      (omega (arith, c .before .before .if1 .left, c .before .before .before .whole-size .ensures), small (start)),
+    )
 
 cast-t26 : tie.Need-cast-t26
 cast-t26 c =
-    omega (arith, c .before .before .before .before .before .before .before .before .whole-size .ensures,
-      small (c .before .before .before .before .before .before .before .before .before))
+    omega (
+      arith,
+      c .before .before .before .before .before .before .before .before .whole-size .ensures,
+      small (c .before .before .before .before .before .before .before .before .before),
+    )
 
 cast-t27 : tie.Need-cast-t27
 unfolding wholeSize
@@ -112,21 +121,23 @@ same-length-3 c = search needs
 returns-2 : tie.Need-returns-2
 returns-2 c =
     let s = c .before .before .before .before .before .before .before .before .before .before .before .before .before .before .before .before .before .before
-      .before .before .before .before .before in
+    .before .before .before .before .before in
     let start = c .before .before .before .before .before .before .before .before .before in
     let whole-size = c .before .before .before .before .before .before .before .before .whole-size in
     let pre = s .pre in
     let write-oracle = c .before .before .before .before .write-oracle in
     let a = s .args in
-    let p = plan (start) in
-    (given-built (a .network .now) (a .dv) (a .out .now) _ _ _ (whole-size .ensures ∙ sized (start))
-      (p .transits ∙ ap length (transits-are (a .network .now) (a .dv) (a .nodes .now) (a .edges .now) (a .closed .now) (a .grid) (a .n) (pre .0)))
-      (omega (arith, c .before .before .before .before .before .before .before .if1 .left, whole-size .ensures, sized (start)))
-      (oracle-written (a .network .now) (a .dv) (a .nodes .now) (a .edges .now) (a .closed .now) (a .grid) (a .n) (pre .0) (bytes (start)) _ _
-      (p .transits) (p .access) (write-oracle .ensures .0)), behind-regions (a .network .now) (a .dv) (a .nodes .now) (a .edges .now) (a .closed .now)
-      (a .grid) (a .n) (pre .0) _ _ (write-oracle .ensures .1) ∙
-      c .before .before .before .before .before .before .before .before .before .before .before .before .before .before .before .prepare .ensures .1
-      .1 .1)
+    let p = plan (start) in (
+      given-built (a .network .now) (a .dv) (a .out .now) _ _ _ (whole-size .ensures ∙ sized (start))
+          (p .transits ∙ ap length (transits-are (a .network .now) (a .dv) (a .nodes .now) (a .edges .now) (a .closed .now) (a .grid) (a .n) (pre .0)))
+          (omega (arith, c .before .before .before .before .before .before .before .if1 .left, whole-size .ensures, sized (start)))
+          (oracle-written (a .network .now) (a .dv) (a .nodes .now) (a .edges .now) (a .closed .now) (a .grid) (a .n) (pre .0) (bytes (start)) _ _
+          (p .transits) (p .access) (write-oracle .ensures .0)),
+      behind-regions (a .network .now) (a .dv) (a .nodes .now) (a .edges .now) (a .closed .now)
+          (a .grid) (a .n) (pre .0) _ _ (write-oracle .ensures .1) ∙
+          c .before .before .before .before .before .before .before .before .before .before .before .before .before .before .before .prepare .ensures .1
+          .1 .1,
+    )
 
 pub build-in-spec : {M : Type 1} → statement M
 build-in-spec =

@@ -25,9 +25,16 @@ returns c =
     let s = c .before .before .before .before .before .before .before .before .before .before .before .before in
     let a = s .args in
     let m = c .before .before .mark-transit .ensures in
-    let i = c .before .before .before .before .before .before .build-index .ensures in
-    (m .0, (m .1 .0, (roads-kept (a .edges .now) (a .closed .now) (a .n) _ _ (m .1 .1) (i .0),
-      kept-more (indexAt (a .n)) (workWords (a .n)) _ _ (omega (arith, s .pre .4)) (m .1 .1) ∙ i .1 .1)))
+    let i = c .before .before .before .before .before .before .build-index .ensures in (
+      m .0,
+      (
+        m .1 .0,
+        (
+          roads-kept (a .edges .now) (a .closed .now) (a .n) _ _ (m .1 .1) (i .0),
+          kept-more (indexAt (a .n)) (workWords (a .n)) _ _ (omega (arith, s .pre .4)) (m .1 .1) ∙ i .1 .1,
+        ),
+      ),
+    )
 
 pub prepare-spec : {M : Type 1} → statement M
 prepare-spec = tie.close (tie.spec build-index-requires mark-transit-requires same-length returns)

@@ -48,7 +48,7 @@ write-numbers-requires c κs =
     let a = s .args in
     let p = s .pre in
     let r = numbers-room (a .n) (a .t) (a .at) (a .work .now) (a .out .now) (p .1) (p .2) (p .3) (p .4) _
-      (set-is (a .n) transit _ _ (a .work .now) (c .before .before .before .region-at .ensures) (c .before .before .set-words .ensures)) in
+    (set-is (a .n) transit _ _ (a .work .now) (c .before .before .before .region-at .ensures) (c .before .before .set-words .ensures)) in
     (p .0, r .0, r .1)
 
 same-length : tie.Need-same-length
@@ -60,9 +60,9 @@ returns c =
     let a = s .args in
     let p = s .pre in
     numbers-written (a .n) (a .t) (a .at) (a .work .now) (a .out .now) (p .1) (p .2) (p .3) (p .4) _
-      (set-is (a .n) transit _ _ (a .work .now) (c .before .before .before .before .before .before .region-at .ensures)
-      (c .before .before .before .before .before .set-words .ensures)) (c .before .before .write-numbers .last .1 .1 .0)
-      (c .before .before .write-numbers .kept .1 .1 .0) (c .before .before .write-numbers .ensures)
+    (set-is (a .n) transit _ _ (a .work .now) (c .before .before .before .before .before .before .region-at .ensures)
+    (c .before .before .before .before .before .set-words .ensures)) (c .before .before .write-numbers .last .1 .1 .0)
+    (c .before .before .write-numbers .kept .1 .1 .0) (c .before .before .write-numbers .ensures)
 
 pub put-transit-spec : {M : Type 1} → statement M
 put-transit-spec =

@@ -44,8 +44,7 @@ loop-again : tie.Need-loop-again Inv-loop μ-loop
 loop-again c =
     let s = c .before .before .before .before .before in
     let l = c .before .before .before .loop in
-    let h = c .before .before .loop-test .taken in
-    (
+    let h = c .before .before .loop-test .taken in (
       search needs,
       omega (arith, c .list-size .ensures, s .pre .2 (l .v) h),
       omega (arith, c .list-size .ensures, sum-step (s .args .counts .now) (s .args .n) (l .v) h, l .inv .2),

@@ -35,9 +35,11 @@ same-length-2 c = search needs
 returns : tie.Need-returns
 returns c =
     let put-access = c .before .before .before .before .put-access in
-    let a = c .before .before .before .before .before .before .before .before .before .before .before .before .args in
-    (wrote-part (a .at) _ (a .out .now) (put-access .last .1 .1 .1 .1 .1 .1 .0) _ (omega arith) (omega arith) (put-access .kept .1 .1 .1 .1 .1 .1 .0)
-      (put-access .ensures .0), put-access .ensures .1)
+    let a = c .before .before .before .before .before .before .before .before .before .before .before .before .args in (
+      wrote-part (a .at) _ (a .out .now) (put-access .last .1 .1 .1 .1 .1 .1 .0) _ (omega arith) (omega arith) (put-access .kept .1 .1 .1 .1 .1 .1 .0)
+          (put-access .ensures .0),
+      put-access .ensures .1,
+    )
 
 pub access-part-spec : {M : Type 1} → statement M
 access-part-spec =

@@ -26,8 +26,8 @@ returns c =
     let p = s .pre in
     let a = s .args in
     front-written (a .network .now) (a .dv) (a .sizes) (p .0)
-      (c .before .before .before .before .before .before .before .before .before .before .put-head .ensures)
-      (c .before .before .before .before .before .before .put-network .ensures) (c .before .before .put-grid .ensures) (p .1)
+    (c .before .before .before .before .before .before .before .before .before .before .put-head .ensures)
+    (c .before .before .before .before .before .before .put-network .ensures) (c .before .before .put-grid .ensures) (p .1)
 
 pub put-front-spec : {M : Type 1} → statement M
 put-front-spec =

@@ -42,9 +42,11 @@ same-length-2 c = search needs
 returns : tie.Need-returns
 returns c =
     let put-table = c .before .before .before .before .put-table in
-    let a = c .before .before .before .before .before .before .before .before .before .before .before .args in
-    (wrote-part (a .at) _ (a .out .now) (put-table .last .1 .1 .1 .1 .1 .0) _ (omega arith) (omega arith) (put-table .kept .1 .1 .1 .1 .1 .0)
-      (put-table .ensures .0), put-table .ensures .1)
+    let a = c .before .before .before .before .before .before .before .before .before .before .before .args in (
+      wrote-part (a .at) _ (a .out .now) (put-table .last .1 .1 .1 .1 .1 .0) _ (omega arith) (omega arith) (put-table .kept .1 .1 .1 .1 .1 .0)
+          (put-table .ensures .0),
+      put-table .ensures .1,
+    )
 
 pub table-part-spec : {M : Type 1} → statement M
 table-part-spec =

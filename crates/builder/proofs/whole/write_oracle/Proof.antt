@@ -24,7 +24,7 @@ put-back-requires c κs =
     let p = s .pre in
     let a = s .args in
     let r = back-room (a .network .now) (a .nodes .now) (a .edges .now) (a .closed .now) (a .dv) (a .t) (a .a) (p .0 .1) (p .1 .1) (a .out .now) _ _ _
-      (c .before .before .before .before .before .before .head-sizes .ensures) (c .before .before .before .before .put-front .ensures) (p .1 .0) in
+    (c .before .before .before .before .before .before .head-sizes .ensures) (c .before .before .before .before .put-front .ensures) (p .1 .0) in
     (p .0 .0, search needs, r .1)
 
 same-length : tie.Need-same-length
@@ -38,10 +38,12 @@ returns c =
     let s = c .before .before .before .before .before .before .before .before .before .before .before .before .before .before .before .before .before .before in
     let p = s .pre in
     let put-back = c .before .before .before .before .put-back in
-    let a = s .args in
-    (whole-written (a .network .now) (a .nodes .now) (a .edges .now) (a .closed .now) (a .dv) (a .t) (a .a) (p .0 .1) (p .1 .1) (a .out .now) _ _ _ _ _
-      (c .before .before .before .before .before .before .before .before .before .before .before .head-sizes .ensures)
-      (c .before .before .before .before .before .before .before .before .before .put-front .ensures) (p .1 .0) (put-back .ensures .0), put-back .ensures .1)
+    let a = s .args in (
+      whole-written (a .network .now) (a .nodes .now) (a .edges .now) (a .closed .now) (a .dv) (a .t) (a .a) (p .0 .1) (p .1 .1) (a .out .now) _ _ _ _ _
+          (c .before .before .before .before .before .before .before .before .before .before .before .head-sizes .ensures)
+          (c .before .before .before .before .before .before .before .before .before .put-front .ensures) (p .1 .0) (put-back .ensures .0),
+      put-back .ensures .1,
+    )
 
 pub write-oracle-spec : {M : Type 1} → statement M
 write-oracle-spec =

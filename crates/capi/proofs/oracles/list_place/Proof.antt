@@ -34,15 +34,17 @@ list-start-requires c κs =
     rw (c .before .before .before .oracle-body .ensures) (_, has-list _ (all-shaped _ (c .before .before .before .before .before .pre .0)) _ (c .before .before .before .before .before .pre .1))
 
 add-start : tie.Need-add-start
-add-start c = omega (arith,
-    start-within _ (all-shaped _ (c .before .before .before .before .before .before .pre .0)) _ (c .before .before .before .before .before .before .pre .1) _
-        (c .before .before .before .before .oracle-body .ensures) _ (c .list-start .ensures))
+add-start c = omega (
+  arith,
+  start-within _ (all-shaped _ (c .before .before .before .before .before .before .pre .0)) _ (c .before .before .before .before .before .before .pre .1) _
+      (c .before .before .before .before .oracle-body .ensures) _ (c .list-start .ensures),
+)
 
 returns : tie.Need-returns
 unfolding entryAt
 returns c = place _ (all-shaped _ (c .before .before .before .before .before .before .pre .0)) _ (c .before .before .before .before .before .before .pre .1) _
     (c .before .before .before .before .oracle-body .ensures) _ (c .list-start .ensures) _ _ (c .before .read32 .ensures
-        ∙ rw (c .before .before .entry-at .ensures)) (c .before .before .before .list-part .ensures)
+    ∙ rw (c .before .before .entry-at .ensures)) (c .before .before .before .list-part .ensures)
 
 pub list-place-spec : {M : Type 1} → statement M
 list-place-spec =

@@ -37,9 +37,11 @@ loop-less : tie.Need-loop-less Inv-loop μ-loop
 loop-less c = search needs
 
 loop-again : tie.Need-loop-again Inv-loop μ-loop
-loop-again c =
-    (search needs, λ grid q. c .before .before .before .loop .inv .1 grid q ∙ none-next _ _ _ (c .before .before .loop-test .taken)
-      (sym (c .before .beside .ensures grid _ q) ∙ c .if1 .left))
+loop-again c = (
+  search needs,
+  λ grid q. c .before .before .before .loop .inv .1 grid q ∙ none-next _ _ _ (c .before .before .loop-test .taken)
+      (sym (c .before .beside .ensures grid _ q) ∙ c .if1 .left),
+)
 
 returns-2 : tie.Need-returns-2 Inv-loop μ-loop
 returns-2 c = sym (c .before .loop .inv .1 _ (c .before .before .cell-square .ensures) ∙ none-last _ _ _ (c .loop-test .left))

@@ -31,7 +31,7 @@ returns : tie.Need-returns
 returns c =
     let a = c .before .before .before .before .before .before .args in
     crosses-read (a .nodes .now) (a .square) _ _ _ _ _ (c .before .before .before .edge-first .ensures .0) (c .before .edge-second .ensures .0)
-      (c .before .before .has .ensures) (c .has2 .ensures)
+    (c .before .before .has .ensures) (c .has2 .ensures)
 
 pub crosses-edge-spec : {M : Type 1} → statement M
 crosses-edge-spec =

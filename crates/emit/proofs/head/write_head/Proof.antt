@@ -15,7 +15,7 @@ use Rattle.emit.proofs.head.write_head.Tie as tie
 abbrev Inv-loop : tie.InvT-loop
 Inv-loop edition out₀ sizes offset₀ k₀ out offset k =
     (k ≤ oracleEntries) × (length sizes ≡ oracleEntries) × (offset + total (drop k sizes) < 4294967296) × (length out ≡ entryAt oracleEntries) × Written
-      (headBytes edition sizes) (entryAt k) out (entriesOf k offset (drop k sizes))
+    (headBytes edition sizes) (entryAt k) out (entriesOf k offset (drop k sizes))
 
 abbrev μ-loop : tie.MeasureT-loop
 μ-loop edition out₀ sizes offset₀ k₀ out offset k = oracleEntries - k
@@ -45,9 +45,13 @@ loop-holds c =
     let a = c .before .before .args in
     let seven : length (a .t2) ≡ oracleEntries = search needs in
     let long : 2 ≤ length (a .out .now) = unfold entryAt in omega arith in
-    let start = written-start refl (c .before .before .pre .2 ∙ ap entryAt (sym seven) ∙ sym (length-head (a .edition) (a .t2))) in
-    (search needs, seven, rw (c .entry-at .ensures) (c .before .before .pre .1), simp length-set (c .before .before .pre .2),
-      rw (c .entry-at .ensures) (written-next (head-start (a .edition) (a .t2) seven) start (head-wrote (a .out .now) (a .edition) oracleEntries long)))
+    let start = written-start refl (c .before .before .pre .2 ∙ ap entryAt (sym seven) ∙ sym (length-head (a .edition) (a .t2))) in (
+      search needs,
+      seven,
+      rw (c .entry-at .ensures) (c .before .before .pre .1),
+      simp length-set (c .before .before .pre .2),
+      rw (c .entry-at .ensures) (written-next (head-start (a .edition) (a .t2) seven) start (head-wrote (a .out .now) (a .edition) oracleEntries long)),
+    )
 
 mul-write-entry : tie.Need-mul-write-entry Inv-loop μ-loop
 mul-write-entry c = search needs
@@ -81,9 +85,13 @@ loop-again c =
     let a = c .before .before .before .before .before .before .before .before .args in
     let inv = l .inv in
     let below : l .k < length (a .t2) = omega arith in
-    let next = contents-step (a .t2) (l .k) (l .offset) _ below refl in
-    (search needs, inv .1, omega (arith, total-step (a .t2) (l .k) (l .offset) _ below refl), search needs,
-      written-next next (inv .4) (contents-wrote _ _ _ _ _ (c .before .before .write-entry .ensures)))
+    let next = contents-step (a .t2) (l .k) (l .offset) _ below refl in (
+      search needs,
+      inv .1,
+      omega (arith, total-step (a .t2) (l .k) (l .offset) _ below refl),
+      search needs,
+      written-next next (inv .4) (contents-wrote _ _ _ _ _ (c .before .before .write-entry .ensures)),
+    )
 
 same-length : tie.Need-same-length Inv-loop μ-loop
 same-length c = omega arith

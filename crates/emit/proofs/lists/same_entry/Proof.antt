@@ -27,7 +27,7 @@ returns-2 : tie.Need-returns-2
 unfolding indexedBytes timeBytes
 returns-2 c =
     then-different _ _ _ _ (sym (c .before .before .same16 .ensures) ∙ c .enum-told .given .1) ∙ compared-in _ _ _ _ _
-      (sym (c .before .before .before .before .contains .ensures) ∙ not-false _ (c .before .before .before .if1 .left))
+    (sym (c .before .before .before .before .contains .ensures) ∙ not-false _ (c .before .before .before .if1 .left))
 
 mul-same-value : tie.Need-mul-same-value
 mul-same-value c = search needs

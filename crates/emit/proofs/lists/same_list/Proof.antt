@@ -37,13 +37,16 @@ returns : tie.Need-returns Inv-loop μ-loop
 returns c =
     let a = c .before .before .before .before .before .before .before .before .args in
     sym (left-different (list-count (a .n) (a .access .now) (a .transit .now) (a .times .now) _ (c .before .before .before .count .ensures .0))
-      (left-start refl) (sym (c .before .before .same16 .ensures) ∙ c .enum-told .given .1))
+    (left-start refl) (sym (c .before .before .same16 .ensures) ∙ c .enum-told .given .1))
 
 loop-holds : tie.Need-loop-holds Inv-loop μ-loop
 loop-holds c =
-    let a = c .before .before .before .before .before .before .before .before .before .args in
-    (search needs, sym (rank-none _), left-next (list-count (a .n) (a .access .now) (a .transit .now) (a .times .now) _
-      (c .before .before .before .before .count .ensures .0)) (left-start refl) (sym (c .before .before .before .same16 .ensures) ∙ c .before .first .given .1))
+    let a = c .before .before .before .before .before .before .before .before .before .args in (
+      search needs,
+      sym (rank-none _),
+      left-next (list-count (a .n) (a .access .now) (a .transit .now) (a .times .now) _
+          (c .before .before .before .before .count .ensures .0)) (left-start refl) (sym (c .before .before .before .same16 .ensures) ∙ c .before .first .given .1),
+    )
 
 same-entry-requires : tie.Need-same-entry-requires Inv-loop μ-loop
 same-entry-requires c κs = (search needs, search needs, c .before .loop .inv .2 .within)
@@ -79,9 +82,11 @@ loop-again c =
     let s = c .before .before .before .before .before .before .before .before .before .before .before .before .before .before .before .before in
     let l = c .before .before .before .before .before .before .loop in
     let a = s .args in
-    let next = entries-step (a .n) (a .access .now) (a .transit .now) (a .times .now) _ _ (c .before .before .before .before .before .loop-test .taken) (s .pre .4) (l .inv .1) in
-    (search needs, rank-next _ _ _ _ (l .inv .1) (c .flag-of .ensures .0),
-      left-next next (l .inv .2) (sym (c .before .before .before .before .same-entry .ensures) ∙ c .before .before .next .given .1))
+    let next = entries-step (a .n) (a .access .now) (a .transit .now) (a .times .now) _ _ (c .before .before .before .before .before .loop-test .taken) (s .pre .4) (l .inv .1) in (
+      search needs,
+      rank-next _ _ _ _ (l .inv .1) (c .flag-of .ensures .0),
+      left-next next (l .inv .2) (sym (c .before .before .before .before .same-entry .ensures) ∙ c .before .before .next .given .1),
+    )
 
 returns-3 : tie.Need-returns-3 Inv-loop μ-loop
 returns-3 c =

@@ -36,7 +36,7 @@ write-value-requires c κs =
     let s = c .before .before .before .before .before .before .before .before .before .before .before in
     let a = s .args in
     let f = fits-in _ _ _ _ _ (sym (c .before .before .before .before .before .before .before .contains .ensures) ∙ not-false _
-      (c .before .before .before .before .before .before .if1 .left)) (s .pre .2) in
+    (c .before .before .before .before .before .before .if1 .left)) (s .pre .2) in
     omega (arith, f, length-indexed (a .times .now) (a .index) (a .v))
 
 add-result : tie.Need-add-result
@@ -51,7 +51,7 @@ returns-2 c =
     let a = s .args in
     let long = length-indexed (a .times .now) (a .index) (a .v) in
     let i = sym (c .before .before .before .before .before .before .before .before .before .before .contains .ensures) ∙ not-false _
-      (c .before .before .before .before .before .before .before .before .before .if1 .left) in
+    (c .before .before .before .before .before .before .before .before .before .if1 .left) in
     let f = fits-in _ _ _ _ _ i (s .pre .2) in
     let index = c .before .before .before .before .before .before .before .write16 .ensures in
     let w = entry-written (a .times .now) (a .index) (a .v) _ _ _ _ (omega (arith, f, long)) index (c .before .before .write-value .ensures) in

@@ -31,16 +31,23 @@ write16-requires c κs = omega arith
 loop-holds : tie.Need-loop-holds Inv-loop μ-loop
 loop-holds c =
     let s = c .before .before .before .before .before .before .before .before .before in
-    let a = s .args in
-    (search needs, sym (rank-none _), search needs, count-written (a .n) (a .access .now) (a .transit .now) (a .times .now) _
-      (c .before .before .before .count .ensures .0) _ _ (s .pre .1 .1) (c .before .before .write16 .ensures))
+    let a = s .args in (
+      search needs,
+      sym (rank-none _),
+      search needs,
+      count-written (a .n) (a .access .now) (a .transit .now) (a .times .now) _
+          (c .before .before .before .count .ensures .0) _ _ (s .pre .1 .1) (c .before .before .write16 .ensures),
+    )
 
 write-entry-requires : tie.Need-write-entry-requires Inv-loop μ-loop
 write-entry-requires c κs =
     let s = c .before .before .before .before .before .before .before .before .before .before .before .before in
-    let a = s .args in
-    (search needs, search needs, written-fits (entries-step (a .n) (a .access .now) (a .transit .now) (a .times .now) _ _ (c .before .loop-test .taken)
-      (s .pre .1 .0) (c .before .before .loop .inv .1)) (c .before .before .loop .inv .3))
+    let a = s .args in (
+      search needs,
+      search needs,
+      written-fits (entries-step (a .n) (a .access .now) (a .transit .now) (a .times .now) _ _ (c .before .loop-test .taken)
+          (s .pre .1 .0) (c .before .before .loop .inv .1)) (c .before .before .loop .inv .3),
+    )
 
 flag-of-requires : tie.Need-flag-of-requires Inv-loop μ-loop
 flag-of-requires c κs = search needs
@@ -60,7 +67,7 @@ loop-again c =
     let l = c .before .before .before .before .before .before .loop in
     let a = s .args in
     let next = entries-step (a .n) (a .access .now) (a .transit .now) (a .times .now) _ _ (c .before .before .before .before .before .loop-test .taken)
-      (s .pre .1 .0) (l .inv .1) in
+    (s .pre .1 .0) (l .inv .1) in
     (search needs, rank-next _ _ _ _ (l .inv .1) (c .flag-of .ensures .0), search needs, written-next next (l .inv .3) (c .before .before .before .write-entry .ensures))
 
 same-length : tie.Need-same-length Inv-loop μ-loop

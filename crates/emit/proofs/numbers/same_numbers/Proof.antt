@@ -32,7 +32,7 @@ enum-told c = search needs
 returns : tie.Need-returns Inv-loop μ-loop
 returns c =
     sym (left-different (members-step _ _ _ _ (c .before .before .before .loop-test .taken)) (c .before .before .before .before .loop .inv)
-      (sym (c .before .before .same-number .ensures) ∙ c .enum-told .given .1))
+    (sym (c .before .before .same-number .ensures) ∙ c .enum-told .given .1))
 
 add-u : tie.Need-add-u Inv-loop μ-loop
 add-u c = search needs
@@ -43,7 +43,7 @@ loop-less c = search needs
 loop-again : tie.Need-loop-again Inv-loop μ-loop
 loop-again c =
     left-next (members-step _ _ _ _ (c .before .before .before .before .loop-test .taken)) (c .before .before .before .before .before .loop .inv)
-      (sym (c .before .before .before .same-number .ensures) ∙ c .before .next .given .1)
+    (sym (c .before .before .before .same-number .ensures) ∙ c .before .next .given .1)
 
 returns-2 : tie.Need-returns-2 Inv-loop μ-loop
 returns-2 c = left-end (members-end _ _ _ _ (c .loop-test .left)) (c .before .loop .inv)

@@ -30,7 +30,7 @@ returns-2 : tie.Need-returns-2
 unfolding bytes16
 returns-2 c =
     wrote-in _ _ _ _ _ _ _ (sym (c .before .before .before .before .before .contains .ensures) ∙ not-false _ (c .before .before .before .before .if1 .left))
-      refl (c .before .before .write16 .ensures)
+    refl (c .before .before .write16 .ensures)
 
 pub write-number-spec : {M : Type 1} → statement M
 write-number-spec =

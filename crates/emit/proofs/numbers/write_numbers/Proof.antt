@@ -20,9 +20,11 @@ abbrev μ-loop : tie.MeasureT-loop
 
 loop-holds : tie.Need-loop-holds Inv-loop μ-loop
 unfolding numbersBytes
-loop-holds c =
-    (search needs, written-start (members-all _ _ _) (c .before .before .pre .2 ∙
-      sym (length-numbers (membersOf (c .before .before .args .n) (c .before .before .args .set .now)))))
+loop-holds c = (
+  search needs,
+  written-start (members-all _ _ _) (c .before .before .pre .2 ∙
+      sym (length-numbers (membersOf (c .before .before .args .n) (c .before .before .args .set .now)))),
+)
 
 write-number-requires : tie.Need-write-number-requires Inv-loop μ-loop
 write-number-requires c κs = (search needs, search needs, written-fits (members-step _ _ _ _ (c .before .loop-test .taken)) (c .before .before .loop .inv .1))
@@ -34,9 +36,11 @@ loop-less : tie.Need-loop-less Inv-loop μ-loop
 loop-less c = search needs
 
 loop-again : tie.Need-loop-again Inv-loop μ-loop
-loop-again c =
-    (search needs, written-next (members-step _ _ _ _ (c .before .before .before .before .loop-test .taken))
-      (c .before .before .before .before .before .loop .inv .1) (c .before .before .write-number .ensures))
+loop-again c = (
+  search needs,
+  written-next (members-step _ _ _ _ (c .before .before .before .before .loop-test .taken))
+      (c .before .before .before .before .before .loop .inv .1) (c .before .before .write-number .ensures),
+)
 
 same-length : tie.Need-same-length Inv-loop μ-loop
 same-length c = search needs

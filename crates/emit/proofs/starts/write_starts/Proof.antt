@@ -23,10 +23,17 @@ mul-start : tie.Need-mul-start Inv-loop μ-loop
 mul-start c = search needs
 
 loop-holds : tie.Need-loop-holds Inv-loop μ-loop
-loop-holds c =
-    (search needs, search needs, search needs, written-start (starts-all _ _)
-      (omega (arith, length-startsOf (startSize * c .before .before .args .n) (listSizes (c .before .before .args .n) (c .before .before .args .counts .now)),
-      length-sizes (c .before .before .args .n) (c .before .before .args .counts .now))))
+loop-holds c = (
+  search needs,
+  search needs,
+  search needs,
+  written-start (starts-all _ _)
+      (omega (
+        arith,
+        length-startsOf (startSize * c .before .before .args .n) (listSizes (c .before .before .args .n) (c .before .before .args .counts .now)),
+        length-sizes (c .before .before .args .n) (c .before .before .args .counts .now),
+      )),
+)
 
 mul-write32 : tie.Need-mul-write32 Inv-loop μ-loop
 mul-write32 c = search needs

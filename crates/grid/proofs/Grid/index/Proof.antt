@@ -23,9 +23,11 @@ div-result c = search needs
 
 returns : tie.Need-returns
 unfolding cellIndex
-returns c =
-    (refl, index-below (c .before .before .args .x - c .before .before .args .from) (c .before .before .args .self .g) (c .before .before .args .self .spread)
-      (c .before .before .pre .most) (c .before .before .pre .some))
+returns c = (
+  refl,
+  index-below (c .before .before .args .x - c .before .before .args .from) (c .before .before .args .self .g) (c .before .before .args .self .spread)
+      (c .before .before .pre .most) (c .before .before .pre .some),
+)
 
 pub index-spec : {M : Type 1} → statement M
 index-spec = tie.close (tie.spec sub-result mul-result add-result div-result returns)

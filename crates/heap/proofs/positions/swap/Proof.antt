@@ -28,14 +28,14 @@ same-length c = search needs
 returns : tie.Need-returns
 returns c =
     let a = c .before .before .before .before .before .before .before .before .before .before .before .before .before .before .before .before .before .before
-      .before .before .before .args in
+    .before .before .before .args in
     swap-read (a .n) (a .i) (a .j) (a .w .now) _ _
-      (c .before .before .before .before .before .before .before .before .before .before .before .before .before .before .before .before .before .before
-      .node-at .ensures .0)
-      (c .before .before .before .before .before .before .before .before .before .before .before .before .before .before .before .before .node-at2 .ensures
-      .0)
+    (c .before .before .before .before .before .before .before .before .before .before .before .before .before .before .before .before .before .before
+    .node-at .ensures .0)
+    (c .before .before .before .before .before .before .before .before .before .before .before .before .before .before .before .before .node-at2 .ensures
+    .0)
     _ _ _ _ (c .before .before .before .before .before .before .before .before .before .before .before .before .before .before .put-node .ensures)
-      (c .before .before .before .before .before .before .before .before .before .before .put-node2 .ensures)
+    (c .before .before .before .before .before .before .before .before .before .before .put-node2 .ensures)
     (c .before .before .before .before .before .before .put-position .ensures)
     (c .before .before .put-position2 .ensures)
 

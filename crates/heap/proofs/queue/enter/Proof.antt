@@ -21,9 +21,11 @@ swap-requires c κs =
     let a = s .args in
     let p = s .pre in
     let q = p .0 in
-    let g = q .room in
-    (stored (a .n) (a .k) (a .e) (a .v) (a .x) (a .w .now) q (p .1) (p .4) _ (c .before .before .before .before .before .store-time .ensures), omega arith,
-      c .before .position-of .ensures .1)
+    let g = q .room in (
+      stored (a .n) (a .k) (a .e) (a .v) (a .x) (a .w .now) q (p .1) (p .4) _ (c .before .before .before .before .before .store-time .ensures),
+      omega arith,
+      c .before .position-of .ensures .1,
+    )
 
 add-up : tie.Need-add-up
 add-up c =
@@ -38,8 +40,8 @@ up-requires c κs =
     let q = p .0 in
     let g = q .room in
     let f = enter-from (a .n) (a .k) (a .e) (a .v) (a .x) (a .w .now) q (p .1) (p .4) _
-      (c .before .before .before .before .before .before .before .before .before .store-time .ensures) _
-      (c .before .before .before .before .before .position-of .ensures .0) (p .2) (p .3) _ (c .before .before .before .swap .ensures) in
+    (c .before .before .before .before .before .before .before .before .before .store-time .ensures) _
+    (c .before .before .before .before .before .position-of .ensures .0) (p .2) (p .3) _ (c .before .before .before .swap .ensures) in
     (f .0, omega arith, omega arith, f .1)
 
 same-length : tie.Need-same-length
@@ -51,9 +53,9 @@ returns c =
     let a = s .args in
     let p = s .pre in
     enter-done (a .n) (a .k) (a .e) (a .v) (a .x) (a .w .now) (p .0) (p .1) (p .4) _
-      (c .before .before .before .before .before .before .before .before .before .before .before .before .store-time .ensures) _
-      (c .before .before .before .before .before .before .before .before .position-of .ensures .0) (p .2) (p .3) _
-      (c .before .before .before .before .before .before .swap .ensures) _ (c .before .before .up .ensures)
+    (c .before .before .before .before .before .before .before .before .before .before .before .before .store-time .ensures) _
+    (c .before .before .before .before .before .before .before .before .position-of .ensures .0) (p .2) (p .3) _
+    (c .before .before .before .before .before .before .swap .ensures) _ (c .before .before .up .ensures)
 
 pub enter-spec : {M : Type 1} → statement M
 enter-spec =

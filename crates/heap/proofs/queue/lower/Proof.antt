@@ -28,9 +28,12 @@ up-requires c κs =
     let q = p .0 in
     let h = q .held in
     let g = q .room in
-    let r = read-same (a .n) (a .k) (a .e) (a .v) (a .x) (a .w .now) q (p .1) small _ (store-time .ensures) _ (c .before .position-of .ensures .0) in
-    (stored (a .n) (a .k) (a .e) (a .v) (a .x) (a .w .now) q (p .1) small _ (store-time .ensures), omega arith, omega arith,
-      lower-from (a .n) (a .k) (a .e) (a .v) (a .x) (a .w .now) q (p .1) small _ (store-time .ensures) _ (c .before .position-of .ensures .0) (p .2) (p .3))
+    let r = read-same (a .n) (a .k) (a .e) (a .v) (a .x) (a .w .now) q (p .1) small _ (store-time .ensures) _ (c .before .position-of .ensures .0) in (
+      stored (a .n) (a .k) (a .e) (a .v) (a .x) (a .w .now) q (p .1) small _ (store-time .ensures),
+      omega arith,
+      omega arith,
+      lower-from (a .n) (a .k) (a .e) (a .v) (a .x) (a .w .now) q (p .1) small _ (store-time .ensures) _ (c .before .position-of .ensures .0) (p .2) (p .3),
+    )
 
 same-length : tie.Need-same-length
 same-length c = search needs
@@ -42,8 +45,8 @@ returns c =
     let p = s .pre in
     let small : a .x < noWalk = omega (arith, p .0 .reached (a .v) (p .1) (p .2), p .3) in
     lower-done (a .n) (a .k) (a .e) (a .v) (a .x) (a .w .now) (p .0) (p .1) small _
-      (c .before .before .before .before .before .before .before .before .store-time .ensures) _ (c .before .before .before .before .position-of .ensures .0)
-      (p .2) (p .3) _ (c .before .before .up .ensures)
+    (c .before .before .before .before .before .before .before .before .store-time .ensures) _ (c .before .before .before .before .position-of .ensures .0)
+    (p .2) (p .3) _ (c .before .before .up .ensures)
 
 pub lower-spec : {M : Type 1} → statement M
 lower-spec =

@@ -40,8 +40,11 @@ returns-2 c =
     let s = c .before .before .before .before .before .before .before .before .before .before .before in
     let a = s .args in
     let p = s .pre in
-    let less : a .x < time (a .n) (a .w .now) (a .v) = omega (arith, c .before .before .before .before .before .before .before .if1 .left,
-      c .before .before .before .before .before .before .before .before .time-of .ensures .0) in
+    let less : a .x < time (a .n) (a .w .now) (a .v) = omega (
+      arith,
+      c .before .before .before .before .before .before .before .if1 .left,
+      c .before .before .before .before .before .before .before .before .time-of .ensures .0,
+    ) in
     offer-less (a .n) (a .k) (a .e) (a .v) (a .x) (a .w .now) (p .0) (p .1) less _ _ (c .before .before .lower .ensures .went)
 
 cast-enter : tie.Need-cast-enter
@@ -61,8 +64,11 @@ returns-3 c =
     let s = c .before .before .before .before .before .before .before .before .before .before .before in
     let a = s .args in
     let p = s .pre in
-    let less : a .x < time (a .n) (a .w .now) (a .v) = omega (arith, c .before .before .before .before .before .before .before .if1 .left,
-      c .before .before .before .before .before .before .before .before .time-of .ensures .0) in
+    let less : a .x < time (a .n) (a .w .now) (a .v) = omega (
+      arith,
+      c .before .before .before .before .before .before .before .if1 .left,
+      c .before .before .before .before .before .before .before .before .time-of .ensures .0,
+    ) in
     offer-less (a .n) (a .k) (a .e) (a .v) (a .x) (a .w .now) (p .0) (p .1) less _ _ (c .before .before .enter .ensures .went)
 
 pub offer-spec : {M : Type 1} → statement M

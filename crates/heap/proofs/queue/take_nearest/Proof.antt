@@ -40,7 +40,7 @@ down-requires c κs =
     let h = p .0 .held in
     let g = p .0 .room in
     let f = take-from (a .n) (a .k) (a .e) (a .w .now) (p .0) (p .1) _ (c .before .before .before .before .before .before .before .swap .ensures) _
-      (c .before .before .before .swap2 .ensures) in
+    (c .before .before .before .swap2 .ensures) in
     (f .0, omega arith, f .1)
 
 same-length : tie.Need-same-length
@@ -52,9 +52,9 @@ returns c =
     let a = s .args in
     let p = s .pre in
     take-done (a .n) (a .k) (a .e) (a .w .now) (p .0) (p .1) _
-      (c .before .before .before .before .before .before .before .before .before .before .swap .ensures) _
-      (c .before .before .before .before .before .before .swap2 .ensures) _ (c .before .before .down .ensures) _
-      (c .before .before .before .before .before .before .before .before .before .before .before .before .node-at .ensures .0)
+    (c .before .before .before .before .before .before .before .before .before .before .swap .ensures) _
+    (c .before .before .before .before .before .before .swap2 .ensures) _ (c .before .before .down .ensures) _
+    (c .before .before .before .before .before .before .before .before .before .before .before .before .node-at .ensures .0)
 
 pub take-nearest-spec : {M : Type 1} → statement M
 take-nearest-spec =

@@ -44,7 +44,7 @@ loop-again c =
     let a = c .before .before .before .before .before .before .before .before .args in
     let l = c .before .before .before .before .before .before .loop in
     falling-turn (a .n) (a .k) (a .w .now) (l .w) (l .i) (l .level) (l .inv) (omega (arith, c .before .before .before .before .before .loop-test .taken)) _ _
-      (c .before .before .before .fall .ensures) (c .if1 .left)
+    (c .before .before .before .fall .ensures) (c .if1 .left)
 
 same-length-2 : tie.Need-same-length-2 Inv-loop μ-loop
 same-length-2 c = search needs

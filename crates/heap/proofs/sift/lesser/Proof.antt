@@ -31,9 +31,11 @@ returns c =
     let s = c .before .before .before .before .before in
     let if1 = c .before .before .before .if1 in
     let a = s .args in
-    let p = s .pre in
-    (λ _. lesser-of (a .n) (a .k) (a .i) (a .w .now) (p .0) (p .1) _ _ _ (c .before .before .key-at .ensures) (c .before .key-at2 .ensures)
-      (c .less .ensures .0) (if1 .taken), λ l. omega (arith, if1 .taken))
+    let p = s .pre in (
+      λ _. lesser-of (a .n) (a .k) (a .i) (a .w .now) (p .0) (p .1) _ _ _ (c .before .before .key-at .ensures) (c .before .key-at2 .ensures)
+          (c .less .ensures .0) (if1 .taken),
+      λ l. omega (arith, if1 .taken),
+    )
 
 returns-2 : tie.Need-returns-2
 returns-2 c =

@@ -29,7 +29,7 @@ returns-2 c =
     let a = s .args in
     let p = s .pre in
     rise-stop (a .n) (a .k) (a .i) (a .w .now) (p .0) (p .1) (p .2) (p .3) (c .before .before .before .before .before .if1 .left)
-      (omega (arith, c .before .before .before .key-at .ensures, c .before .key-at2 .ensures, c .if2 .taken))
+    (omega (arith, c .before .before .before .key-at .ensures, c .before .key-at2 .ensures, c .if2 .taken))
 
 swap-requires : tie.Need-swap-requires
 swap-requires c κs = search needs
@@ -43,9 +43,13 @@ returns-3 c =
     let a = s .args in
     let p = s .pre in
     rise-move (a .n) (a .k) (a .i) (a .w .now) (p .0) (p .1) (p .2) (p .3)
-      (c .before .before .before .before .before .before .before .before .before .if1 .left)
-      (omega (arith, c .before .before .before .before .before .before .before .key-at .ensures, c .before .before .before .before .before .key-at2 .ensures,
-      c .before .before .before .before .if2 .left)) _ (c .before .before .swap .ensures)
+    (c .before .before .before .before .before .before .before .before .before .if1 .left)
+    (omega (
+      arith,
+      c .before .before .before .before .before .before .before .key-at .ensures,
+      c .before .before .before .before .before .key-at2 .ensures,
+      c .before .before .before .before .if2 .left,
+    )) _ (c .before .before .swap .ensures)
 
 pub rise-spec : {M : Type 1} → statement M
 rise-spec =

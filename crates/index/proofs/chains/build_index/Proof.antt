@@ -41,8 +41,8 @@ returns-2 c =
     let a = s .args in
     let p = s .pre in
     laid-index (a .edges .now) (a .closed .now) (a .n) (p .1 .0) (p .1 .1) _ (a .work .now) _ (c .before .before .before .before .index-at .ensures)
-      (omega (arith, c .before .before .before .before .before .if1 .left)) (p .0 .1) (c .before .before .build .kept .1 .1 .0)
-      (c .before .before .build .ensures)
+    (omega (arith, c .before .before .before .before .before .if1 .left)) (p .0 .1) (c .before .before .build .kept .1 .1 .0)
+    (c .before .before .build .ensures)
 
 pub build-index-spec : {M : Type 1} → statement M
 build-index-spec =

@@ -49,9 +49,14 @@ loop-less c = search needs
 
 loop-again : tie.Need-loop-again Inv-loop μ-loop
 loop-again c =
-    let l = c .before .before .before .before .before .before .loop in
-    (omega arith, search needs, omega (arith, c .before .before .list-open .ensures .0 .more), omega (arith, c .before .before .list-open .ensures .0 .few),
-      search needs, chained-more _ _ _ _ (l .i) _ _ _ _ _ refl (l .inv .5) (c .before .before .list-open .ensures))
+    let l = c .before .before .before .before .before .before .loop in (
+      omega arith,
+      search needs,
+      omega (arith, c .before .before .list-open .ensures .0 .more),
+      omega (arith, c .before .before .list-open .ensures .0 .few),
+      search needs,
+      chained-more _ _ _ _ (l .i) _ _ _ _ _ refl (l .inv .5) (c .before .before .list-open .ensures),
+    )
 
 same-length-2 : tie.Need-same-length-2 Inv-loop μ-loop
 same-length-2 c = search needs

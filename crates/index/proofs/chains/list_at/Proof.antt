@@ -43,10 +43,10 @@ returns-2 c =
     let s = c .before .before .before .before .before .before .before .before .before .before .before .before .before .before .before .before in
     let a = s .args in
     now-listed (a .ix .now) (a .n) (a .k) (a .x) (a .q) _
-      (c .before .before .before .before .before .before .before .before .before .before .before .before .before .next-of .ensures .0) _ _ _
-      (c .before .before .before .before .before .before .before .before .block-of .ensures .0)
-      (c .before .before .before .before .before .before .put-link .ensures) (c .before .before .put-link2 .ensures) (search needs) (search needs)
-      (search needs) (search needs) (s .pre .1)
+    (c .before .before .before .before .before .before .before .before .before .before .before .before .before .next-of .ensures .0) _ _ _
+    (c .before .before .before .before .before .before .before .before .block-of .ensures .0)
+    (c .before .before .before .before .before .before .put-link .ensures) (c .before .before .put-link2 .ensures) (search needs) (search needs)
+    (search needs) (search needs) (s .pre .1)
 
 pub list-at-spec : {M : Type 1} → statement M
 list-at-spec =

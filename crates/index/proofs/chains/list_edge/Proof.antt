@@ -17,9 +17,16 @@ list-at-requires c κs =
 
 list-at-requires-2 : tie.Need-list-at-requires-2
 list-at-requires-2 c κs =
-    let list-at = c .before .before .before .list-at in
-    ((omega (arith, c .before .before .before .before .before .edge-second .ensures .0), omega (arith, list-at .ensures .0 .more),
-      omega (arith, list-at .ensures .0 .few), search needs, search needs), list-at .ensures .0 .growing)
+    let list-at = c .before .before .before .list-at in (
+      (
+        omega (arith, c .before .before .before .before .before .edge-second .ensures .0),
+        omega (arith, list-at .ensures .0 .more),
+        omega (arith, list-at .ensures .0 .few),
+        search needs,
+        search needs,
+      ),
+      list-at .ensures .0 .growing,
+    )
 
 same-length : tie.Need-same-length
 same-length c = search needs
@@ -30,8 +37,8 @@ returns c =
     let edge-second = c .before .before .before .before .before .before .before .before .edge-second in
     let a = c .before .before .before .before .before .before .before .before .before .before .before .before .args in
     edge-listed (a .edges .now) (a .i) (a .n) (a .k) (a .q) (a .ix .now) _ _ _ _ _ _ (edge-first .ensures .0) (edge-second .ensures .0)
-      (omega (arith, edge-first .ensures .0)) (omega (arith, edge-second .ensures .0)) (c .before .before .before .before .before .before .list-at .ensures)
-      (c .before .before .list-at2 .ensures)
+    (omega (arith, edge-first .ensures .0)) (omega (arith, edge-second .ensures .0)) (c .before .before .before .before .before .before .list-at .ensures)
+    (c .before .before .list-at2 .ensures)
 
 pub list-edge-spec : {M : Type 1} → statement M
 list-edge-spec =

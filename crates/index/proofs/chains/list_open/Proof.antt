@@ -25,8 +25,8 @@ same-length c = search needs
 returns : tie.Need-returns
 returns c =
     open-listed _ _ _ _ _ _ _ _ _ (c .before .before .before .before .before .before .before .before .before .pre .0 .2)
-      (sym (c .before .before .before .before .before .is-open .ensures) ∙ c .before .before .before .before .if1 .taken)
-      (c .before .before .list-edge .ensures)
+    (sym (c .before .before .before .before .before .is-open .ensures) ∙ c .before .before .before .before .if1 .taken)
+    (c .before .before .list-edge .ensures)
 
 returns-2 : tie.Need-returns-2
 returns-2 c =

@@ -36,18 +36,24 @@ loop-less : tie.Need-loop-less Inv-loop μ-loop
 loop-less c = search needs
 
 loop-again : tie.Need-loop-again Inv-loop μ-loop
-loop-again c =
-    (omega arith, omega arith, hidden-above _ _ _ (c .before .before .before .before .before .before .pre) _ _ _ _
-      (c .before .before .before .before .loop .inv .2) (omega arith) (c .before .before .number .ensures .0) (c .if2 .taken))
+loop-again c = (
+  omega arith,
+  omega arith,
+  hidden-above _ _ _ (c .before .before .before .before .before .before .pre) _ _ _ _
+      (c .before .before .before .before .loop .inv .2) (omega arith) (c .before .before .number .ensures .0) (c .if2 .taken),
+)
 
 loop-less-2 : tie.Need-loop-less-2 Inv-loop μ-loop
 loop-less-2 c = search needs
 
 loop-again-2 : tie.Need-loop-again-2 Inv-loop μ-loop
-loop-again-2 c =
-    (omega arith, omega arith, hidden-below _ _ _ (c .before .before .before .before .before .before .pre) _ _ _ _
+loop-again-2 c = (
+  omega arith,
+  omega arith,
+  hidden-below _ _ _ (c .before .before .before .before .before .before .pre) _ _ _ _
       (c .before .before .before .before .loop .inv .2) (omega arith) (c .before .before .number .ensures .0)
-      (omega (arith, c .before .if1 .left, c .if2 .left)))
+      (omega (arith, c .before .if1 .left, c .if2 .left)),
+)
 
 returns-2 : tie.Need-returns-2 Inv-loop μ-loop
 returns-2 c = hidden-open _ _ _ (c .before .before .before .pre) _ _ (omega arith) (c .before .loop .inv .2)

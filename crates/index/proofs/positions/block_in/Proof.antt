@@ -20,9 +20,11 @@ block-of-requires c κs = omega (arith, place-fits _ _ (c .before .before .pre .
 returns : tie.Need-returns
 returns c =
     let p = c .before .before .before .pre in
-    let a = c .before .before .before .args in
-    (c .block-of .ensures .0 ∙ ap (λ (z : ℕ). block (a .work .now) (z + a .p)) (c .before .index-at .ensures) ∙
-      sym (block-there (a .n) (a .work .now) (p .1) (a .p) (p .2)), c .block-of .ensures .1)
+    let a = c .before .before .before .args in (
+      c .block-of .ensures .0 ∙ ap (λ (z : ℕ). block (a .work .now) (z + a .p)) (c .before .index-at .ensures) ∙
+          sym (block-there (a .n) (a .work .now) (p .1) (a .p) (p .2)),
+      c .block-of .ensures .1,
+    )
 
 pub block-in-spec : {M : Type 1} → statement M
 block-in-spec = tie.close (tie.spec index-at-requires add-block-of block-of-requires returns)

@@ -20,9 +20,11 @@ next-of-requires c κs = omega (arith, place-fits _ _ (c .before .before .pre .1
 returns : tie.Need-returns
 returns c =
     let p = c .before .before .before .pre in
-    let a = c .before .before .before .args in
-    (c .next-of .ensures .0 ∙ ap (λ (z : ℕ). next (a .work .now) (z + a .p)) (c .before .index-at .ensures) ∙
-      sym (next-there (a .n) (a .work .now) (p .1) (a .p) (p .2)), c .next-of .ensures .1)
+    let a = c .before .before .before .args in (
+      c .next-of .ensures .0 ∙ ap (λ (z : ℕ). next (a .work .now) (z + a .p)) (c .before .index-at .ensures) ∙
+          sym (next-there (a .n) (a .work .now) (p .1) (a .p) (p .2)),
+      c .next-of .ensures .1,
+    )
 
 pub next-in-spec : {M : Type 1} → statement M
 next-in-spec = tie.close (tie.spec index-at-requires add-next-of next-of-requires returns)

@@ -28,27 +28,27 @@ write-text-requires-2 c κs =
     let s = c .before .before .before .before .before .before .before .before .before .before .before .before in
     let a = s .args in
     room-first _ (afterTransit (a .transit)) (room-second _ (afterCount (a .transit))
-      (room-second _ (afterPlaces (a .n) (a .transit)) (rw header-parts at (s .pre))
-      (c .before .before .before .before .before .before .before .before .write-text .ensures)) (c .before .before .before .before .write-field .ensures))
+    (room-second _ (afterPlaces (a .n) (a .transit)) (rw header-parts at (s .pre))
+    (c .before .before .before .before .before .before .before .before .write-text .ensures)) (c .before .before .before .before .write-field .ensures))
 
 write-decimal-requires : tie.Need-write-decimal-requires
 write-decimal-requires c κs =
     let s = c .before .before .before .before .before .before .before .before .before .before .before .before .before .before .before .before in
     let a = s .args in
     room-first _ lineFeed (room-second _ (afterTransit (a .transit)) (room-second _ (afterCount (a .transit))
-      (room-second _ (afterPlaces (a .n) (a .transit)) (rw header-parts at (s .pre))
-      (c .before .before .before .before .before .before .before .before .before .before .before .before .write-text .ensures))
-      (c .before .before .before .before .before .before .before .before .write-field .ensures)) (c .before .before .before .write-text2 .ensures))
+    (room-second _ (afterPlaces (a .n) (a .transit)) (rw header-parts at (s .pre))
+    (c .before .before .before .before .before .before .before .before .before .before .before .before .write-text .ensures))
+    (c .before .before .before .before .before .before .before .before .write-field .ensures)) (c .before .before .before .write-text2 .ensures))
 
 write-byte-requires : tie.Need-write-byte-requires
 write-byte-requires c κs =
     let s = c .before .before .before .before .before .before .before .before .before .before .before .before .before .before .before .before .before .before .before .before in
     let a = s .args in
     room-second _ lineFeed (room-second _ (afterTransit (a .transit)) (room-second _ (afterCount (a .transit))
-      (room-second _ (afterPlaces (a .n) (a .transit)) (rw header-parts at (s .pre))
-      (c .before .before .before .before .before .before .before .before .before .before .before .before .before .before .before .before .write-text
-      .ensures)) (c .before .before .before .before .before .before .before .before .before .before .before .before .write-field .ensures))
-      (c .before .before .before .before .before .before .before .write-text2 .ensures)) (c .before .before .before .write-decimal .ensures)
+    (room-second _ (afterPlaces (a .n) (a .transit)) (rw header-parts at (s .pre))
+    (c .before .before .before .before .before .before .before .before .before .before .before .before .before .before .before .before .write-text
+    .ensures)) (c .before .before .before .before .before .before .before .before .before .before .before .before .write-field .ensures))
+    (c .before .before .before .before .before .before .before .write-text2 .ensures)) (c .before .before .before .write-decimal .ensures)
 
 same-length : tie.Need-same-length
 same-length c = search needs
@@ -56,12 +56,12 @@ same-length c = search needs
 returns : tie.Need-returns
 returns c =
     let s = c .before .before .before .before .before .before .before .before .before .before .before .before .before .before .before .before .before .before
-      .before .before .before .before .before in
+    .before .before .before .before .before in
     let p = s .pre in
     let a = s .args in
     let write-text =
-      c .before .before .before .before .before .before .before .before .before .before .before .before .before .before .before .before .before .before .before
-      .write-text in
+    c .before .before .before .before .before .before .before .before .before .before .before .before .before .before .before .before .before .before .before
+    .write-text in
     let write-field = c .before .before .before .before .before .before .before .before .before .before .before .before .before .before .before .write-field in
     let write-text2 = c .before .before .before .before .before .before .before .before .before .before .write-text2 in
     let one = rw header-parts at (p) in
@@ -69,8 +69,8 @@ returns c =
     let three = room-second _ (afterCount (a .transit)) two (write-field .ensures) in
     let four = room-second _ (afterTransit (a .transit)) three (write-text2 .ensures) in
     holds _ (p) (rw header-parts (wrote-both _ _ one (write-text .ensures)
-      (wrote-both _ _ two (write-field .ensures) (wrote-both _ _ three (write-text2 .ensures)
-      (wrote-both _ _ four (c .before .before .before .before .before .before .write-decimal .ensures) (c .before .before .write-byte .ensures))))))
+    (wrote-both _ _ two (write-field .ensures) (wrote-both _ _ three (write-text2 .ensures)
+    (wrote-both _ _ four (c .before .before .before .before .before .before .write-decimal .ensures) (c .before .before .write-byte .ensures))))))
 
 pub write-header-spec : {M : Type 1} → statement M
 write-header-spec =

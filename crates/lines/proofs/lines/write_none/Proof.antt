@@ -24,7 +24,7 @@ returns : tie.Need-returns
 unfolding noneText
 returns c =
     wrote-both _ _ (c .before .before .before .before .before .before .before .before .before .before .pre)
-      (c .before .before .before .before .before .before .write-text .ensures) (c .before .before .write-kind .ensures)
+    (c .before .before .before .before .before .before .write-text .ensures) (c .before .before .write-kind .ensures)
 
 pub write-none-spec : {M : Type 1} → statement M
 write-none-spec =

@@ -20,15 +20,15 @@ write-field-requires-2 c κs =
 write-answer-requires : tie.Need-write-answer-requires
 write-answer-requires c κs =
     room-first _ lineFeed (room-second _ _ (room-second _ _ (rw pair-parts at
-      (c .before .before .before .before .before .before .before .before .before .before .pre))
-      (c .before .before .before .before .before .before .before .write-field .ensures)) (c .before .before .before .write-field2 .ensures))
+    (c .before .before .before .before .before .before .before .before .before .before .pre))
+    (c .before .before .before .before .before .before .before .write-field .ensures)) (c .before .before .before .write-field2 .ensures))
 
 write-byte-requires : tie.Need-write-byte-requires
 write-byte-requires c κs =
     room-second _ lineFeed (room-second _ _ (room-second _ _ (rw pair-parts at
-      (c .before .before .before .before .before .before .before .before .before .before .before .before .before .before .pre))
-      (c .before .before .before .before .before .before .before .before .before .before .before .write-field .ensures))
-      (c .before .before .before .before .before .before .before .write-field2 .ensures)) (c .before .before .before .write-answer .ensures)
+    (c .before .before .before .before .before .before .before .before .before .before .before .before .before .before .pre))
+    (c .before .before .before .before .before .before .before .before .before .before .before .write-field .ensures))
+    (c .before .before .before .before .before .before .before .write-field2 .ensures)) (c .before .before .before .write-answer .ensures)
 
 same-length : tie.Need-same-length
 same-length c = search needs
@@ -44,7 +44,7 @@ returns c =
     let two = room-second _ (fieldText (a .t) ++ after) one (write-field .ensures) in
     let three = room-second _ after two (write-field2 .ensures) in
     rw pair-parts (wrote-both _ _ one (write-field .ensures) (wrote-both _ _ two (write-field2 .ensures)
-      (wrote-both _ lineFeed three (c .before .before .before .before .before .before .write-answer .ensures) (c .before .before .write-byte .ensures))))
+    (wrote-both _ lineFeed three (c .before .before .before .before .before .before .write-answer .ensures) (c .before .before .write-byte .ensures))))
 
 pub write-pair-spec : {M : Type 1} → statement M
 write-pair-spec =

@@ -21,8 +21,8 @@ write-decimal-requires c κs =
 write-byte-requires : tie.Need-write-byte-requires
 write-byte-requires c κs =
     room-second _ lineFeed
-      (room-second _ _ (rw refused-parts at (c .before .before .before .before .before .before .before .before .before .before .before .pre))
-      (c .before .before .before .before .before .before .before .write-text .ensures)) (c .before .before .before .write-decimal .ensures)
+    (room-second _ _ (rw refused-parts at (c .before .before .before .before .before .before .before .before .before .before .before .pre))
+    (c .before .before .before .before .before .before .before .write-text .ensures)) (c .before .before .before .write-decimal .ensures)
 
 same-length : tie.Need-same-length
 same-length c = search needs
@@ -35,7 +35,7 @@ returns c =
     let one = rw refused-parts at (p) in
     let two = room-second _ (decimal (s .args .rule) ++ lineFeed) one (write-text .ensures) in
     holds _ (p) (rw refused-parts (wrote-both _ _ one (write-text .ensures)
-      (wrote-both _ _ two (c .before .before .before .before .before .before .write-decimal .ensures) (c .before .before .write-byte .ensures))))
+    (wrote-both _ _ two (c .before .before .before .before .before .before .write-decimal .ensures) (c .before .before .write-byte .ensures))))
 
 pub write-refused-spec : {M : Type 1} → statement M
 write-refused-spec =

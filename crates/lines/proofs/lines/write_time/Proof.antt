@@ -21,7 +21,7 @@ returns : tie.Need-returns
 unfolding timeText
 returns c =
     wrote-both _ _ (c .before .before .before .before .before .before .before .before .before .pre)
-      (c .before .before .before .before .before .before .write-field .ensures) (c .before .before .write-kind .ensures)
+    (c .before .before .before .before .before .before .write-field .ensures) (c .before .before .write-kind .ensures)
 
 pub write-time-spec : {M : Type 1} → statement M
 write-time-spec = tie.close (tie.spec write-field-requires write-kind-requires same-length returns)

@@ -25,9 +25,10 @@ print-header-requires c κs = (eq-eqb _ _ (sym (c .before .before .shape-refusal
 
 open-words-requires : tie.Need-open-words-requires
 unfolding wellShaped
-open-words-requires c κs =
-    (eq-eqb _ _ (sym (c .before .before .before .before .before .before .shape-refusal .ensures) ∙ c .before .before .before .before .before .if1 .left),
-      words-enough _ _ (c .before .before .before .before .before .before .before .before .before .before .pre .0))
+open-words-requires c κs = (
+  eq-eqb _ _ (sym (c .before .before .before .before .before .before .shape-refusal .ensures) ∙ c .before .before .before .before .before .if1 .left),
+  words-enough _ _ (c .before .before .before .before .before .before .before .before .before .before .pre .0),
+)
 
 print-rows-requires : tie.Need-print-rows-requires
 print-rows-requires c κs = (c .before .before .before .before .open-words .ensures .0, search needs)

@@ -39,7 +39,7 @@ unfolding timeAnswer answerOf
 returns-2 c =
     let p = c .before .before .before .before .before .before .before .pre in
     rw (sym (c .before .before .before .before .opened-kind .ensures) ∙ c .before .before .enum-told2 .given .1)
-      (c .answer-of .ensures ∙ local-is _ (all-shaped _ (p .0 .shape)) _ _ _ (p .1) (toward-word _ _ _ _ (p .3) (p .2)))
+    (c .answer-of .ensures ∙ local-is _ (all-shaped _ (p .0 .shape)) _ _ _ (p .1) (toward-word _ _ _ _ (p .3) (p .2)))
 
 pub answer-between-spec : {M : Type 1} → statement M
 answer-between-spec =

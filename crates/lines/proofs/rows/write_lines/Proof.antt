@@ -38,9 +38,12 @@ loop-less c = search needs
 
 loop-again : tie.Need-loop-again Inv-loop μ-loop
 loop-again c =
-    let l = c .before .before .before .before .before .loop in
-    (search needs, search needs, begun-next _ _ (l .inv .2) (omega (arith, l .inv .0, c .before .before .before .before .loop-test .taken))
-      (c .before .before .write-line .ensures))
+    let l = c .before .before .before .before .before .loop in (
+      search needs,
+      search needs,
+      begun-next _ _ (l .inv .2) (omega (arith, l .inv .0, c .before .before .before .before .loop-test .taken))
+          (c .before .before .write-line .ensures),
+    )
 
 same-length : tie.Need-same-length Inv-loop μ-loop
 same-length c = search needs

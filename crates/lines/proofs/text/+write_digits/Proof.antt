@@ -91,9 +91,11 @@ write-digits-write-digits-requires : (t : ℕ) → write-digits-lts.Need-write-d
   write-digits-below t,
   write-digits.Post,
 ) (write-digits-at t) write-digits.Post
-write-digits-write-digits-requires t c κs =
-    (omega (arith, c .before .before .if1 .left), room-first _ _ (rw (digits-more _ _ (c .before .before .if1 .left) (c .before .if2 .left)) at
-      (c .before .before .before .before .pre .1)))
+write-digits-write-digits-requires t c κs = (
+  omega (arith, c .before .before .if1 .left),
+  room-first _ _ (rw (digits-more _ _ (c .before .before .if1 .left) (c .before .if2 .left)) at
+      (c .before .before .before .before .pre .1)),
+)
 
 write-digits-add-write-byte-2 : (t : ℕ) → write-digits-lts.Need-add-write-byte-2 (
   write-byte-reads.Asked,
@@ -119,7 +121,7 @@ write-digits-write-byte-requires-2 : (t : ℕ) → write-digits-lts.Need-write-b
 ) (write-digits-at t) write-digits.Post
 write-digits-write-byte-requires-2 t c κs =
     room-second _ _ (rw (digits-more _ _ (c .before .before .before .before .before .before .if1 .left) (c .before .before .before .before .before .if2 .left))
-      at (c .before .before .before .before .before .before .before .before .pre .1)) (c .before .before .before .write-digits .ensures)
+    at (c .before .before .before .before .before .before .before .before .pre .1)) (c .before .before .before .write-digits .ensures)
 
 write-digits-same-length-2 : (t : ℕ) → write-digits-lts.Need-same-length-2 (
   write-byte-reads.Asked,
@@ -139,8 +141,8 @@ write-digits-returns-3 t c =
     let if1 = c .before .before .before .before .before .before .before .before .before .if1 in
     let if2 = c .before .before .before .before .before .before .before .before .if2 in
     rw (digits-more _ _ (if1 .left) (if2 .left)) (wrote-both _ _ (rw (digits-more _ _ (if1 .left) (if2 .left)) at
-      (c .before .before .before .before .before .before .before .before .before .before .before .pre .1))
-      (c .before .before .before .before .before .before .write-digits .ensures) (c .before .before .write-byte2 .ensures))
+    (c .before .before .before .before .before .before .before .before .before .before .before .pre .1))
+    (c .before .before .before .before .before .before .write-digits .ensures) (c .before .before .write-byte2 .ensures))
 
 pub +write-digits-spec : {M : Type 1} → statement M
 +write-digits-spec = close μ-write-digits λ t. write-digits-lts.spec (

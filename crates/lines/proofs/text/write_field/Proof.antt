@@ -21,7 +21,7 @@ returns : tie.Need-returns
 unfolding fieldText
 returns c =
     wrote-both _ blank (c .before .before .before .before .before .before .before .before .before .pre)
-      (c .before .before .before .before .before .before .write-decimal .ensures) (c .before .before .write-byte .ensures)
+    (c .before .before .before .before .before .before .write-decimal .ensures) (c .before .before .write-byte .ensures)
 
 pub write-field-spec : {M : Type 1} → statement M
 write-field-spec =

@@ -53,8 +53,8 @@ returns-2 c =
     let p = s .pre in
     let a = s .args in
     arc-marked (a .work .now) (a .n) (a .v) (a .to) (a .cost) (p .2) (p .3)
-      (sym (c .before .before .before .contains .ensures) ∙ not-false _ (c .before .before .if1 .left)) _ _ (c .before .time-of .ensures .1)
-      (c .time-of2 .ensures .1)
+    (sym (c .before .before .before .contains .ensures) ∙ not-false _ (c .before .before .if1 .left)) _ _ (c .before .time-of .ensures .1)
+    (c .time-of2 .ensures .1)
 
 pub leads-to-spec : {M : Type 1} → statement M
 leads-to-spec =

@@ -19,9 +19,11 @@ returns : tie.Need-returns
 returns c =
     let s = c .before .before .before .before .before .before .before .before .before in
     let a = s .args in
-    let p = s .pre .0 in
-    (access-listed (a .nodes .now) (a .edges .now) (a .closed .now) (a .grid) (a .n) (p .1) (a .u) (p .3) own _ _
-      (c .before .before .before .before .cell .ensures) (c .before .before .cell-access .ensures .0), c .before .before .cell-access .ensures .1)
+    let p = s .pre .0 in (
+      access-listed (a .nodes .now) (a .edges .now) (a .closed .now) (a .grid) (a .n) (p .1) (a .u) (p .3) own _ _
+          (c .before .before .before .before .cell .ensures) (c .before .before .cell-access .ensures .0),
+      c .before .before .cell-access .ensures .1,
+    )
 
 pub own-access-spec : {M : Type 1} → statement M
 own-access-spec = tie.close (tie.spec cell-requires cell-access-requires same-length returns)

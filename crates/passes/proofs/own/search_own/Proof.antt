@@ -16,9 +16,11 @@ same-length c = search needs
 returns : tie.Need-returns
 returns c =
     let a = c .before .before .before .before .before .before .before .before .args in
-    let s = c .before .before .search-wanted .ensures in
-    (list-searched (a .n) (a .left) (a .work .now) (c .before .before .before .before .before .before .before .before .pre .3) _ (s .1)
-        (arcsIn (a .edges .now) (a .closed .now)) (a .v) _ (s .0 .0), s .1)
+    let s = c .before .before .search-wanted .ensures in (
+      list-searched (a .n) (a .left) (a .work .now) (c .before .before .before .before .before .before .before .before .pre .3) _ (s .1)
+          (arcsIn (a .edges .now) (a .closed .now)) (a .v) _ (s .0 .0),
+      s .1,
+    )
 
 returns-2 : tie.Need-returns-2
 returns-2 c = let a = c .before .before .before .before .args in (list-of-none (a .n) (a .left) (a .work .now) (c .before .before .before .before .pre .3) (omega (arith, c .if1 .left)) _ _ _, refl)

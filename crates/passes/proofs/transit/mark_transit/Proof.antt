@@ -35,10 +35,14 @@ pass-cell-requires c κs =
     let clear = c .before .before .before .before .before .clear in
     let a = s .args in
     let p = pre .0 in
-    let r = roads-only (a .edges .now) (a .closed .now) (a .n) (a .work .now) _ _ _ (omega arith) (clear .ensures .1) (pre .1) in
-    ((p .0, p .1, p .2, c .before .loop-test .taken, omega (arith, p .3, c .before .before .loop .inv .1, clear .kept .0)),
-      (c .before .before .loop .inv .2, roads-kept (a .edges .now) (a .closed .now) (a .n) _ (c .before .before .loop .work) (c .before .before .loop .inv .3)
-      r))
+    let r = roads-only (a .edges .now) (a .closed .now) (a .n) (a .work .now) _ _ _ (omega arith) (clear .ensures .1) (pre .1) in (
+      (p .0, p .1, p .2, c .before .loop-test .taken, omega (arith, p .3, c .before .before .loop .inv .1, clear .kept .0)),
+      (
+        c .before .before .loop .inv .2,
+        roads-kept (a .edges .now) (a .closed .now) (a .n) _ (c .before .before .loop .work) (c .before .before .loop .inv .3)
+            r,
+      ),
+    )
 
 add-u : tie.Need-add-u Inv-loop μ-loop
 add-u c = search needs
@@ -48,9 +52,12 @@ loop-less c = search needs
 
 loop-again : tie.Need-loop-again Inv-loop μ-loop
 loop-again c =
-    let l = c .before .before .before .before .before .loop in
-    (omega (arith, c .before .before .before .before .loop-test .taken), c .before .before .pass-cell .kept .1 .1 .1 .1 .1 .1 .0 ∙ l .inv .1,
-      c .before .before .pass-cell .ensures .0, c .before .before .pass-cell .ensures .1 ∙ l .inv .3)
+    let l = c .before .before .before .before .before .loop in (
+      omega (arith, c .before .before .before .before .loop-test .taken),
+      c .before .before .pass-cell .kept .1 .1 .1 .1 .1 .1 .0 ∙ l .inv .1,
+      c .before .before .pass-cell .ensures .0,
+      c .before .before .pass-cell .ensures .1 ∙ l .inv .3,
+    )
 
 same-length : tie.Need-same-length Inv-loop μ-loop
 same-length c = search needs

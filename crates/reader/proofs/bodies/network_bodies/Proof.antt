@@ -27,8 +27,8 @@ returns-3 : tie.Need-returns-3
 unfolding nodeCount edgeCount
 returns-3 c =
     goes 3 _ (sym (c .before .before .before .before .before .nodes-broken .ensures) ∙ c .before .before .before .before .if1 .left)
-      (goes 4 _ (sym (c .before .before .before .coordinates-broken .ensures) ∙ c .before .before .if2 .left)
-      (stops 5 _ (sym (c .before .edges-broken .ensures) ∙ c .if3 .taken)))
+    (goes 4 _ (sym (c .before .before .before .coordinates-broken .ensures) ∙ c .before .before .if2 .left)
+    (stops 5 _ (sym (c .before .edges-broken .ensures) ∙ c .if3 .taken)))
 
 some-edge-broken-requires : tie.Need-some-edge-broken-requires
 some-edge-broken-requires c κs = search needs
@@ -37,10 +37,10 @@ returns-4 : tie.Need-returns-4
 unfolding nodeCount edgeCount
 returns-4 c =
     goes 3 _ (sym (c .before .before .before .before .before .before .before .nodes-broken .ensures) ∙
-      c .before .before .before .before .before .before .if1 .left) (goes 4 _
-      (sym (c .before .before .before .before .before .coordinates-broken .ensures) ∙ c .before .before .before .before .if2 .left)
-      (goes 5 _ (sym (c .before .before .before .edges-broken .ensures) ∙ c .before .before .if3 .left)
-      (stops 6 _ (sym (c .before .some-edge-broken .ensures) ∙ c .if4 .taken))))
+    c .before .before .before .before .before .before .if1 .left) (goes 4 _
+    (sym (c .before .before .before .before .before .coordinates-broken .ensures) ∙ c .before .before .before .before .if2 .left)
+    (goes 5 _ (sym (c .before .before .before .edges-broken .ensures) ∙ c .before .before .if3 .left)
+    (stops 6 _ (sym (c .before .some-edge-broken .ensures) ∙ c .if4 .taken))))
 
 numbers-broken-requires : tie.Need-numbers-broken-requires
 numbers-broken-requires c κs = search needs
@@ -49,23 +49,23 @@ returns-5 : tie.Need-returns-5
 unfolding nodeCount edgeCount
 returns-5 c =
     goes 3 _ (sym (c .before .before .before .before .before .before .before .before .before .nodes-broken .ensures) ∙
-      c .before .before .before .before .before .before .before .before .if1 .left)
-      (goes 4 _ (sym (c .before .before .before .before .before .before .before .coordinates-broken .ensures) ∙
-      c .before .before .before .before .before .before .if2 .left)
-      (goes 5 _ (sym (c .before .before .before .before .before .edges-broken .ensures) ∙ c .before .before .before .before .if3 .left)
-      (goes 6 _ (sym (c .before .before .before .some-edge-broken .ensures) ∙ c .before .before .if4 .left)
-      (stops 7 _ (sym (c .before .numbers-broken .ensures) ∙ c .if5 .taken)))))
+    c .before .before .before .before .before .before .before .before .if1 .left)
+    (goes 4 _ (sym (c .before .before .before .before .before .before .before .coordinates-broken .ensures) ∙
+    c .before .before .before .before .before .before .if2 .left)
+    (goes 5 _ (sym (c .before .before .before .before .before .edges-broken .ensures) ∙ c .before .before .before .before .if3 .left)
+    (goes 6 _ (sym (c .before .before .before .some-edge-broken .ensures) ∙ c .before .before .if4 .left)
+    (stops 7 _ (sym (c .before .numbers-broken .ensures) ∙ c .if5 .taken)))))
 
 returns-6 : tie.Need-returns-6
 unfolding nodeCount edgeCount
 returns-6 c =
     goes 3 _ (sym (c .before .before .before .before .before .before .before .before .before .nodes-broken .ensures) ∙
-      c .before .before .before .before .before .before .before .before .if1 .left)
-      (goes 4 _ (sym (c .before .before .before .before .before .before .before .coordinates-broken .ensures) ∙
-      c .before .before .before .before .before .before .if2 .left)
-      (goes 5 _ (sym (c .before .before .before .before .before .edges-broken .ensures) ∙ c .before .before .before .before .if3 .left)
-      (goes 6 _ (sym (c .before .before .before .some-edge-broken .ensures) ∙ c .before .before .if4 .left)
-      (goes 7 _ (sym (c .before .numbers-broken .ensures) ∙ c .if5 .left) none))))
+    c .before .before .before .before .before .before .before .before .if1 .left)
+    (goes 4 _ (sym (c .before .before .before .before .before .before .before .coordinates-broken .ensures) ∙
+    c .before .before .before .before .before .before .if2 .left)
+    (goes 5 _ (sym (c .before .before .before .before .before .edges-broken .ensures) ∙ c .before .before .before .before .if3 .left)
+    (goes 6 _ (sym (c .before .before .before .some-edge-broken .ensures) ∙ c .before .before .if4 .left)
+    (goes 7 _ (sym (c .before .numbers-broken .ensures) ∙ c .if5 .left) none))))
 
 pub network-bodies-spec : {M : Type 1} → statement M
 network-bodies-spec =

@@ -29,8 +29,8 @@ returns-3 : tie.Need-returns-3
 unfolding transitCount
 returns-3 c =
     goes 8 _ (sym (c .before .before .before .before .before .grid-body-broken .ensures) ∙ c .before .before .before .before .if1 .left)
-      (goes 9 _ (sym (c .before .before .before .numbers-broken .ensures) ∙ c .before .before .if2 .left)
-      (stops 10 _ (sym (c .before .access-broken .ensures) ∙ c .if3 .taken)))
+    (goes 9 _ (sym (c .before .before .before .numbers-broken .ensures) ∙ c .before .before .if2 .left)
+    (stops 10 _ (sym (c .before .access-broken .ensures) ∙ c .if3 .taken)))
 
 table-broken-requires : tie.Need-table-broken-requires
 table-broken-requires c κs =
@@ -41,19 +41,19 @@ returns-4 : tie.Need-returns-4
 unfolding transitCount
 returns-4 c =
     goes 8 _ (sym (c .before .before .before .before .before .before .before .grid-body-broken .ensures) ∙
-      c .before .before .before .before .before .before .if1 .left) (goes 9 _
-      (sym (c .before .before .before .before .before .numbers-broken .ensures) ∙ c .before .before .before .before .if2 .left)
-      (goes 10 _ (sym (c .before .before .before .access-broken .ensures) ∙ c .before .before .if3 .left)
-      (stops 11 _ (sym (c .before .table-broken .ensures) ∙ c .if4 .taken))))
+    c .before .before .before .before .before .before .if1 .left) (goes 9 _
+    (sym (c .before .before .before .before .before .numbers-broken .ensures) ∙ c .before .before .before .before .if2 .left)
+    (goes 10 _ (sym (c .before .before .before .access-broken .ensures) ∙ c .before .before .if3 .left)
+    (stops 11 _ (sym (c .before .table-broken .ensures) ∙ c .if4 .taken))))
 
 returns-5 : tie.Need-returns-5
 unfolding transitCount
 returns-5 c =
     goes 8 _ (sym (c .before .before .before .before .before .before .before .grid-body-broken .ensures) ∙
-      c .before .before .before .before .before .before .if1 .left) (goes 9 _
-      (sym (c .before .before .before .before .before .numbers-broken .ensures) ∙ c .before .before .before .before .if2 .left)
-      (goes 10 _ (sym (c .before .before .before .access-broken .ensures) ∙ c .before .before .if3 .left)
-      (goes 11 _ (sym (c .before .table-broken .ensures) ∙ c .if4 .left) none)))
+    c .before .before .before .before .before .before .if1 .left) (goes 9 _
+    (sym (c .before .before .before .before .before .numbers-broken .ensures) ∙ c .before .before .before .before .if2 .left)
+    (goes 10 _ (sym (c .before .before .before .access-broken .ensures) ∙ c .before .before .if3 .left)
+    (goes 11 _ (sym (c .before .table-broken .ensures) ∙ c .if4 .left) none)))
 
 pub oracle-bodies-spec : {M : Type 1} → statement M
 oracle-bodies-spec =

@@ -20,15 +20,15 @@ returns-2 : tie.Need-returns-2
 unfolding acceptRules
 returns-2 c =
     stops 8 _ (sym (c .before .grid-broken .ensures) ∙ c .if2 .taken) ∙
-      sym (first-append _ _ (network-counted 1 3 (c .before .before .before .before .before .args .f .now))
-      (sym (c .before .before .before .network-refusal .ensures) ∙ c .before .before .if1 .left))
+    sym (first-append _ _ (network-counted 1 3 (c .before .before .before .before .before .args .f .now))
+    (sym (c .before .before .before .network-refusal .ensures) ∙ c .before .before .if1 .left))
 
 returns-3 : tie.Need-returns-3
 unfolding acceptRules
 returns-3 c =
     goes 8 _ (sym (c .before .grid-broken .ensures) ∙ c .if2 .left) none ∙
-      sym (first-append _ _ (network-counted 1 3 (c .before .before .before .before .before .args .f .now))
-      (sym (c .before .before .before .network-refusal .ensures) ∙ c .before .before .if1 .left))
+    sym (first-append _ _ (network-counted 1 3 (c .before .before .before .before .before .args .f .now))
+    (sym (c .before .before .before .network-refusal .ensures) ∙ c .before .before .if1 .left))
 
 pub accept-refusal-spec : {M : Type 1} → statement M
 accept-refusal-spec =

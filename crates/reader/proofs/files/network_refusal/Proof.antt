@@ -26,22 +26,40 @@ returns-2 : tie.Need-returns-2
 unfolding networkRules
 returns-2 c =
     goes 1 _ (sym (c .before .before .before .before .contents-broken .ensures) ∙ c .before .before .before .if1 .left)
-      (stops 2 _ (sym (c .before .bodies-broken .ensures) ∙ c .if2 .taken))
+    (stops 2 _ (sym (c .before .bodies-broken .ensures) ∙ c .if2 .taken))
 
 body-requires : tie.Need-body-requires
 body-requires c κs =
-    record { entries = c .before .before .before .before .before .before .args .entries; few = omega arith; below = omega arith; read =
-      c .before .before .read .ensures; joined = sym (c .before .bodies-broken .ensures) ∙ c .if2 .left }
+    record {
+      entries = c .before .before .before .before .before .before .args .entries;
+      few = omega arith;
+      below = omega arith;
+      read =
+          c .before .before .read .ensures;
+      joined = sym (c .before .bodies-broken .ensures) ∙ c .if2 .left;
+    }
 
 body-requires-2 : tie.Need-body-requires-2
 body-requires-2 c κs =
-    record { entries = c .before .before .before .before .before .before .before .args .entries; few = omega arith; below = omega arith; read =
-      c .before .before .before .read .ensures; joined = sym (c .before .before .bodies-broken .ensures) ∙ c .before .if2 .left }
+    record {
+      entries = c .before .before .before .before .before .before .before .args .entries;
+      few = omega arith;
+      below = omega arith;
+      read =
+          c .before .before .before .read .ensures;
+      joined = sym (c .before .before .bodies-broken .ensures) ∙ c .before .if2 .left;
+    }
 
 body-requires-3 : tie.Need-body-requires-3
 body-requires-3 c κs =
-    record { entries = c .before .before .before .before .before .before .before .before .args .entries; few = omega arith; below = omega arith; read =
-      c .before .before .before .before .read .ensures; joined = sym (c .before .before .before .bodies-broken .ensures) ∙ c .before .before .if2 .left }
+    record {
+      entries = c .before .before .before .before .before .before .before .before .args .entries;
+      few = omega arith;
+      below = omega arith;
+      read =
+          c .before .before .before .before .read .ensures;
+      joined = sym (c .before .before .before .bodies-broken .ensures) ∙ c .before .before .if2 .left;
+    }
 
 network-bodies-requires : tie.Need-network-bodies-requires
 network-bodies-requires c κs = search needs
@@ -50,9 +68,9 @@ returns-3 : tie.Need-returns-3
 unfolding networkRules
 returns-3 c =
     goes 1 _ (sym (c .before .before .before .before .before .before .before .before .contents-broken .ensures) ∙
-      c .before .before .before .before .before .before .before .if1 .left)
-      (goes 2 _ (sym (c .before .before .before .before .before .bodies-broken .ensures) ∙ c .before .before .before .before .if2 .left)
-      (rw (← c .before .before .before .body .ensures, ← c .before .before .body2 .ensures, ← c .before .body3 .ensures) (c .network-bodies .ensures)))
+    c .before .before .before .before .before .before .before .if1 .left)
+    (goes 2 _ (sym (c .before .before .before .before .before .bodies-broken .ensures) ∙ c .before .before .before .before .if2 .left)
+    (rw (← c .before .before .before .body .ensures, ← c .before .before .body2 .ensures, ← c .before .body3 .ensures) (c .network-bodies .ensures)))
 
 pub network-refusal-spec : {M : Type 1} → statement M
 network-refusal-spec =

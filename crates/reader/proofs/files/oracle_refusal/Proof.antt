@@ -21,8 +21,14 @@ body-requires c κs =
 
 body-requires-2 : tie.Need-body-requires-2
 body-requires-2 c κs =
-    record { entries = 7; few = omega arith; below = omega arith; read = c .before .read .ensures; joined = kept (c .before .before .before .args .o .now)
-      (c .before .before .before .pre) .bodies }
+    record {
+      entries = 7;
+      few = omega arith;
+      below = omega arith;
+      read = c .before .read .ensures;
+      joined = kept (c .before .before .before .args .o .now)
+          (c .before .before .before .pre) .bodies;
+    }
 
 body-requires-3 : tie.Need-body-requires-3
 body-requires-3 c κs =
@@ -50,9 +56,14 @@ returns : tie.Need-returns
 unfolding shapeRules nodeCount
 returns c =
     let s = c .before .before .before .before .before .before .before .before in
-    rw (← c .before .before .before .before .before .body .ensures, ← c .before .before .before .before .body2 .ensures,
-      ← c .before .before .before .body3 .ensures, ← c .before .before .body4 .ensures, ← c .before .body5 .ensures) (c .oracle-bodies .ensures) ∙
-      sym (first-append _ _ (network-counted 1 7 (s .args .o .now)) (s .pre))
+    rw (
+      ← c .before .before .before .before .before .body .ensures,
+      ← c .before .before .before .before .body2 .ensures,
+      ← c .before .before .before .body3 .ensures,
+      ← c .before .before .body4 .ensures,
+      ← c .before .body5 .ensures,
+    ) (c .oracle-bodies .ensures) ∙
+    sym (first-append _ _ (network-counted 1 7 (s .args .o .now)) (s .pre))
 
 pub oracle-refusal-spec : {M : Type 1} → statement M
 oracle-refusal-spec =

@@ -6,9 +6,12 @@ use Rattle.reader.proofs.oracle.oracle_body.Statement.{statement}
 use Rattle.reader.proofs.oracle.oracle_body.Tie as tie
 
 body-of-requires : tie.Need-body-of-requires
-body-of-requires c κs =
-    (omega arith, omega arith, whole-contents 1 7 (c .before .args .o .now) (all-shaped (c .before .args .o .now) (c .before .pre .0) .contents),
-      all-shaped (c .before .args .o .now) (c .before .pre .0) .bodies)
+body-of-requires c κs = (
+  omega arith,
+  omega arith,
+  whole-contents 1 7 (c .before .args .o .now) (all-shaped (c .before .args .o .now) (c .before .pre .0) .contents),
+  all-shaped (c .before .args .o .now) (c .before .pre .0) .bodies,
+)
 
 returns : tie.Need-returns
 returns c = search needs

@@ -65,9 +65,12 @@ loop-less c = search needs
 
 loop-again : tie.Need-loop-again Inv-loop μ-loop
 loop-again c =
-    let l = c .before .before .before .before .loop in
-    (l .inv .0, l .inv .1, l .inv .2 ∙ entries-good _ _ _ _ _ _ _ (c .before .before .before .loop-test .taken) (l .inv .0)
-      (sym (c .before .before .entry-broken .ensures) ∙ c .before .if1 .left) _ (c .read162 .ensures .0))
+    let l = c .before .before .before .before .loop in (
+      l .inv .0,
+      l .inv .1,
+      l .inv .2 ∙ entries-good _ _ _ _ _ _ _ (c .before .before .before .loop-test .taken) (l .inv .0)
+          (sym (c .before .before .entry-broken .ensures) ∙ c .before .if1 .left) _ (c .read162 .ensures .0),
+    )
 
 returns-2 : tie.Need-returns-2 Inv-loop μ-loop
 returns-2 c = sym (c .before .loop .inv .2 ∙ entries-end _ _ _ _ _ _ (c .loop-test .left))

@@ -27,7 +27,7 @@ sub-result c = search needs
 returns-3 : tie.Need-returns-3
 returns-3 c =
     fits-size _ _ _ (sym (c .before .before .before .list-start .ensures) ∙ c .before .before .if1 .left) (c .before .before .before .before .before .pre .1) _
-      (c .size-at .ensures)
+    (c .size-at .ensures)
 
 pub list-fits-spec : {M : Type 1} → statement M
 list-fits-spec =

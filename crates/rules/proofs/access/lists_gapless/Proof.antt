@@ -40,8 +40,11 @@ size-at-requires c κs = fit-count _ _ _ (sym (c .before .list-fits .ensures) �
 
 add-at : tie.Need-add-at Inv-loop μ-loop
 add-at c =
-    omega (arith, list-fit _ _ _ _ (c .before .before .before .loop-test .taken)
-      (sym (c .before .before .list-fits .ensures) ∙ not-false _ (c .before .if2 .left)) _ (c .size-at .ensures) .0)
+    omega (
+      arith,
+      list-fit _ _ _ _ (c .before .before .before .loop-test .taken)
+          (sym (c .before .before .list-fits .ensures) ∙ not-false _ (c .before .if2 .left)) _ (c .size-at .ensures) .0,
+    )
 
 add-u : tie.Need-add-u Inv-loop μ-loop
 add-u c = search needs
@@ -53,7 +56,7 @@ loop-again : tie.Need-loop-again Inv-loop μ-loop
 loop-again c =
     let l = c .before .before .before .before .loop in
     let f = list-fit _ _ _ _ (c .before .before .before .loop-test .taken) (sym (c .before .before .list-fits .ensures) ∙ not-false _ (c .before .if2 .left)) _
-      (c .size-at .ensures) in
+    (c .size-at .ensures) in
     (f .0, l .inv .1, l .inv .2 ∙ f .1)
 
 returns-3 : tie.Need-returns-3 Inv-loop μ-loop

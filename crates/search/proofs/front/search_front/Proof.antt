@@ -33,10 +33,19 @@ round-requires c κs =
     let start = c .before .before .before .before .before .before .before .before .before .before in
     let a = start .args in
     let p = start .pre in
-    let l = c .before .before .loop in
-    ((l .inv .2 .holds, omega (arith, c .before .loop-test .taken), standing-first (arcsIn (a .edges .now) (a .closed .now)) (a .n) (a .s) (l .k) (l .e) _
-      (l .inv .2)), (roads-kept (a .edges .now) (a .closed .now) (a .n) (a .work .now) (l .work)
-      (l .inv .1 ∙ c .before .before .before .before .before .begin .ensures .1 .1 .1) (p .1), search needs))
+    let l = c .before .before .loop in (
+      (
+        l .inv .2 .holds,
+        omega (arith, c .before .loop-test .taken),
+        standing-first (arcsIn (a .edges .now) (a .closed .now)) (a .n) (a .s) (l .k) (l .e) _
+            (l .inv .2),
+      ),
+      (
+        roads-kept (a .edges .now) (a .closed .now) (a .n) (a .work .now) (l .work)
+            (l .inv .1 ∙ c .before .before .before .before .before .begin .ensures .1 .1 .1) (p .1),
+        search needs,
+      ),
+    )
 
 sub-e : tie.Need-sub-e Inv-loop μ-loop
 sub-e c = omega (arith, c .before .before .before .before .before .loop .inv .2 .holds .queue .held, c .before .before .before .before .loop-test .taken)
@@ -49,9 +58,12 @@ loop-again c =
     let start = c .before .before .before .before .before .before .before .before .before .before .before .before .before in
     let a = start .args in
     let p = start .pre in
-    let l = c .before .before .before .before .before .loop in
-    (search needs, c .before .before .round .ensures .1 ∙ l .inv .1, next (a .edges .now) (a .closed .now) (a .n) (a .s) (p .0 .0) (p .0 .1) (p .1 .ends)
-      (l .k) (l .e) _ (l .inv .2) _ _ (c .before .before .round .ensures .0))
+    let l = c .before .before .before .before .before .loop in (
+      search needs,
+      c .before .before .round .ensures .1 ∙ l .inv .1,
+      next (a .edges .now) (a .closed .now) (a .n) (a .s) (p .0 .0) (p .0 .1) (p .1 .ends)
+          (l .k) (l .e) _ (l .inv .2) _ _ (c .before .before .round .ensures .0),
+    )
 
 finish-requires : tie.Need-finish-requires Inv-loop μ-loop
 finish-requires c κs = (search needs, c .before .before .loop .inv .2 .holds .queue .room)
@@ -65,10 +77,11 @@ returns c =
     let a = start .args in
     let p = start .pre in
     let l = c .before .before .before .before .before .loop in
-    let o = c .before .before .finish .ensures in
-    (last (a .edges .now) (a .closed .now) (a .n) (a .s) (p .0 .0) (p .0 .1) (p .1 .ends) (l .k) (l .e) _ (l .inv .2)
-      (omega (arith, c .before .before .before .before .loop-test .left)) _ (o .0) (o .1 .0),
-      o .1 .1 ∙ (l .inv .1 ∙ c .before .before .before .before .before .before .before .before .begin .ensures .1 .1 .1))
+    let o = c .before .before .finish .ensures in (
+      last (a .edges .now) (a .closed .now) (a .n) (a .s) (p .0 .0) (p .0 .1) (p .1 .ends) (l .k) (l .e) _ (l .inv .2)
+          (omega (arith, c .before .before .before .before .loop-test .left)) _ (o .0) (o .1 .0),
+      o .1 .1 ∙ (l .inv .1 ∙ c .before .before .before .before .before .before .before .before .begin .ensures .1 .1 .1),
+    )
 
 pub search-front-spec : {M : Type 1} → statement M
 search-front-spec =

@@ -37,10 +37,12 @@ loop-holds c =
     let s = c .before .before .before .before .before .before .before .before in
     let time-of = c .before .before .before .time-of in
     let a = s .args in
-    let p = s .pre in
-    (refl, passed-first (a .edges .now) (a .closed .now) (a .n) (a .e) (a .u) (time-of .result) (a .work .now) (a .k) _ (p .0 .0)
-      (rw (time-read (a .n) (a .u) (a .work .now) (p .0 .1) _ (time-of .ensures .0)) at (p .0 .2)) (p .1 .0)
-      (passes-first _ _ _ _ _ _ _ (c .arc-at .ensures) (c .before .first-edge .ensures)))
+    let p = s .pre in (
+      refl,
+      passed-first (a .edges .now) (a .closed .now) (a .n) (a .e) (a .u) (time-of .result) (a .work .now) (a .k) _ (p .0 .0)
+          (rw (time-read (a .n) (a .u) (a .work .now) (p .0 .1) _ (time-of .ensures .0)) at (p .0 .2)) (p .1 .0)
+          (passes-first _ _ _ _ _ _ _ (c .arc-at .ensures) (c .before .first-edge .ensures)),
+    )
 
 slice-relend-prefix-offer-in : tie.Need-slice-relend-prefix-offer-in Inv-loop μ-loop
 slice-relend-prefix-offer-in c =
@@ -71,10 +73,18 @@ next-arc-requires c κs =
     let l = c .before .before .before .before .before .before .before .before .loop in
     let ys = offer-in .last .0 in
     let k = offer-in .kept .0 in
-    let d = c .before .before .before .before .before .before .before .before .before .before .before .before .time-of .result in
-    ((p .0 .0 .queue .placed .few, search needs, p .0 .1), (turn-roads (a .edges .now) (a .closed .now) (a .n) (a .e) (a .u) d (a .work .now) (l .a) (l .held)
-      (l .work) ys (l .inv .1) (omega (arith, l .inv .0, p .1 .1)) k, (turn-passes (a .edges .now) (a .closed .now) (a .n) (a .e) (a .u) d (a .work .now)
-      (l .a) (l .held) (l .work) ys (l .inv .1) (omega (arith, l .inv .0, p .1 .1)) k .valid, c .before .before .before .before .before .before .if1 .taken)))
+    let d = c .before .before .before .before .before .before .before .before .before .before .before .before .time-of .result in (
+      (p .0 .0 .queue .placed .few, search needs, p .0 .1),
+      (
+        turn-roads (a .edges .now) (a .closed .now) (a .n) (a .e) (a .u) d (a .work .now) (l .a) (l .held)
+            (l .work) ys (l .inv .1) (omega (arith, l .inv .0, p .1 .1)) k,
+        (
+          turn-passes (a .edges .now) (a .closed .now) (a .n) (a .e) (a .u) d (a .work .now)
+              (l .a) (l .held) (l .work) ys (l .inv .1) (omega (arith, l .inv .0, p .1 .1)) k .valid,
+          c .before .before .before .before .before .before .if1 .taken,
+        ),
+      ),
+    )
 
 loop-less : tie.Need-loop-less Inv-loop μ-loop
 loop-less c = c .next-arc .ensures .less
@@ -85,9 +95,11 @@ loop-again c =
     let offer-in = c .before .before .before .before .offer-in in
     let a = s .args in
     let l = c .before .before .before .before .before .before .before .before .before .loop in
-    let d = c .before .before .before .before .before .before .before .before .before .before .before .before .before .time-of .result in
-    (search needs, passed-next (a .edges .now) (a .closed .now) (a .n) (a .e) (a .u) d (a .work .now) (l .a) (l .held) (l .work) (offer-in .last .0)
-      (l .inv .1) (omega (arith, l .inv .0, s .pre .1 .1)) (offer-in .kept .0) _ (offer-in .ensures) _ (c .next-arc .ensures))
+    let d = c .before .before .before .before .before .before .before .before .before .before .before .before .before .time-of .result in (
+      search needs,
+      passed-next (a .edges .now) (a .closed .now) (a .n) (a .e) (a .u) d (a .work .now) (l .a) (l .held) (l .work) (offer-in .last .0)
+          (l .inv .1) (omega (arith, l .inv .0, s .pre .1 .1)) (offer-in .kept .0) _ (offer-in .ensures) _ (c .next-arc .ensures),
+    )
 
 same-length : tie.Need-same-length Inv-loop μ-loop
 same-length c = search needs
@@ -97,10 +109,12 @@ returns c =
     let s = c .before .before .before .before .before .before .before .before .before .before .before in
     let time-of = c .before .before .before .before .before .before .time-of in
     let a = s .args in
-    let l = c .before .before .loop in
-    (rw (time-read (a .n) (a .u) (a .work .now) (s .pre .0 .1) _ (time-of .ensures .0))
-      (passed-last (a .edges .now) (a .closed .now) (a .n) (a .e) (a .u) (time-of .result) (a .work .now) (l .held) (l .work) (l .a)
-      (omega (arith, c .if1 .left)) (l .inv .1)), l .inv .1 .others)
+    let l = c .before .before .loop in (
+      rw (time-read (a .n) (a .u) (a .work .now) (s .pre .0 .1) _ (time-of .ensures .0))
+          (passed-last (a .edges .now) (a .closed .now) (a .n) (a .e) (a .u) (time-of .result) (a .work .now) (l .held) (l .work) (l .a)
+          (omega (arith, c .if1 .left)) (l .inv .1)),
+      l .inv .1 .others,
+    )
 
 pub relax-spec : {M : Type 1} → statement M
 relax-spec =

@@ -33,10 +33,14 @@ relax-requires c κs =
     let p = s .pre in
     let t = settle-nearest .ensures in
     let ys = settle-nearest .last .0 in
-    let k = settle-nearest .kept .0 in
-    ((round-holds (a .n) (a .work .now) ys (search needs) k (a .k) (a .e) _ t, t .near .inside,
-      round-within (a .n) (a .work .now) ys (search needs) k (a .k) (a .e) _ t (p .0 .2)),
-      (roads-kept (a .edges .now) (a .closed .now) (a .n) (a .work .now) _ (others (a .n) (a .work .now) ys (search needs) k) (p .1 .0), search needs))
+    let k = settle-nearest .kept .0 in (
+      (
+        round-holds (a .n) (a .work .now) ys (search needs) k (a .k) (a .e) _ t,
+        t .near .inside,
+        round-within (a .n) (a .work .now) ys (search needs) k (a .k) (a .e) _ t (p .0 .2),
+      ),
+      (roads-kept (a .edges .now) (a .closed .now) (a .n) (a .work .now) _ (others (a .n) (a .work .now) ys (search needs) k) (p .1 .0), search needs),
+    )
 
 same-length : tie.Need-same-length
 same-length c = search needs
@@ -47,9 +51,11 @@ returns c =
     let a = c .before .before .before .before .before .before .before .before .before .before .before .args in
     let t = settle-nearest .ensures in
     let ys = settle-nearest .last .0 in
-    let k = settle-nearest .kept .0 in
-    (round-front (a .n) (a .work .now) ys (search needs) k (a .k) (a .e) _ t (arcsIn (a .edges .now) (a .closed .now)) _ _
-      (c .before .before .relax .ensures .0), c .before .before .relax .ensures .1 ∙ others (a .n) (a .work .now) ys (search needs) k)
+    let k = settle-nearest .kept .0 in (
+      round-front (a .n) (a .work .now) ys (search needs) k (a .k) (a .e) _ t (arcsIn (a .edges .now) (a .closed .now)) _ _
+          (c .before .before .relax .ensures .0),
+      c .before .before .relax .ensures .1 ∙ others (a .n) (a .work .now) ys (search needs) k,
+    )
 
 pub round-spec : {M : Type 1} → statement M
 round-spec =

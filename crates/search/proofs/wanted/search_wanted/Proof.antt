@@ -29,20 +29,30 @@ loop-holds c =
     let start = c .before .before .before .before .before .before .before in
     let a = start .args in
     let p = start .pre in
-    let r = c .before .before .begin .ensures in
-    (refl, refl, wanting-begun (arcsIn (a .edges .now) (a .closed .now)) (a .n) (a .s) _ (a .left) (a .work .now) _ (r .1 .1 .1)
-      (first (a .edges .now) (a .closed .now) (a .n) (a .s) (p .0 .0) (p .0 .1) (p .1 .ends) _ _ (r .0) (r .1 .0) (r .1 .1 .0)) (r .1 .1 .0) (p .0 .3))
+    let r = c .before .before .begin .ensures in (
+      refl,
+      refl,
+      wanting-begun (arcsIn (a .edges .now) (a .closed .now)) (a .n) (a .s) _ (a .left) (a .work .now) _ (r .1 .1 .1)
+          (first (a .edges .now) (a .closed .now) (a .n) (a .s) (p .0 .0) (p .0 .1) (p .1 .ends) _ _ (r .0) (r .1 .0) (r .1 .1 .0)) (r .1 .1 .0) (p .0 .3),
+    )
 
 round-requires : tie.Need-round-requires Inv-loop μ-loop
 round-requires c κs =
     let start = c .before .before .before .before .before .before .before .before .before .before .before in
     let a = start .args in
     let p = start .pre in
-    let l = c .before .before .before .loop in
-    ((l .inv .2 .standing .holds, omega (arith, c .before .before .loop-test .taken),
-      standing-first (arcsIn (a .edges .now) (a .closed .now)) (a .n) (a .s) (l .k) (l .e) _ (l .inv .2 .standing)),
-      (roads-kept (a .edges .now) (a .closed .now) (a .n) (a .work .now) (l .work)
-      (l .inv .1 ∙ c .before .before .before .before .before .before .begin .ensures .1 .1 .1) (p .1), search needs))
+    let l = c .before .before .before .loop in (
+      (
+        l .inv .2 .standing .holds,
+        omega (arith, c .before .before .loop-test .taken),
+        standing-first (arcsIn (a .edges .now) (a .closed .now)) (a .n) (a .s) (l .k) (l .e) _ (l .inv .2 .standing),
+      ),
+      (
+        roads-kept (a .edges .now) (a .closed .now) (a .n) (a .work .now) (l .work)
+            (l .inv .1 ∙ c .before .before .before .before .before .before .begin .ensures .1 .1 .1) (p .1),
+        search needs,
+      ),
+    )
 
 sub-e : tie.Need-sub-e Inv-loop μ-loop
 sub-e c = omega (arith, c .before .before .before .before .before .before .loop .inv .2 .standing .holds .queue .held, c .before .before .before .before .before .loop-test .taken)
@@ -55,15 +65,21 @@ left-then-requires c κs =
     let p = start .pre in
     let l = c .before .before .before .before .before .before .before .loop in
     let h = l .inv .2 .standing .holds .queue in
-    let t = c .before .before .before .round .ensures in
-    (omega (arith, h .held, h .room, test .taken), ltb-true 0 (l .lacking) (c .before .before .before .before .before .if1 .taken), search needs,
+    let t = c .before .before .before .round .ensures in (
+      omega (arith, h .held, h .room, test .taken),
+      ltb-true 0 (l .lacking) (c .before .before .before .before .before .if1 .taken),
+      search needs,
       node-inside (a .edges .now) (a .closed .now) (a .n) (a .s) (p .0 .0) (p .0 .1) (p .1 .ends) (l .k) (l .e) _ _ _ _ (test .taken) (t .1 ∙ l .inv .1)
-      (l .inv .2) _ (t .0))
+          (l .inv .2) _ (t .0),
+    )
 
 loop-less : tie.Need-loop-less Inv-loop μ-loop
 loop-less c =
-    omega (arith, c .before .before .before .before .before .before .before .before .loop .inv .2 .standing .holds .queue .held,
-      c .before .before .before .before .before .before .before .loop-test .taken)
+    omega (
+      arith,
+      c .before .before .before .before .before .before .before .before .loop .inv .2 .standing .holds .queue .held,
+      c .before .before .before .before .before .before .before .loop-test .taken,
+    )
 
 loop-again : tie.Need-loop-again Inv-loop μ-loop
 loop-again c =
@@ -71,9 +87,12 @@ loop-again c =
     let a = start .args in
     let p = start .pre in
     let l = c .before .before .before .before .before .before .before .before .loop in
-    let t = c .before .before .before .before .round .ensures in
-    (search needs, t .1 ∙ l .inv .1, turn (a .edges .now) (a .closed .now) (a .n) (a .s) (p .0 .0) (p .0 .1) (p .1 .ends) (l .k) (l .e) _ _ _ _
-      (c .before .before .before .before .before .before .before .loop-test .taken) (t .1 ∙ l .inv .1) (l .inv .2) _ (t .0) _ (c .left-then .ensures))
+    let t = c .before .before .before .before .round .ensures in (
+      search needs,
+      t .1 ∙ l .inv .1,
+      turn (a .edges .now) (a .closed .now) (a .n) (a .s) (p .0 .0) (p .0 .1) (p .1 .ends) (l .k) (l .e) _ _ _ _
+          (c .before .before .before .before .before .before .before .loop-test .taken) (t .1 ∙ l .inv .1) (l .inv .2) _ (t .0) _ (c .left-then .ensures),
+    )
 
 finish-requires : tie.Need-finish-requires Inv-loop μ-loop
 finish-requires c κs = (search needs, c .before .before .loop .inv .2 .standing .holds .queue .room)
@@ -88,10 +107,12 @@ returns c =
     let p = start .pre in
     let l = c .before .before .before .before .before .loop in
     let o = c .before .before .finish .ensures in
-    let b = c .before .before .before .before .before .before .before .before .begin .ensures .1 .1 .1 in
-    (stop-wanted (a .edges .now) (a .closed .now) (a .n) (a .s) (p .0 .0) (p .0 .1) (p .1 .ends) (l .k) (l .e) _ (a .work .now) _ b _ (l .inv .2)
-      (⊎-elim (λ z. inr (omega (arith, ltb-false 0 (l .lacking) (z .1 .left)))) (λ z. inl (omega (arith, z .left)))
-      (c .before .before .before .before .loop-test .came)) _ (o .0) (o .1 .0), o .1 .1 ∙ (l .inv .1 ∙ b))
+    let b = c .before .before .before .before .before .before .before .before .begin .ensures .1 .1 .1 in (
+      stop-wanted (a .edges .now) (a .closed .now) (a .n) (a .s) (p .0 .0) (p .0 .1) (p .1 .ends) (l .k) (l .e) _ (a .work .now) _ b _ (l .inv .2)
+          (⊎-elim (λ z. inr (omega (arith, ltb-false 0 (l .lacking) (z .1 .left)))) (λ z. inl (omega (arith, z .left)))
+          (c .before .before .before .before .loop-test .came)) _ (o .0) (o .1 .0),
+      o .1 .1 ∙ (l .inv .1 ∙ b),
+    )
 
 pub search-wanted-spec : {M : Type 1} → statement M
 search-wanted-spec =

@@ -42,9 +42,10 @@ next-arc-requires : tie.Need-next-arc-requires Inv-loop μ-loop
 next-arc-requires c κs =
     let s = c .before .before .before .before .before .before .before .before .before .before in
     let p = s .pre in
-    let a = s .args in
-    ((search needs, search needs, omega (arith, node-in _ _ _ (p .0 .0), length-take-le (a .n) (a .work .now) (omega arith))),
-      (p .1, (c .before .before .before .before .loop .inv .passes .valid, c .before .before .if1 .taken)))
+    let a = s .args in (
+      (search needs, search needs, omega (arith, node-in _ _ _ (p .0 .0), length-take-le (a .n) (a .work .now) (omega arith))),
+      (p .1, (c .before .before .before .before .loop .inv .passes .valid, c .before .before .if1 .taken)),
+    )
 
 loop-less : tie.Need-loop-less Inv-loop μ-loop
 loop-less c = c .next-arc .ensures .less

@@ -22,9 +22,11 @@ coordinate-requires c κs = omega (arith, some-node (c .before .args .b .now) (c
 
 loop-holds : tie.Need-loop-holds Inv-loop μ-loop
 unfolding nodeCount
-loop-holds c =
-    (refl, spans-first (c .before .before .args .vertical) (c .before .before .args .b .now) _ refl
-      (some-node (c .before .before .args .b .now) (c .before .before .pre)) _ (c .coordinate .ensures))
+loop-holds c = (
+  refl,
+  spans-first (c .before .before .args .vertical) (c .before .before .args .b .now) _ refl
+      (some-node (c .before .before .args .b .now) (c .before .before .pre)) _ (c .coordinate .ensures),
+)
 
 coordinate-requires-2 : tie.Need-coordinate-requires-2 Inv-loop μ-loop
 coordinate-requires-2 c κs = search needs
@@ -40,9 +42,11 @@ loop-less c = search needs
 
 loop-again : tie.Need-loop-again Inv-loop μ-loop
 loop-again c =
-    let a = c .before .before .before .before .before .before .args in
-    (refl, spans-next (a .vertical) (a .b .now) _ _ _ _ (c .before .before .loop-test .taken) _ (c .before .coordinate2 .ensures) (c .with .ensures)
-      (c .before .before .before .loop .inv .1))
+    let a = c .before .before .before .before .before .before .args in (
+      refl,
+      spans-next (a .vertical) (a .b .now) _ _ _ _ (c .before .before .loop-test .taken) _ (c .before .coordinate2 .ensures) (c .with .ensures)
+          (c .before .before .before .loop .inv .1),
+    )
 
 returns : tie.Need-returns Inv-loop μ-loop
 returns c =
