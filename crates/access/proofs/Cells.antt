@@ -17,7 +17,7 @@ use Rattle.theory.specs.Sound.{open-fine}
 use Rattle.theory.specs.AccessLaws.{between-walks, crossing-node}
 use Rattle.bitset.specs.Bits.{flags}
 use Rattle.arcs.specs.Arcs.{arcsIn}
-use Rattle.index.specs.Index.{Roads}
+use Rattle.index.specs.Index.{IndexedEdges}
 use Rattle.grid.specs.Stored.{gridOf}
 use Rattle.grid.specs.declared.Grid.{Grid}
 use Rattle.crossing.specs.Sets.{testFlags, memberFlags, both}
@@ -28,6 +28,7 @@ use Rattle.marks.specs.Due.{Flagged}
 use Rattle.words.specs.Regions.{regionAt, regionFlags, want, own, gathered, transit}
 use Rattle.access.specs.Gathered.{Gathered, KeptStarts}
 use Rattle.access.specs.Networks.{networkIn, count-order, count-cells}
+use Rattle.access.specs.Pairs.{NotAlone, crossing-two}
 use Rattle.words.proofs.Windows.{flags-kept}
 use Rattle.access.proofs.Flagging.{flagged→, →flagged, member→, →member}
 use Rattle.theory.specs.Tests.{same-test}
@@ -36,7 +37,8 @@ use Rattle.words.proofs.Stays.{after-kept}
 use Rattle.index.proofs.Laid.{roads-only}
 
 -- The index stays where the starts are put into x, and the goals into y.
-pub roads-crossed : (edges closed : Bytes) (n : ℕ) (w x y : List ℕ) → Only n own w x → Only n want x y → Roads edges closed n w → Roads edges closed n y
+pub roads-crossed : (edges closed : Bytes) (n : ℕ) (w x y : List ℕ) → Only n own w x → Only n want x y → IndexedEdges edges closed n w
+    → IndexedEdges edges closed n y
 roads-crossed edges closed n w x y o q r = roads-only edges closed n x y _ _ (omega arith) q (roads-only edges closed n w x _ _ (omega arith) o r)
 
 -- ---- which nodes are flagged as members
@@ -60,7 +62,8 @@ module _ (b e c : Bytes) (grid : Grid) (ground : Ground b e c grid) (n : ℕ) (s
   count = count-order b n size e c
 
   ends : (x : Edge) → List·Memᴰ x (net .edges) → (x .first < order net) × (x .second < order net)
-  ends x m = let f = open-fine (nodeCount b) e (words16 c) (ground .edges-rule) x m in (omega (arith, f .first-in, count, size), omega (arith, f .second-in, count, size))
+  ends x m = let f = open-fine (nodeCount b) e (words16 c) (ground .edges-rule) x m in
+      (omega (arith, f .first-in, count, size), omega (arith, f .second-in, count, size))
 
   same-arcs : arcs net ≡ arcsIn e c
   unfolding arcs arcsIn
@@ -85,7 +88,16 @@ module _ (b e c : Bytes) (grid : Grid) (ground : Ground b e c grid) (n : ℕ) (s
         record {
           p = p .0;
           start = →listed n ps (p .0) (inside 0 (p .1)) (p .1);
-          on = record { q = q .0; x = o .i; y = o .j; goal = →listed n qs (q .0) (inside (gridOf grid .outer) (q .1)) (q .1); before = o .before; after = o .after; whole = o .whole };
+          on = record {
+            q = q .0;
+            x = o .i;
+            y = o .j;
+            goal = →listed n qs (q .0) (inside (gridOf grid .outer) (q .1)) (q .1);
+            before = o .before;
+            after = o
+                .after;
+            whole = o .whole;
+          };
         }
 
     →through : (v : ℕ) → v < n → Gathered (arcs net) (memberFlags n ps) (memberFlags n qs) v → through (distance net) ps qs v ≡ true
@@ -95,12 +107,21 @@ module _ (b e c : Bytes) (grid : Grid) (ground : Ground b e c grid) (n : ℕ) (s
         let q = listed→ n qs (g .on .q) (g .on .goal) in
         →any (λ p. toward (distance net) qs p v) ps (p .1)
         (→any (λ q. between (distance net) (g .p) q v) qs (q .1)
-        (between-walks net ends (g .p) (g .on .q) v (rw count (p .0)) (rw count h) .1 (record { i = g .on .x; j = g .on .y; before = g .on .before; after = g .on .after; whole = g .on .whole })))
+        (between-walks net ends (g .p) (g .on .q) v (rw count (p .0)) (rw count h) .1
+        (record { i = g .on .x; j = g .on .y; before = g .on .before; after = g .on .after; whole = g .on .whole })))
 
-    gathered-flags : (s : List ℕ) → ((v : ℕ) → Flagged (flags n s) v ↔ Gathered (arcsIn e c) (memberFlags n ps) (memberFlags n qs) v) → flags n s ≡ testFlags (through (distance net) ps qs) n
+    gathered-flags : (s : List ℕ) → ((v : ℕ) → Flagged (flags n s) v ↔ Gathered (arcsIn e c) (memberFlags n ps) (memberFlags n qs) v)
+        → flags n s ≡ testFlags (through (distance net) ps qs) n
     gathered-flags s k =
         let k′ = rw (← same-arcs) at k in
-        flags-test n s ∙ test-flags-same _ _ n (λ v h. same-test (λ i. →through v h (k′ v .0 (→member n s v h i))) (λ t. member→ n s v (k′ v .1 (through→ v h t)) .1))
+        flags-test n s ∙ test-flags-same _ _ n (λ v h. same-test (λ i. →through v h (k′ v .0 (→member n s v h i)))
+        (λ t. member→ n s v (k′ v .1 (through→ v h t)) .1))
+
+    -- The starts put into x, and the goals into y: the starts are not alone.
+    pub starts-two : (x y : List ℕ) → regionFlags n own x ≡ memberFlags n ps → Only n want x y → NotAlone n own y
+    starts-two x y f q v i =
+        let s : Flagged (memberFlags n ps) v = rw (flags-kept n own want x y (λ i. omega arith) q ∙ f) at i in
+        omega (arith, size, crossing-two (nodeCount b) e c (ground .edges-rule) cs 0 cell (listed→ n ps v s .1))
 
     -- From the words w, with the starts put into x, the goals into y, and gathered into z.
     pub gathered-cell : (w x y z : List ℕ) → regionFlags n own x ≡ memberFlags n ps → Only n own w x → regionFlags n want y ≡ memberFlags n qs → Only n want x y

@@ -6,7 +6,7 @@ use mathlib.Core.Path.{_≡_, refl, sym, ap, _∙_}
 use mathlib.Core.List.{List}
 use lib.Bits.{bitAnd, bitOr}
 use lib.ListN.{length, getD, set, drop, length-set}
-use lib.Seq.{getD-set-same, getD-set-other, getD-take, getD-drop, take-set-le, drop-set-lt}
+use lib.Seq.{getD-set-same, getD-set-other, getD-take, getD-drop}
 use Rattle.bitset.specs.Bits.{setWords}
 use Rattle.bitset.proofs.Joined.{in-either, in-both}
 use Rattle.crossing.specs.Sets.{either, both}
@@ -14,7 +14,7 @@ use Rattle.crossing.specs.SetLaws.{flags-either, flags-both}
 use Rattle.words.specs.Regions.{regionAt, region, regionFlags}
 use Rattle.words.proofs.Windows.{region-kept}
 use Rattle.words.specs.Frames.{Only}
-use Rattle.words.proofs.Stays.{only-same, only-then}
+use Rattle.words.proofs.Stays.{only-same, only-then, only-set}
 
 -- The words were w₀, and are w when the first i words of the set in region k are made what `word` says.
 pub record Filling (word : ℕ → ℕ) (n k : ℕ) (w₀ : List ℕ) (i : ℕ) (w : List ℕ) : Type 0 where
@@ -44,11 +44,7 @@ module _ (word : ℕ → ℕ) (n k : ℕ) (w₀ : List ℕ) where
     next long x e = record {
       room = omega arith;
       size = length-set w (regionAt n k + i) x ∙ g .size;
-      others = only-then _ _ w₀ w (set w (regionAt n k + i) x) (g .others) (record {
-        front = take-set-le (regionAt n k) w (regionAt n k + i) x (omega arith);
-        back =
-            drop-set-lt (regionAt n k + setWords n) w (regionAt n k + i) x (omega arith);
-      });
+      others = only-then _ _ w₀ w (set w (regionAt n k + i) x) (g .others) (only-set _ _ w i x h);
       made = λ p j l. pick p j l (ℕ-discrete j i);
       ahead = λ j l. getD-set-other w (regionAt n k + i) (regionAt n k + j) x 0 (λ q. absurd (omega arith)) ∙ g .ahead j (omega arith);
     }
@@ -79,9 +75,11 @@ module _ (n a b k : ℕ) (w₀ : List ℕ) where
   met j = bitAnd (wordOf n a w₀ j) (wordOf n b w₀ j)
 
   module _ (i : ℕ) (w : List ℕ) (g : Filling met n k w₀ i w) where
-    pub meet-next : (a ≡ k → ⊥) → (b ≡ k → ⊥) → (x y z : ℕ) → x ≡ regionAt n a → y ≡ regionAt n b → z ≡ regionAt n k → i < setWords n → regionAt n k + setWords n ≤ length w₀
+    pub meet-next : (a ≡ k → ⊥) → (b ≡ k → ⊥) → (x y z : ℕ) → x ≡ regionAt n a → y ≡ regionAt n b → z ≡ regionAt n k → i < setWords n
+        → regionAt n k + setWords n ≤ length w₀
         → Filling met n k w₀ (i + 1) (set w (z + i) (bitAnd (getD w (x + i) 0) (getD w (y + i) 0)))
-    meet-next d e x y z p q r h l = rw (p, q, r) (next met n k w₀ i w g h l _ (λ o. rw (other-word met n k w₀ i w g h a d o, other-word met n k w₀ i w g h b e o)))
+    meet-next d e x y z p q r h l = rw (p, q, r) (next met n k w₀ i w g h l _
+        (λ o. rw (other-word met n k w₀ i w g h a d o, other-word met n k w₀ i w g h b e o)))
 
     pub meet-last : setWords n ≤ i → regionFlags n k w ≡ both (regionFlags n a w₀) (regionFlags n b w₀)
     meet-last h = flags-both n (drop (regionAt n k) w) (drop (regionAt n a) w₀) (drop (regionAt n b) w₀) (λ v l.

@@ -1,8 +1,8 @@
--- Which nodes are flagged. Assumes nothing.
-use Prim.Native.Nat.{ℕ, _<_}
+-- Which nodes are flagged, and where there are two of them. Assumes nothing.
+use Prim.Native.Nat.{ℕ, _<_, _≤_}
 use native.Mathlib.Decide.{decLt}
 use native.Mathlib.Omega.{arith}
-use mathlib.Core.Path.{_≡_, refl}
+use mathlib.Core.Path.{_≡_, refl, ap}
 use mathlib.Core.Logic.{_↔_, _⊎_, inl, inr, ⊎-elim}
 use mathlib.Core.Bool.{Bool, true, false, _||_, cond, or-true}
 use mathlib.Core.List.{List}
@@ -11,6 +11,10 @@ use Rattle.bitset.specs.Bits.{isIn, flags}
 use Rattle.crossing.specs.Sets.{testFlags, either}
 use Rattle.crossing.specs.SetLaws.{flags-test, length-test-flags, test-flag-at, either-test}
 use Rattle.marks.specs.Due.{Flagged}
+use Rattle.words.specs.Regions.{regionAt, searchWords}
+use Rattle.words.specs.Frames.{KeptFrom}
+use Rattle.words.proofs.Stays.{kept-more}
+use Rattle.access.specs.Pairs.{NotAlone}
 
 positive : (b : Bool) → 0 < cond b 1 0 → b ≡ true
 positive true h = refl
@@ -40,7 +44,12 @@ module _ (n : ℕ) (s : List ℕ) (v : ℕ) where
 
 pub either-flagged : (n : ℕ) (s t : List ℕ) (v : ℕ) → Flagged (either (flags n s) (flags n t)) v ↔ (Flagged (flags n s) v ⊎ Flagged (flags n t) v)
 either-flagged n s t v = rw (flags-test n s, flags-test n t, either-test (isIn s) (isIn t) n) (
-  λ l. let (h, e) = flagged→ (λ u. isIn s u || isIn t u) n v l in ⊎-elim (λ b. inl (→flagged (isIn s) n v h b)) (λ b. inr (→flagged (isIn t) n v h b)) (or-cases (isIn s v) (isIn t v) e),
+  λ l. let (h, e) = flagged→ (λ u. isIn s u || isIn t u) n v l in ⊎-elim (λ b. inl (→flagged (isIn s) n v h b)) (λ b. inr (→flagged (isIn t) n v h b))
+      (or-cases (isIn s v) (isIn t v) e),
   λ k. ⊎-elim (λ l. let (h, e) = flagged→ (isIn s) n v l in →flagged (λ u. isIn s u || isIn t u) n v h (rw e))
       (λ l. let (h, e) = flagged→ (isIn t) n v l in →flagged (λ u. isIn s u || isIn t u) n v h (rw e (or-true (isIn s v)))) k,
 )
+
+-- The nodes of a region that stays are not alone.
+pub alone-later : (n k : ℕ) (w w′ : List ℕ) → searchWords n ≤ regionAt n k → KeptFrom (searchWords n) w w′ → NotAlone n k w → NotAlone n k w′
+alone-later n k w w′ h e a v f = a v (rw (ap (flags n) (kept-more (searchWords n) (regionAt n k) w w′ h e)) at f)

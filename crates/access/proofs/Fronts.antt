@@ -39,7 +39,12 @@ module _ (n : ℕ) (w : List ℕ) where
 
   mark-front : (v : ℕ) → v < n → isIn (drop (queueWords n) (front n w)) v ≡ isIn (drop (queueWords n) w) v
   unfolding isIn
-  mark-front v h = rw (getD-drop (queueWords n) (front n w) (v / 32) 0, getD-take (searchWords n) w (queueWords n + v / 32) 0 (omega arith), getD-drop (queueWords n) w (v / 32) 0)
+  mark-front v h = rw (
+    getD-drop (queueWords n) (front n w) (v / 32) 0,
+    getD-take (searchWords n) w (queueWords n + v / 32) 0 (omega arith),
+    getD-drop
+        (queueWords n) w (v / 32) 0,
+  )
 
   marks-front : marksIn n (front n w) ≡ regionFlags n marks w
   marks-front = flags-test n (drop (queueWords n) (front n w)) ∙ (test-flags-same _ _ n mark-front ∙ sym (flags-test n (drop (queueWords n) w)))
@@ -58,7 +63,8 @@ pub record Marking (arcs : List Arc) (n e : ℕ) (w₀ : List ℕ) (i : ℕ) (w 
 
 module _ (arcs : List Arc) (n e : ℕ) (w₀ : List ℕ) (long : Enough n w₀) where
   -- w are the words before the marks were cleared.
-  pub first : (w : List ℕ) → e ≤ n → Only n marks w w₀ → regionFlags n marks w₀ ≡ replicate n 0 → Ordered n (timesIn n w) (orderIn n e w) → Marking arcs n e w₀ e w₀
+  pub first : (w : List ℕ) → e ≤ n → Only n marks w w₀ → regionFlags n marks w₀ ≡ replicate n 0 → Ordered n (timesIn n w) (orderIn n e w)
+      → Marking arcs n e w₀ e w₀
   first w h o m r = record {
     size = refl;
     others = only-same _ _ w₀;
@@ -87,7 +93,8 @@ module _ (arcs : List Arc) (n e : ℕ) (w₀ : List ℕ) (long : Enough n w₀) 
       → ((v : ℕ) → Flagged (regionFlags n marks w′) v ↔ Is arcs (timesIn n w) (Flagged (regionFlags n want w)) (orderIn n e w) v) × Only n marks w w′
   last i w w′ h o g =
       let same : regionFlags n want w₀ ≡ regionFlags n want w = flags-kept n want marks w w₀ (λ q. omega arith) o in
-      let l = turns.last arcs n e (regionFlags n want w₀) (front n w₀) i (front n w) (front n w′) h (two-front n w₀ ∙ (o .front ∙ sym (two-front n w))) (g .standing) in
+      let l = turns.last arcs n e (regionFlags n want w₀) (front n w₀) i (front n w) (front n w′) h (two-front n w₀ ∙ (o .front ∙ sym (two-front n w)))
+      (g .standing) in
       (λ v. rw (marks-front n w′, times-front n w, order-front n w e, same) at (l .1 v), only-then _ _ w w₀ w′ o (g .others))
 
 -- The wanted nodes stay in a search.

@@ -1,5 +1,5 @@
 -- One start after another: what is gathered so far. Assumes nothing.
-use Prim.Native.Nat.{ℕ, _+_, _*_, _≤_, _<_}
+use Prim.Native.Nat.{ℕ, _+_, _≤_, _<_}
 use native.Mathlib.Omega.{arith}
 use native.Mathlib.Decide.{ℕ-discrete}
 use mathlib.Core.Path.{_≡_, refl, sym, ap, _∙_}
@@ -12,11 +12,12 @@ use Rattle.model.specs.Walk.{Arc}
 use Rattle.algorithms.specs.Marks.{Toward}
 use Rattle.algorithms.specs.Settle.{blank}
 use Rattle.bitset.specs.Bits.{isIn, flags}
-use Rattle.index.specs.Index.{Roads}
+use Rattle.index.specs.Index.{IndexedEdges}
 use Rattle.crossing.specs.Sets.{either, ones}
 use Rattle.marks.specs.Due.{Flagged}
 use Rattle.words.specs.Regions.{regionAt, regionFlags, marks, want, own, gathered, transit, searchWords}
 use Rattle.access.specs.Gathered.{Gathered, Joined, KeptStarts}
+use Rattle.access.specs.Pairs.{NotAlone}
 use Rattle.words.proofs.Windows.{flags-kept}
 use Rattle.access.proofs.Flagging.{member→, →member, either-flagged}
 use Rattle.words.specs.Frames.{Only, KeptFrom}
@@ -49,7 +50,8 @@ kept-front n w w′ e = record {
 -- ---- one start
 module _ (arcs : List Arc) (n p : ℕ) (w : List ℕ) where
   abbrev One : List ℕ → Type 0
-  One w′ = ((v : ℕ) → Flagged (regionFlags n gathered w′) v ↔ Joined arcs (regionFlags n gathered w) (regionFlags n own w) (regionFlags n want w) p v) × KeptStarts n w w′
+  One w′ = ((v : ℕ) → Flagged (regionFlags n gathered w′) v ↔ Joined arcs (regionFlags n gathered w) (regionFlags n own w) (regionFlags n want w) p v)
+      × KeptStarts n w w′
 
   -- x are the words after the marks, and w′ those after the union.
   pub from-start : p < n → true ≡ isIn (drop (regionAt n own) w) p → (x w′ : List ℕ) → KeptFrom (searchWords n) w x
@@ -97,8 +99,12 @@ module _ (arcs : List Arc) (n : ℕ) (w₀ : List ℕ) where
     pub wanted-left : (left : ℕ) → left ≡ ones (regionFlags n want w₀) → ones (regionFlags n want w) ≤ left
     wanted-left left e = omega (arith, ap ones (g .others .wanted), e)
 
-    pub roads-gathering : (edges closed : Bytes) → Roads edges closed n w₀ → Roads edges closed n w
+    pub roads-gathering : (edges closed : Bytes) → IndexedEdges edges closed n w₀ → IndexedEdges edges closed n w
     roads-gathering edges closed r = roads-from edges closed n w₀ w (regionAt n transit) (omega arith) (g .others .rest) r
+
+    -- The starts are not alone still.
+    pub alone-gathering : (w₁ : List ℕ) → Only n gathered w₁ w₀ → NotAlone n own w₁ → NotAlone n own w
+    alone-gathering w₁ o a v f = a v (rw (g .others .starts ∙ kept-only n w₁ w₀ o .starts) at f)
 
     pub next : p < n → (w′ : List ℕ) → length w′ ≡ length w → One arcs n p w w′ → Gathering arcs n w₀ (p + 1) w′
     next h w′ k o =
@@ -121,12 +127,19 @@ module _ (arcs : List Arc) (n : ℕ) (w₀ : List ℕ) where
         pick v b (yes e) = inr (rw (g .others .starts, g .others .wanted, ← e) (b .start, b .on))
         pick v b (no d) = inl (g .members v .1 (record { q = b .q; below = omega (arith, b .below, d); start = b .start; on = b .on }))
 
-    pub last : n ≤ p → (w₁ : List ℕ) → Only n gathered w₁ w₀ → ((v : ℕ) → Flagged (regionFlags n gathered w) v ↔ Gathered arcs (regionFlags n own w₁) (regionFlags n want w₁) v) × KeptStarts n w₁ w
+    pub last : n ≤ p → (w₁ : List ℕ) → Only n gathered w₁ w₀ → ((v : ℕ) → Flagged (regionFlags n gathered w) v ↔ Gathered arcs (regionFlags n own w₁)
+        (regionFlags n want w₁) v) × KeptStarts n w₁ w
     last h w₁ o =
         let k = kept-only n w₁ w₀ o in (
           λ v. rw (← k .starts, ← k .wanted) (
             λ l. let b = g .members v .0 l in record { p = b .q; start = b .start; on = b .on },
-            λ t. g .members v .1 (record { q = t .p; below = omega (arith, member→ n (drop (regionAt n own) w₀) (t .p) (t .start) .0); start = t .start; on = t .on }),
+            λ t. g .members v .1 (record {
+              q = t .p;
+              below = omega (arith, member→ n (drop (regionAt n own) w₀) (t .p) (t .start) .0);
+              start = t .start;
+              on = t
+                  .on;
+            }),
           ),
           kept-then n w₁ w₀ w k (g .others),
         )

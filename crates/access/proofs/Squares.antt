@@ -24,7 +24,7 @@ use Rattle.bitset.proofs.Members.{length-flags}
 use Rattle.grid.specs.Squares.{SquareOf, reachesNode}
 use Rattle.grid.specs.declared.Grid.{Grid}
 use Rattle.grid.specs.declared.square.Square.{Square}
-use Rattle.index.specs.Index.{OpenAt, Roads}
+use Rattle.index.specs.Index.{OpenAt, IndexedEdges}
 use Rattle.index.proofs.Laid.{roads-only}
 use Rattle.crossing.specs.Sets.{memberFlags}
 use Rattle.crossing.specs.SetLaws.{flags-test, test-flags-same}
@@ -102,12 +102,19 @@ module _ (nodes edges closed : Bytes) (s : Square) (n k : ℕ) where
           record {
             others = q;
             stays = λ x g. rw f (set-stays (regionFlags n k w) (crossingEnd (edge edges i)) h x g);
-            real = λ x g. ⊎-elim (λ m. inl m) (λ t. inr (record { u = u; j = i; real = o; crosses = c; end = t })) (set→ (regionFlags n k w) (crossingEnd (edge edges i)) x (rw f at g));
+            real = λ x g. ⊎-elim (λ m. inl m) (λ t. inr (record { u = u; j = i; real = o; crosses = c; end = t }))
+                (set→ (regionFlags n k w) (crossingEnd (edge edges i)) x (rw f at g));
             full = λ j t d. rw (f, t) (set-here (regionFlags n k w) (crossingEnd (edge edges i)) h);
           }
       pick false c =
           let f : regionFlags n k w′ ≡ regionFlags n k w = rw c at e in
-          record { others = q; stays = λ x g. rw f g; real = λ x g. inl (rw f at g); full = λ j t d. absurd (false≢true (sym c ∙ ap (λ (z : ℕ). crossesSquare nodes s (edge edges z)) (sym t) ∙ d)) }
+          record {
+            others = q;
+            stays = λ x g. rw f g;
+            real = λ x g. inl (rw f at g);
+            full = λ j t d. absurd
+                (false≢true (sym c ∙ ap (λ (z : ℕ). crossesSquare nodes s (edge edges z)) (sym t) ∙ d));
+          }
 
   -- ---- the open edges at v, as a cursor passes them
   pub record Walked (v : ℕ) (w₀ : List ℕ) (c : Cursor) (w : List ℕ) : Type 0 where
@@ -129,11 +136,12 @@ module _ (nodes edges closed : Bytes) (s : Square) (n k : ℕ) where
           pub walked-valid : Valid edges closed n w′ v c
           walked-valid = valid-kept edges closed n w w′ index-same v c (g .passing .valid)
 
-          pub walked-roads : Roads edges closed n w₀ → Roads edges closed n w′
+          pub walked-roads : IndexedEdges edges closed n w₀ → IndexedEdges edges closed n w′
           walked-roads r = roads-only edges closed n w₀ w′ _ _ h (only-then _ _ w₀ w w′ (g .put .others) o) r
 
           pub walked-next : someEdgeBroken n edges ≡ false → c .edge < edgeCount edges
-              → regionFlags n k w′ ≡ cond (crossesSquare nodes s (edge edges (c .edge))) (set (regionFlags n k w) (crossingEnd (edge edges (c .edge))) 1) (regionFlags n k w)
+              → regionFlags n k w′ ≡ cond (crossesSquare nodes s (edge edges (c .edge))) (set (regionFlags n k w) (crossingEnd (edge edges (c .edge))) 1)
+              (regionFlags n k w)
               → (c′ : Cursor) → Stepped edges closed n w′ v c c′ → Walked v w₀ c′ w′
           unfolding crossingEnd
           walked-next ends l e c′ t =
@@ -169,9 +177,11 @@ module _ (nodes edges closed : Bytes) (s : Square) (n k : ℕ) where
           pick j i (no d) = record { u = i .u; below = omega (arith, i .below, d); real = i .real; inside = i .inside }
 
 -- ---- at the end
-module _ {nodes edges closed : Bytes} {grid : Grid} (ground : Ground nodes edges closed grid) (r : ℕ) (c : model.Cell) (s : Square) (q : SquareOf grid c r s) (n : ℕ) (size : n ≡ nodeCount nodes) where
+module _ {nodes edges closed : Bytes} {grid : Grid} (ground : Ground nodes edges closed grid) (r : ℕ) (c : model.Cell) (s : Square) (q : SquareOf grid c r s)
+    (n : ℕ) (size : n ≡ nodeCount nodes) where
   same : (j : ℕ) → j < edgeCount edges → crossesSquare nodes s (edge edges j) ≡ crosses (cellsIn grid nodes) r c (edge edges j)
-  same j h = let f = edge-fine (nodeCount nodes) edges (ground .edges-rule) j h in crosses-same (ground .over) r c s q (edge edges j) (f .first-in) (f .second-in)
+  same j h = let f = edge-fine (nodeCount nodes) edges (ground .edges-rule) j h in crosses-same (ground .over) r c s q (edge edges j) (f .first-in)
+      (f .second-in)
 
   listed : (x : ℕ) → CrossingOf nodes edges closed s x → List·Memᴰ x (crossings (cellsIn grid nodes) (openIn edges closed) r c)
   unfolding crossings openEdges
@@ -182,16 +192,29 @@ module _ {nodes edges closed : Bytes} {grid : Grid} (ground : Ground nodes edges
       subst (λ (z : ℕ). List·Memᴰ z (crossings (cellsIn grid nodes) (openIn edges closed) r c)) (sym (o .end)) m
 
   -- An edge that crosses has an end inside.
-  end-inside : (j : ℕ) → j < edgeCount edges → isOpen (words16 closed) j ≡ true → crossesSquare nodes s (edge edges j) ≡ true → (v : ℕ) → n ≤ v → Inside nodes edges closed s v j
+  end-inside : (j : ℕ) → j < edgeCount edges → isOpen (words16 closed) j ≡ true → crossesSquare nodes s (edge edges j) ≡ true → (v : ℕ) → n ≤ v
+      → Inside nodes edges closed s v j
   unfolding crossesSquare
   end-inside j h o e v l =
       let f = edge-fine (nodeCount nodes) edges (ground .edges-rule) j h in
       ⊎-elim
-      (λ i. record { u = edge edges j .first; below = omega (arith, f .first-in, size, l); real = record { below = h; unclosed = o; end = inl refl }; inside = i })
-      (λ i. record { u = edge edges j .second; below = omega (arith, f .second-in, size, l); real = record { below = h; unclosed = o; end = inr refl }; inside = i })
+      (λ i. record {
+        u = edge edges j .first;
+        below = omega (arith, f .first-in, size, l);
+        real = record { below = h; unclosed = o; end = inl refl };
+        inside = i;
+      })
+      (λ i. record {
+        u = edge edges j .second;
+        below = omega (arith, f .second-in, size, l);
+        real = record { below = h; unclosed = o; end = inr refl };
+        inside =
+            i;
+      })
       (one-of _ _ e)
 
-  module _ (k : ℕ) (x : List ℕ) (z : regionFlags n k x ≡ replicate n 0) (v : ℕ) (l : n ≤ v) (y : List ℕ) (p : Put nodes edges closed s (Inside nodes edges closed s v) n k x y) where
+  module _ (k : ℕ) (x : List ℕ) (z : regionFlags n k x ≡ replicate n 0) (v : ℕ) (l : n ≤ v) (y : List ℕ)
+      (p : Put nodes edges closed s (Inside nodes edges closed s v) n k x y) where
     found : (a : ℕ) → List·Memᴰ a (crossings (cellsIn grid nodes) (openIn edges closed) r c) → Flagged (regionFlags n k y) a
     unfolding crossings openEdges
     found a m =

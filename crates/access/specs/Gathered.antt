@@ -3,7 +3,6 @@ use Prim.Native.Nat.{ℕ}
 use mathlib.Core.Path.{_≡_}
 use mathlib.Core.Logic.{_⊎_}
 use mathlib.Core.List.{List}
-use lib.ListN.{drop}
 use Rattle.model.specs.Walk.{Arc}
 use Rattle.algorithms.specs.Marks.{Toward}
 use Rattle.marks.specs.Due.{Flagged}

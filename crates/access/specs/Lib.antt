@@ -1,3 +1,4 @@
 pub mod Gathered
 pub mod Networks
 pub mod Crossed
+pub mod Pairs

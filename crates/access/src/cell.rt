@@ -1,10 +1,9 @@
 // The access nodes of a cell.
 ghost use mathlib.Core.Path.{_≡_};
-ghost use Prim.Native.Nat.{_*_, _≤_};
-ghost use lib.ListN.{length, drop};
+ghost use Prim.Native.Nat.{_≤_};
 ghost use Rattle.model.specs.Network.{maxNodes, nodeCount, distance};
 ghost use Rattle.model.specs.Access.{crossings, accessNodes};
-ghost use Rattle.index.specs.Index.{Roads};
+ghost use Rattle.index.specs.Index.{IndexedEdges};
 ghost use Rattle.grid.specs.Stored.{gridOf, modelCell};
 ghost use Rattle.crossing.specs.Sets.{testFlags, memberFlags};
 ghost use Rattle.crossing.specs.Ground.{cellsIn, openIn, Ground};
@@ -32,8 +31,9 @@ fn cell_gather(
     work: &mut [u32],
 )
     requires { ⌜ Ground (now nodes) (now edges) (now closed) grid × (n ≡ nodeCount (now nodes)) × (n ≤ maxNodes) × Enough n (now work) × (1 ≤ n) ⌝ }
-    requires { ⌜ Roads (now edges) (now closed) n (now work) ⌝ }
-    ensures members { λ _. ⌜ regionFlags n gathered (now (work .exit)) ≡ testFlags (through (distance (networkIn (now (nodes .entry)) (now (edges .entry)) (now (closed .entry))))
+    requires { ⌜ IndexedEdges (now edges) (now closed) n (now work) ⌝ }
+    ensures members { λ _. ⌜ regionFlags n gathered (now (work .exit)) ≡ testFlags
+        (through (distance (networkIn (now (nodes .entry)) (now (edges .entry)) (now (closed .entry))))
         (crossings (cellsIn grid (now (nodes .entry))) (openIn (now (edges .entry)) (now (closed .entry))) 0 (modelCell c))
         (crossings (cellsIn grid (now (nodes .entry))) (openIn (now (edges .entry)) (now (closed .entry))) (gridOf grid .outer) (modelCell c))) n ⌝ }
     ensures others { λ _. ⌜ KeptFrom (regionAt n transit) (now (work .entry)) (now (work .exit)) ⌝ }
@@ -54,8 +54,9 @@ pub fn cell_access(
     work: &mut [u32],
 )
     requires { ⌜ Ground (now nodes) (now edges) (now closed) grid × (n ≡ nodeCount (now nodes)) × (n ≤ maxNodes) × Enough n (now work) × (1 ≤ n) ⌝ }
-    requires { ⌜ Roads (now edges) (now closed) n (now work) ⌝ }
-    ensures members { λ _. ⌜ regionFlags n own (now (work .exit)) ≡ memberFlags n (accessNodes (distance (networkIn (now (nodes .entry)) (now (edges .entry)) (now (closed .entry))))
+    requires { ⌜ IndexedEdges (now edges) (now closed) n (now work) ⌝ }
+    ensures members { λ _. ⌜ regionFlags n own (now (work .exit)) ≡ memberFlags n
+        (accessNodes (distance (networkIn (now (nodes .entry)) (now (edges .entry)) (now (closed .entry))))
         (gridOf grid) (cellsIn grid (now (nodes .entry))) (openIn (now (edges .entry)) (now (closed .entry))) (modelCell c)) ⌝ }
     ensures others { λ _. ⌜ KeptFrom (regionAt n transit) (now (work .entry)) (now (work .exit)) ⌝ }
 {

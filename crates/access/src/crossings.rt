@@ -2,12 +2,12 @@
 // not looked at.
 ghost use mathlib.Core.Path.{_≡_};
 ghost use mathlib.Core.Bool.{false, cond};
-ghost use Prim.Native.Nat.{_+_, _*_, _<_, _≤_};
+ghost use Prim.Native.Nat.{_+_, _<_, _≤_};
 ghost use lib.ListN.{length, set};
 ghost use Rattle.model.specs.Network.{maxNodes, edge, edgeCount, nodeCount, someEdgeBroken};
 ghost use Rattle.model.specs.Access.{crossingEnd};
 ghost use Rattle.bitset.specs.Bits.{setWords};
-ghost use Rattle.index.specs.Index.{OpenAt, Roads};
+ghost use Rattle.index.specs.Index.{OpenAt, IndexedEdges};
 ghost use Rattle.crossing.specs.Beside.{crossesSquare};
 ghost use Rattle.words.specs.Regions.{regionAt, regionFlags, indexAt};
 ghost use Rattle.access.specs.Crossed.{Put, CrossingsOf};
@@ -31,8 +31,10 @@ fn put_crossing(
     k: usize,
     work: &mut [u32],
 )
-    requires { ⌜ (n ≡ nodeCount (now nodes)) × (someEdgeBroken n (now edges) ≡ false) × (i < edgeCount (now edges)) × (regionAt n k + setWords n ≤ length (now work)) ⌝ }
-    ensures members { λ _. ⌜ regionFlags n k (now (work .exit)) ≡ cond (crossesSquare (now (nodes .entry)) square (edge (now (edges .entry)) i)) (set (regionFlags n k (now (work .entry))) (crossingEnd (edge (now (edges .entry)) i)) 1) (regionFlags n k (now (work .entry))) ⌝ }
+    requires { ⌜ (n ≡ nodeCount (now nodes)) × (someEdgeBroken n (now edges) ≡ false) × (i < edgeCount (now edges))
+        × (regionAt n k + setWords n ≤ length (now work)) ⌝ }
+    ensures members { λ _. ⌜ regionFlags n k (now (work .exit)) ≡ cond (crossesSquare (now (nodes .entry)) square (edge (now (edges .entry)) i))
+        (set (regionFlags n k (now (work .entry))) (crossingEnd (edge (now (edges .entry)) i)) 1) (regionFlags n k (now (work .entry))) ⌝ }
     ensures others { λ _. ⌜ Only n k (now (work .entry)) (now (work .exit)) ⌝ }
 {
     if crosses_edge(nodes, edges, square, i) {
@@ -52,8 +54,9 @@ fn put_crossings_at(
     work: &mut [u32],
 )
     requires { ⌜ (n ≡ nodeCount (now nodes)) × (n ≤ maxNodes) × Enough n (now work) × (v < n) × (regionAt n k + setWords n ≤ indexAt n) ⌝ }
-    requires { ⌜ Roads (now edges) (now closed) n (now work) ⌝ }
-    ensures { λ _. ⌜ Put (now (nodes .entry)) (now (edges .entry)) (now (closed .entry)) square (OpenAt (now (edges .entry)) (now (closed .entry)) v) n k (now (work .entry)) (now (work .exit)) ⌝ }
+    requires { ⌜ IndexedEdges (now edges) (now closed) n (now work) ⌝ }
+    ensures { λ _. ⌜ Put (now (nodes .entry)) (now (edges .entry)) (now (closed .entry)) square (OpenAt (now (edges .entry)) (now (closed .entry)) v) n k
+        (now (work .entry)) (now (work .exit)) ⌝ }
 {
     let m = edges.len() / EDGE_SIZE;
     let mut c = first_edge(edges, closed, n, work, v);
@@ -74,7 +77,7 @@ pub fn put_crossings(
     work: &mut [u32],
 )
     requires { ⌜ (n ≡ nodeCount (now nodes)) × (n ≤ maxNodes) × Enough n (now work) × (1 ≤ n) × (regionAt n k + setWords n ≤ indexAt n) ⌝ }
-    requires { ⌜ Roads (now edges) (now closed) n (now work) ⌝ }
+    requires { ⌜ IndexedEdges (now edges) (now closed) n (now work) ⌝ }
     ensures members { λ _. ⌜ CrossingsOf (now (nodes .entry)) (now (edges .entry)) (now (closed .entry)) square n (regionFlags n k (now (work .exit))) ⌝ }
     ensures others { λ _. ⌜ Only n k (now (work .entry)) (now (work .exit)) ⌝ }
 {

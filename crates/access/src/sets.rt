@@ -8,6 +8,7 @@ ghost use Rattle.crossing.specs.Sets.{either, both, ones};
 ghost use Rattle.words.specs.Regions.{regionAt, regionFlags};
 ghost use Rattle.words.specs.Frames.{Only};
 use bitset::bits::set_words;
+use words::regions::region;
 use words::regions::region_at;
 
 // Puts the members that the word at `from` has into the word at `into`.
@@ -44,7 +45,8 @@ fn meet_word(work: &mut [u32], a: usize, b: usize, into: usize)
 
 // Makes region `into` the set of those that are in region a and in region b.
 pub fn meet(work: &mut [u32], n: usize, a: usize, b: usize, into: usize)
-    requires { ⌜ (regionAt n a + setWords n ≤ length (now work)) × (regionAt n b + setWords n ≤ length (now work)) × (regionAt n into + setWords n ≤ length (now work)) ⌝ }
+    requires { ⌜ (regionAt n a + setWords n ≤ length (now work)) × (regionAt n b + setWords n ≤ length (now work))
+        × (regionAt n into + setWords n ≤ length (now work)) ⌝ }
     requires { ⌜ (a ≡ into → ⊥) × (b ≡ into → ⊥) ⌝ }
     ensures members { λ _. ⌜ regionFlags n into (now (work .exit)) ≡ both (regionFlags n a (now (work .entry))) (regionFlags n b (now (work .entry))) ⌝ }
     ensures others { λ _. ⌜ Only n into (now (work .entry)) (now (work .exit)) ⌝ }
@@ -65,7 +67,5 @@ pub fn count(work: &[u32], n: usize, k: usize) -> usize
     requires { ⌜ regionAt n k + setWords n ≤ length (now work) ⌝ }
     ensures { λ r. ⌜ r ≡ ones (regionFlags n k (now (work .entry))) ⌝ }
 {
-    let a = region_at(n, k);
-    let e = a + set_words(n);
-    bitset::counts::count(n, &work[a..e])
+    bitset::counts::count(n, region(work, n, k))
 }

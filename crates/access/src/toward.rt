@@ -1,13 +1,13 @@
 // The nodes on least walks from one node to wanted ones, with the wanted set among the working words: `marks`, over regions.
 ghost use mathlib.Core.Path.{_≡_};
 ghost use mathlib.Core.Logic.{_↔_};
-ghost use Prim.Native.Nat.{ℕ, _+_, _*_, _<_, _≤_};
-ghost use lib.ListN.{length, getD, drop};
+ghost use Prim.Native.Nat.{ℕ, _+_, _<_, _≤_};
+ghost use lib.ListN.{getD};
 ghost use Rattle.model.specs.Network.{maxNodes};
 ghost use Rattle.algorithms.specs.Marks.{Toward};
 ghost use Rattle.algorithms.specs.Pass.{Is};
 ghost use Rattle.arcs.specs.Arcs.{arcsIn};
-ghost use Rattle.index.specs.Index.{Roads};
+ghost use Rattle.index.specs.Index.{IndexedEdges};
 ghost use Rattle.crossing.specs.Sets.{ones};
 ghost use Rattle.marks.specs.Due.{Flagged, due, turned};
 ghost use Rattle.words.specs.Regions.{regionFlags, marks, want, timesIn, orderIn, searchWords};
@@ -24,8 +24,9 @@ use words::regions::put;
 // Whether v is to be marked: it is wanted itself, or leads on.
 fn is_due(edges: &[u8], closed: &[u8], n: usize, work: &[u32], v: usize) -> bool
     requires { ⌜ (n ≤ maxNodes) × (v < n) × Enough n (now work) ⌝ }
-    requires { ⌜ Roads (now edges) (now closed) n (now work) ⌝ }
-    ensures { λ r. ⌜ r ≡ due (arcsIn (now (edges .entry)) (now (closed .entry))) (timesIn n (now (work .entry))) (regionFlags n want (now (work .entry))) (regionFlags n marks (now (work .entry))) v ⌝ }
+    requires { ⌜ IndexedEdges (now edges) (now closed) n (now work) ⌝ }
+    ensures { λ r. ⌜ r ≡ due (arcsIn (now (edges .entry)) (now (closed .entry))) (timesIn n (now (work .entry))) (regionFlags n want (now (work .entry)))
+        (regionFlags n marks (now (work .entry))) v ⌝ }
 {
     if has(work, n, WANT, v) {
         return true;
@@ -36,8 +37,9 @@ fn is_due(edges: &[u8], closed: &[u8], n: usize, work: &[u32], v: usize) -> bool
 // Marks v, if it is due.
 fn mark(edges: &[u8], closed: &[u8], n: usize, work: &mut [u32], v: usize)
     requires { ⌜ (n ≤ maxNodes) × (v < n) × Enough n (now work) ⌝ }
-    requires { ⌜ Roads (now edges) (now closed) n (now work) ⌝ }
-    ensures members { λ _. ⌜ regionFlags n marks (now (work .exit)) ≡ turned (arcsIn (now (edges .entry)) (now (closed .entry))) (timesIn n (now (work .entry))) (regionFlags n want (now (work .entry))) (regionFlags n marks (now (work .entry))) v ⌝ }
+    requires { ⌜ IndexedEdges (now edges) (now closed) n (now work) ⌝ }
+    ensures members { λ _. ⌜ regionFlags n marks (now (work .exit)) ≡ turned (arcsIn (now (edges .entry)) (now (closed .entry))) (timesIn n (now (work .entry)))
+        (regionFlags n want (now (work .entry))) (regionFlags n marks (now (work .entry))) v ⌝ }
     ensures others { λ _. ⌜ Only n marks (now (work .entry)) (now (work .exit)) ⌝ }
 {
     if is_due(edges, closed, n, work, v) {
@@ -48,8 +50,9 @@ fn mark(edges: &[u8], closed: &[u8], n: usize, work: &mut [u32], v: usize)
 // Marks the node at position i of the order, if it is due.
 fn mark_at(edges: &[u8], closed: &[u8], n: usize, work: &mut [u32], i: usize)
     requires { ⌜ (n ≤ maxNodes) × (i < n) × Enough n (now work) × (getD (now work) (n + i) 0 < n) ⌝ }
-    requires { ⌜ Roads (now edges) (now closed) n (now work) ⌝ }
-    ensures members { λ _. ⌜ regionFlags n marks (now (work .exit)) ≡ turned (arcsIn (now (edges .entry)) (now (closed .entry))) (timesIn n (now (work .entry))) (regionFlags n want (now (work .entry))) (regionFlags n marks (now (work .entry))) (getD (now (work .entry)) (n + i) 0) ⌝ }
+    requires { ⌜ IndexedEdges (now edges) (now closed) n (now work) ⌝ }
+    ensures members { λ _. ⌜ regionFlags n marks (now (work .exit)) ≡ turned (arcsIn (now (edges .entry)) (now (closed .entry))) (timesIn n (now (work .entry)))
+        (regionFlags n want (now (work .entry))) (regionFlags n marks (now (work .entry))) (getD (now (work .entry)) (n + i) 0) ⌝ }
     ensures others { λ _. ⌜ Only n marks (now (work .entry)) (now (work .exit)) ⌝ }
 {
     let v = work[n + i] as usize;
@@ -59,9 +62,10 @@ fn mark_at(edges: &[u8], closed: &[u8], n: usize, work: &mut [u32], i: usize)
 // After a search whose order begins at position e: marks each node of the order that is wanted, or from which a tight arc leads to a marked one.
 pub fn mark_back(edges: &[u8], closed: &[u8], n: usize, e: usize, work: &mut [u32])
     requires { ⌜ (n ≤ maxNodes) × (e ≤ n) × Enough n (now work) × Ordered n (timesIn n (now work)) (orderIn n e (now work)) × (1 ≤ n) ⌝ }
-    requires { ⌜ Roads (now edges) (now closed) n (now work) ⌝ }
+    requires { ⌜ IndexedEdges (now edges) (now closed) n (now work) ⌝ }
     ensures members { λ _. ⌜ ((v : ℕ) → Flagged (regionFlags n marks (now (work .exit))) v
-        ↔ Is (arcsIn (now (edges .entry)) (now (closed .entry))) (timesIn n (now (work .entry))) (Flagged (regionFlags n want (now (work .entry)))) (orderIn n e (now (work .entry))) v) ⌝ }
+        ↔ Is (arcsIn (now (edges .entry)) (now (closed .entry))) (timesIn n (now (work .entry))) (Flagged (regionFlags n want (now (work .entry))))
+        (orderIn n e (now (work .entry))) v) ⌝ }
     ensures others { λ _. ⌜ Only n marks (now (work .entry)) (now (work .exit)) ⌝ }
 {
     clear(work, n, MARKS);
@@ -74,9 +78,10 @@ pub fn mark_back(edges: &[u8], closed: &[u8], n: usize, e: usize, work: &mut [u3
 
 // Marks every node that lies on some least walk from p to a wanted node, of which there are at most `left`, every equally quick way counted, and no other.
 pub fn toward(edges: &[u8], closed: &[u8], n: usize, p: usize, left: usize, work: &mut [u32])
-    requires { ⌜ (n ≤ maxNodes) × (p < n) × Enough n (now work) × (ones (regionFlags n want (now work)) ≤ left) ⌝ }
-    requires { ⌜ Roads (now edges) (now closed) n (now work) ⌝ }
-    ensures members { λ _. ⌜ ((v : ℕ) → Flagged (regionFlags n marks (now (work .exit))) v ↔ Toward (arcsIn (now (edges .entry)) (now (closed .entry))) p (Flagged (regionFlags n want (now (work .entry)))) v) ⌝ }
+    requires { ⌜ (n ≤ maxNodes) × (p < n) × Enough n (now work) × (ones (regionFlags n want (now work)) ≤ left) × (2 ≤ n) ⌝ }
+    requires { ⌜ IndexedEdges (now edges) (now closed) n (now work) ⌝ }
+    ensures members { λ _. ⌜ ((v : ℕ) → Flagged (regionFlags n marks (now (work .exit))) v ↔ Toward (arcsIn (now (edges .entry)) (now (closed .entry))) p
+        (Flagged (regionFlags n want (now (work .entry)))) v) ⌝ }
     ensures others { λ _. ⌜ KeptFrom (searchWords n) (now (work .entry)) (now (work .exit)) ⌝ }
 {
     let e = search_wanted(edges, closed, n, p, left, work);

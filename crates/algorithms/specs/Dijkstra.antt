@@ -7,13 +7,13 @@ use native.Mathlib.Omega.{arith}
 use mathlib.Core.Path.{_≡_, refl, sym, ap, _∙_}
 use mathlib.Core.Logic.{_⊎_, inl, inr, ⊎-elim, _↔_}
 use mathlib.Core.List.{List, [], _∷_, _++_, List·Memᴰ·head, List·Memᴰ·tail, List·Memᴰ·not-nil, List·Memᴰ·cases-cons}
-use lib.ListN.{length, getD, set, take, replicate, length-set, length-replicate, getD-replicate}
-use lib.Seq.{getD-set-same, getD-set-other, set-out, set-getD, take-suc, ext-getD}
+use lib.ListN.{length, getD, set, replicate, length-set, length-replicate, getD-replicate}
+use lib.Seq.{getD-set-same, getD-set-other, set-out, ext-getD}
 use Rattle.model.specs.Walk.{Arc, Mem, Walk, stay, go, Least}
 use Rattle.model.specs.Distance.{Distance, unreachable, finite, dist}
 use Rattle.model.specs.Oracle.{noWalk, coded}
 use Rattle.theory.specs.Walks.{Within, Costs, along}
-use Rattle.theory.specs.Exact.{time-least, none-no-walk, dist-bound, least-bound}
+use Rattle.theory.specs.Exact.{time-least, none-no-walk, dist-bound}
 
 -- The word of a node.
 abbrev pub at : List ℕ → ℕ → ℕ
@@ -59,7 +59,8 @@ relax-from P c a d p h = at-set P d (a .to) _ (pick (decLe (at d (a .to)) (c + a
     pick (yes l) = rw min-eq-left (h (a .to))
     pick (no l) = rw (min-eq-right {n = c + a .cost} {m = at d (a .to)} (omega arith)) p
 
-pub relax-all-from : (P : ℕ → ℕ → Type 0) (c : ℕ) (out : List Arc) (d : List ℕ) → ((a : Arc) → Mem a out → P (a .to) (c + a .cost)) → ((v : ℕ) → P v (at d v)) → (v : ℕ) → P v (at (relax-all c out d) v)
+pub relax-all-from : (P : ℕ → ℕ → Type 0) (c : ℕ) (out : List Arc) (d : List ℕ) → ((a : Arc) → Mem a out → P (a .to) (c + a .cost)) → ((v : ℕ) → P v (at d v))
+    → (v : ℕ) → P v (at (relax-all c out d) v)
 unfolding relax-all
 relax-all-from P c [] d p h = h
 relax-all-from P c (a ∷ out) d p h =
@@ -81,13 +82,16 @@ unfolding relax-all relax
 relax-all-hits c [] d a i h = absurd (List·Memᴰ·not-nil i)
 relax-all-hits c (b ∷ out) d a i h = pick (relax-all-hits c out (relax c b d) a) (List·Memᴰ·cases-cons i)
   where
-    pick : (Mem a out → a .to < length (relax c b d) → at (relax-all c out (relax c b d)) (a .to) ≤ c + a .cost) → (a ≡ b) ⊎ Mem a out → at (relax-all c out (relax c b d)) (a .to) ≤ c + a .cost
+    pick : (Mem a out → a .to < length (relax c b d) → at (relax-all c out (relax c b d)) (a .to) ≤ c + a .cost) → (a ≡ b) ⊎ Mem a out
+        → at (relax-all c out (relax c b d)) (a .to) ≤ c + a .cost
     pick rec (inr j) = rec j (rw length-set h)
     pick rec (inl e) = rw (← e) (omega (arith, relax-all-le c out (relax c a d) (a .to), getD-set-same d (a .to) (min (at d (a .to)) (c + a .cost)) 0 h))
 
 -- Lists of the same arcs relax alike, whatever their order.
-relax-all-below : (c : ℕ) (xs ys : List Arc) (d : List ℕ) → ((a : Arc) → Mem a ys → Mem a xs) → (v : ℕ) → v < length d → at (relax-all c xs d) v ≤ at (relax-all c ys d) v
-relax-all-below c xs ys d sub = relax-all-from (λ v x. v < length d → at (relax-all c xs d) v ≤ x) c ys d (λ a i h. relax-all-hits c xs d a (sub a i) h) (λ v h. relax-all-le c xs d v)
+relax-all-below : (c : ℕ) (xs ys : List Arc) (d : List ℕ) → ((a : Arc) → Mem a ys → Mem a xs) → (v : ℕ) → v < length d
+    → at (relax-all c xs d) v ≤ at (relax-all c ys d) v
+relax-all-below c xs ys d sub = relax-all-from (λ v x. v < length d → at (relax-all c xs d) v ≤ x) c ys d (λ a i h. relax-all-hits c xs d a (sub a i) h)
+    (λ v h. relax-all-le c xs d v)
 
 pub relax-all-same : (c : ℕ) (xs ys : List Arc) (d : List ℕ) → ((a : Arc) → Mem a xs ↔ Mem a ys) → relax-all c xs d ≡ relax-all c ys d
 relax-all-same c xs ys d same =
@@ -138,7 +142,8 @@ start-inv arcs N s h = record {
   flags = simp length-replicate;
   fits = at-set (λ v x. x ≤ noWalk) (replicate N noWalk) s 0 (omega arith) (at-replicate-le N noWalk);
   begun = getD-set-same (replicate N noWalk) s 0 0 (rw length-replicate h);
-  real = at-set (λ v x. v < N → x < noWalk → Walk arcs s v x) (replicate N noWalk) s 0 (λ i l. stay) (λ v i l. absurd (omega (arith, getD-replicate N v noWalk 0 i)));
+  real = at-set (λ v x. v < N → x < noWalk → Walk arcs s v x) (replicate N noWalk) s 0 (λ i l. stay)
+      (λ v i l. absurd (omega (arith, getD-replicate N v noWalk 0 i)));
   relaxed = λ a i l. absurd (omega (arith, at-replicate-le N 0 (a .from)));
   ordered = λ x y i j l e. absurd (omega (arith, at-replicate-le N 0 x));
 }
@@ -227,12 +232,14 @@ module _ (arcs : List Arc) (N s : ℕ) (within : Within N arcs) (s-in : s < N) (
   pub finish-le : ((v : ℕ) → v < N → at done v ≡ 0 → at d v ≡ noWalk) → (t n : ℕ) → Walk arcs s t n → at d t ≤ n
   finish-le all t n w = ⊎-elim (λ l. l) (λ y. omega (arith, all (y .0) (y .1) (y .2), y .3, inv .fits t)) (from-start w)
 
-  pub finish : (K : ℕ) → Costs K arcs → (N - 1) * K < noWalk → ((v : ℕ) → v < N → at done v ≡ 0 → at d v ≡ noWalk) → (t : ℕ) → t < N → at d t ≡ coded (dist arcs N s t)
+  pub finish : (K : ℕ) → Costs K arcs → (N - 1) * K < noWalk → ((v : ℕ) → v < N → at done v ≡ 0 → at d v ≡ noWalk) → (t : ℕ) → t < N
+      → at d t ≡ coded (dist arcs N s t)
   unfolding coded
   finish K c small all t i = pick (dist arcs N s t) refl
     where
       pick : (p : Distance) → dist arcs N s t ≡ p → at d t ≡ coded p
-      pick unreachable e = ⊎-elim (λ (l : at d t < noWalk). absurd (none-no-walk arcs N s t within s-in e (at d t) (inv .real t i l))) (λ (l : noWalk ≤ at d t). omega (arith, inv .fits t)) (lt-or (at d t) noWalk)
+      pick unreachable e = ⊎-elim (λ (l : at d t < noWalk). absurd (none-no-walk arcs N s t within s-in e (at d t) (inv .real t i l)))
+          (λ (l : noWalk ≤ at d t). omega (arith, inv .fits t)) (lt-or (at d t) noWalk)
       pick (finite n) e =
           let l : Least arcs s t n = time-least arcs N s t within s-in n e in
           let h : at d t ≤ n = finish-le all t n (l .has) in

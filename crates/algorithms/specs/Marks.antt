@@ -35,7 +35,16 @@ marked-reached (leads a i r e m) = r
 
 module _ (arcs : List Arc) (p : ℕ) (R : ℕ → Type 0) (D : ℕ → ℕ) (Q : ℕ → Type 0) (found : Search arcs p R D Q) where
   pub marked-toward : {v : ℕ} → Marked arcs R D Q v → Toward arcs p Q v
-  marked-toward {v} (ends r g) = record { q = v; x = D v; y = 0; goal = g; before = found .exact v r; after = least-stay v; whole = rw add-zero (found .exact v r) }
+  marked-toward {v} (ends r g) = record {
+    q = v;
+    x = D v;
+    y = 0;
+    goal = g;
+    before = found .exact v r;
+    after = least-stay v;
+    whole = rw add-zero
+        (found .exact v r);
+  }
   marked-toward (leads a i r e m) = step (marked-toward m)
     where
       step : Toward arcs p Q (a .to) → Toward arcs p Q (a .from)

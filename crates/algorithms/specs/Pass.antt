@@ -75,7 +75,8 @@ module _ (arcs : List Arc) (d : List ℕ) (Q : ℕ → Type 0) (order : List ℕ
     turn-mark r why = record {
       words = rw length-set (u .words);
       real = λ w l. ⊎-elim (λ e. subst Is (sym e) (reason-marked v r (u .real) why)) (λ k. u .real w k) (mark-cases m v w l);
-      full = λ w n k. ⊎-elim (λ e. flag-here m v w room e) (λ ne. flag-stays m v w room (u .full w (λ i. ⊎-elim (λ e. ne e) n (List·Memᴰ·cases-cons i)) k)) (same-or w);
+      full = λ w n k. ⊎-elim (λ e. flag-here m v w room e) (λ ne. flag-stays m v w room (u .full w (λ i. ⊎-elim (λ e. ne e) n (List·Memᴰ·cases-cons i)) k))
+          (same-or w);
     }
       where
         same-or : (w : ℕ) → (w ≡ v) ⊎ (w ≡ v → ⊥)

@@ -14,7 +14,8 @@ use Rattle.algorithms.specs.Dijkstra.{at}
 use Rattle.algorithms.specs.Rounds.{Found, distanceWords}
 use Rattle.algorithms.specs.Marks.{Search}
 
-module _ (arcs : List Arc) (N s : ℕ) (within : Within N arcs) (s-in : s < N) (K : ℕ) (costs : Costs K arcs) (small : (N - 1) * K < noWalk) (d order : List ℕ) (found : Found arcs N s d order) where
+module _ (arcs : List Arc) (N s : ℕ) (within : Within N arcs) (s-in : s < N) (K : ℕ) (costs : Costs K arcs) (small : (N - 1) * K < noWalk) (d order : List ℕ)
+    (found : Found arcs N s d order) where
   -- The word of each node.
   pub word-of : (v : ℕ) → v < N → at d v ≡ coded (dist arcs N s v)
   unfolding distanceWords

@@ -53,7 +53,8 @@ falling-same d d′ (v ∷ order) keep f = (
 )
 
 -- To settle a node puts it in front.
-module _ (arcs : List Arc) (N s : ℕ) (within : Within N arcs) (s-in : s < N) (d done : List ℕ) (inv : Inv arcs N s d done) (order : List ℕ) (kept : Kept N d done order)
+module _ (arcs : List Arc) (N s : ℕ) (within : Within N arcs) (s-in : s < N) (d done : List ℕ) (inv : Inv arcs N s d done) (order : List ℕ)
+    (kept : Kept N d done order)
     (u : ℕ) (near : Nearest N d done u) (out : List Arc) (o : Out arcs u out) where
   abbrev d′ : List ℕ
   d′ = relax-all (at d u) out d

@@ -19,7 +19,8 @@ use Rattle.algorithms.specs.Rounds.{Found, State, distanceWords}
 use Rattle.algorithms.specs.Marks.{Search}
 use Rattle.algorithms.specs.Searches.{word-of, found-search}
 
--- What a search from s has found that stopped when each wanted node was settled, or no reached node was left: in `order` the settled nodes, the farthest first, with
+-- What a search from s has found that stopped when each wanted node was settled, or no reached node was left: in `order` the settled nodes, the farthest
+-- first, with
 -- their distances; and the distance of each wanted node. A node that is not settled is no nearer than a settled one.
 pub record Stopped (arcs : List Arc) (N s : ℕ) (want d order : List ℕ) : Type 0 where
   pub words : length d ≡ N
@@ -100,7 +101,8 @@ lacking-none (suc w ∷ want) (suc f ∷ done) z zero h g = omega arith
 lacking-none (w ∷ want) (f ∷ done) z (suc v) h g = lacking-none want done (omega arith) v (omega arith) g
 
 -- ---- where no reached node is left
-module _ (arcs : List Arc) (N s : ℕ) (within : Within N arcs) (s-in : s < N) (K : ℕ) (costs : Costs K arcs) (small : (N - 1) * K < noWalk) (d order : List ℕ) (found : Found arcs N s d order) where
+module _ (arcs : List Arc) (N s : ℕ) (within : Within N arcs) (s-in : s < N) (K : ℕ) (costs : Costs K arcs) (small : (N - 1) * K < noWalk) (d order : List ℕ)
+    (found : Found arcs N s d order) where
   word : (v : ℕ) → v < N → at d v ≡ coded (dist arcs N s v)
   word = word-of arcs N s within s-in K costs small d order found
 
@@ -119,7 +121,8 @@ module _ (arcs : List Arc) (N s : ℕ) (within : Within N arcs) (s-in : s < N) (
   }
 
 -- ---- where each wanted node is settled
-module _ (arcs : List Arc) (N s : ℕ) (within : Within N arcs) (s-in : s < N) (positive : Positive arcs) (want d done order : List ℕ) (st : State arcs N s d done order)
+module _ (arcs : List Arc) (N s : ℕ) (within : Within N arcs) (s-in : s < N) (positive : Positive arcs) (want d done order : List ℕ)
+    (st : State arcs N s d done order)
     (all : (v : ℕ) → v < N → 0 < at want v → 0 < at done v) where
   settled-exact : (v : ℕ) → v < N → 0 < at done v → Least arcs s v (at d v)
   settled-exact v i h = settled-least arcs N s within s-in d done (st .inv) v i h (st .kept .settled v (st .kept .every v i h) .2)

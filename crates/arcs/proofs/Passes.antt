@@ -33,7 +33,8 @@ module _ (u : ℕ) (e : Edge) (apart : e .first ≡ e .second → ⊥) (v s : �
   unfolding leaving leaves filter arcsOf
   by-second p q = rw (ne-eqb (e .first) u (λ z. apart (z ∙ sym p)), eq-eqb (e .second) u p, p, ← q, ← r)
 
-  by-other : (first second : ℕ) → first ≡ e .first → second ≡ e .second → Other first second u v → (e .first ≡ u) ⊎ (e .second ≡ u) → leaving u (arcsOf e) ≡ record { from = u; to = v; cost = s } ∷ []
+  by-other : (first second : ℕ) → first ≡ e .first → second ≡ e .second → Other first second u v → (e .first ≡ u) ⊎ (e .second ≡ u)
+      → leaving u (arcsOf e) ≡ record { from = u; to = v; cost = s } ∷ []
   by-other first second p q o end = pick (ℕ-discrete first u) end
     where
       pick : Dec (first ≡ u) → (e .first ≡ u) ⊎ (e .second ≡ u) → leaving u (arcsOf e) ≡ record { from = u; to = v; cost = s } ∷ []
@@ -53,7 +54,8 @@ module _ (edges : Bytes) (n u : ℕ) (c : Cursor) where
   found-none h = record { inside = λ l. absurd (omega arith); arc = λ l. absurd (omega arith); ended = λ l. refl; low = omega arith }
 
   pub found-arc : someEdgeBroken n edges ≡ false → c .edge < edgeCount edges → (edge edges (c .edge) .first ≡ u) ⊎ (edge edges (c .edge) .second ≡ u)
-      → (first second v s : ℕ) → first ≡ edge edges (c .edge) .first → second ≡ edge edges (c .edge) .second → Other first second u v → s ≡ edge edges (c .edge) .seconds
+      → (first second v s : ℕ) → first ≡ edge edges (c .edge) .first → second ≡ edge edges (c .edge) .second → Other first second u v
+      → s ≡ edge edges (c .edge) .seconds
       → Found edges n u (record { to = v; cost = s; edge = c .edge; stop = c .stop; link = c .link; size = c .size })
   found-arc ends h end first second v s p q o r =
       let f = edge-fine n edges ends (c .edge) h in
@@ -104,7 +106,8 @@ module _ (edges closed : Bytes) (n : ℕ) (w : List ℕ) (u : ℕ) (a : ArcAt) (
       valid = record { cursor = p .valid; found = f };
       low = f .low;
       here = leaves-here;
-      all = λ l x. let all = passing-all edges closed u over n w (cursorOf a) (found-end l) p in (arcs-same→ edges closed u over all x, →arcs-same edges closed u over all x);
+      all = λ l x. let all = passing-all edges closed u over n w (cursorOf a) (found-end l) p in
+          (arcs-same→ edges closed u over all x, →arcs-same edges closed u over all x);
     }
 
 -- c is what the edge cursor has found, and a the arc as it was read there.

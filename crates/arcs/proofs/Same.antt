@@ -23,7 +23,11 @@ pub record AllOf (edges closed : Bytes) (u : ℕ) (done : List ℕ) : Type 0 whe
 
 module _ (edges closed : Bytes) (u : ℕ) (done : List ℕ) where
   pub passing-all : (n : ℕ) (w : List ℕ) (c : Cursor) → edgeCount edges ≤ c .edge → PassedEdges edges closed n w u done c → AllOf edges closed u done
-  passing-all n w c h p = record { real = p .real; full = λ j o. ⊎-elim (λ m. m) (λ r. ⊎-elim (λ e. absurd (omega (arith, o .below))) (λ a. absurd (p .valid .over h j a)) r) (p .full j o) }
+  passing-all n w c h p = record {
+    real = p .real;
+    full = λ j o. ⊎-elim (λ m. m)
+        (λ r. ⊎-elim (λ e. absurd (omega (arith, o .below))) (λ a. absurd (p .valid .over h j a)) r) (p .full j o);
+  }
 
   -- The edge of an arc that leaves u has an end there.
   end-there : (j : ℕ) (a : Arc) → List·Memᴰ a (arcsOf (edge edges j)) → a .from ≡ u → (edge edges j .first ≡ u) ⊎ (edge edges j .second ≡ u)

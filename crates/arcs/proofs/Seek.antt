@@ -9,7 +9,7 @@ use mathlib.Core.List.{List}
 use mathlib.Core.Logic.{_⊎_, inl, inr, ⊎-elim}
 use Rattle.model.specs.Bytes.{Bytes, words16}
 use Rattle.model.specs.Network.{edge, edgeCount, isOpen}
-use Rattle.index.specs.Index.{next, block, here, there, OpenAt, Roads}
+use Rattle.index.specs.Index.{next, block, here, there, OpenAt, IndexedEdges}
 use Rattle.index.proofs.Listing.{no-list}
 use Rattle.words.specs.Regions.{indexIn}
 use Rattle.arcs.specs.declared.cursor.Cursor.{Cursor}
@@ -25,7 +25,8 @@ module _ (edges closed : Bytes) (u i : ℕ) where
       → (r ≡ true → OpenAt edges closed u i) × (r ≡ false → OpenAt edges closed u i → ⊥)
   by-closed r l t e = (λ p. record { below = l; unclosed = sym e ∙ p; end = t }, λ p o. true≢false (sym (o .unclosed) ∙ sym e ∙ p))
 
-  pub none-more : (a : ℕ) → ((j : ℕ) → a ≤ j → j < i → OpenAt edges closed u j → ⊥) → (OpenAt edges closed u i → ⊥) → (j : ℕ) → a ≤ j → j < i + 1 → OpenAt edges closed u j → ⊥
+  pub none-more : (a : ℕ) → ((j : ℕ) → a ≤ j → j < i → OpenAt edges closed u j → ⊥) → (OpenAt edges closed u i → ⊥) → (j : ℕ) → a ≤ j → j < i + 1
+      → OpenAt edges closed u j → ⊥
   none-more a h p j l g o = pick (ℕ-discrete j i)
     where
       pick : Dec (j ≡ i) → ⊥
@@ -50,7 +51,7 @@ module _ (edges closed : Bytes) (n : ℕ) (w : List ℕ) (u : ℕ) where
       on j o a = let h : ¬ (j < r) = λ l. f .passed j a l o in omega arith
 
   -- ---- on to the next block
-  module _ (roads : Roads edges closed n w) (u-in : u < n) (c : Cursor) (s : Seeking edges n w u c) where
+  module _ (roads : IndexedEdges edges closed n w) (u-in : u < n) (c : Cursor) (s : Seeking edges n w u c) where
     pub size-small : c .size < 65536
     size-small = omega (arith, s .size, roads .indexed .chained .sized u u-in, roads .indexed .small)
 
@@ -102,7 +103,13 @@ module _ (edges closed : Bytes) (n : ℕ) (w : List ℕ) (u : ℕ) where
   since-self c c′ f = record { seeking = f .seeking; found = f .found; keeps = λ j o p. p; less = omega arith }
 
   pub since-then : (c c′ c″ : Cursor) → Since edges closed n w u c c′ → Since edges closed n w u c′ c″ → Since edges closed n w u c c″
-  since-then c c′ c″ f g = record { seeking = g .seeking; found = g .found; keeps = λ j o p. g .keeps j o (f .keeps j o p); less = omega (arith, f .less, g .less) }
+  since-then c c′ c″ f g = record {
+    seeking = g .seeking;
+    found = g .found;
+    keeps = λ j o p. g .keeps j o (f .keeps j o p);
+    less = omega
+        (arith, f .less, g .less);
+  }
 
   -- ---- the end of the chain, or an edge
   module _ (u-in : u < n) (c₀ c : Cursor) (t : Since edges closed n w u c₀ c) where

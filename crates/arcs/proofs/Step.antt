@@ -9,7 +9,7 @@ use mathlib.Core.Logic.{_⊎_, inl, inr, ⊎-elim}
 use lib.ListN.{length}
 use Rattle.model.specs.Bytes.{Bytes}
 use Rattle.model.specs.Network.{edgeCount}
-use Rattle.index.specs.Index.{next, block, Lists, here, there, Within, OpenAt, Roads}
+use Rattle.index.specs.Index.{next, block, Lists, here, there, Within, OpenAt, IndexedEdges}
 use Rattle.index.proofs.Listing.{no-list}
 use Rattle.words.specs.Regions.{indexIn}
 use Rattle.arcs.specs.declared.cursor.Cursor.{Cursor}
@@ -33,7 +33,7 @@ mem-split {A} x y (z ∷ xs) m = step (List·Memᴰ·cases-cons m) (λ k. mem-sp
     step (inl e) rest = inl (List·Memᴰ·head e)
     step (inr k) rest = ⊎-elim (λ a. inl (List·Memᴰ·tail a)) (λ b. inr b) (rest k)
 
-module _ (edges closed : Bytes) (n : ℕ) (w : List ℕ) (u : ℕ) (roads : Roads edges closed n w) (u-in : u < n) where
+module _ (edges closed : Bytes) (n : ℕ) (w : List ℕ) (u : ℕ) (roads : IndexedEdges edges closed n w) (u-in : u < n) where
   abbrev ix : List ℕ
   ix = indexIn n w
 
@@ -124,7 +124,12 @@ module _ (edges closed : Bytes) (n : ℕ) (w : List ℕ) (u : ℕ) (roads : Road
 
     pub first-passing : (stop : ℕ) (c : Cursor) → (size ≡ 0 → stop ≡ edgeCount edges) → FoundFrom edges closed n w u (start stop) c
         → PassedEdges edges closed n w u [] c
-    first-passing stop c g s = record { valid = s .valid; real = λ j m. absurd (List·Memᴰ·not-nil m); full = λ j o. inr (s .keeps j o (all j o (ℕ-discrete size 0))) }
+    first-passing stop c g s = record {
+      valid = s .valid;
+      real = λ j m. absurd (List·Memᴰ·not-nil m);
+      full = λ j o. inr
+          (s .keeps j o (all j o (ℕ-discrete size 0)));
+    }
       where
         all : (j : ℕ) → OpenAt edges closed u j → Dec (size ≡ 0) → From ix n (start stop) j
         all j o (yes z) = inl (omega arith, omega (arith, g z, o .below))
@@ -159,7 +164,8 @@ module _ (edges closed : Bytes) (n : ℕ) (w : List ℕ) (u : ℕ) (roads : Road
         valid = s .valid;
         real = λ j m. ⊎-elim (λ k. p .real j k) (λ e. subst (λ (z : ℕ). OpenAt edges closed u z) (sym e) (v .here l)) (mem-split j (c .edge) done m);
         full = λ j o. ⊎-elim (λ k. inl (mem-left done _ k))
-            (λ r. ⊎-elim (λ e. inl (subst (λ (z : ℕ). List·Memᴰ z (done ++ c .edge ∷ [])) (sym e) (mem-last (c .edge) done))) (λ a. inr (s .keeps j o a)) r) (p .full j o);
+            (λ r. ⊎-elim (λ e. inl (subst (λ (z : ℕ). List·Memᴰ z (done ++ c .edge ∷ [])) (sym e) (mem-last (c .edge) done))) (λ a. inr (s .keeps j o a)) r)
+            (p .full j o);
       };
       less = omega (arith, s .less, on-less);
     }

@@ -6,7 +6,7 @@ ghost use Prim.Native.Nat.{_+_, _*_, _<_, _≤_, min};
 ghost use lib.ListN.{length};
 ghost use Rattle.model.specs.Network.{maxNodes, edgeCount, numbersBroken};
 ghost use Rattle.words.specs.Frames.{Enough};
-ghost use Rattle.index.specs.Index.{Within, OpenAt, Roads};
+ghost use Rattle.index.specs.Index.{Within, OpenAt, IndexedEdges};
 ghost use Rattle.words.specs.Regions.{indexIn};
 ghost use Rattle.arcs.specs.Cursor.{Valid, PassedEdges, Stepped, rank};
 ghost use Rattle.arcs.specs.Seeking.{Seeking, Since, FoundFrom, FirstOpen, AtEntry, blockAt};
@@ -99,9 +99,10 @@ fn within_block(edges: &[u8], closed: &[u8], n: usize, work: &[u32], u: usize, c
 // The same in the next block of the chain.
 fn in_next_block(edges: &[u8], closed: &[u8], n: usize, work: &[u32], u: usize, c: Cursor) -> Cursor
     requires { ⌜ (n ≤ maxNodes) × Enough n (now work) × (u < n) ⌝ }
-    requires { ⌜ Roads (now edges) (now closed) n (now work) ⌝ }
+    requires { ⌜ IndexedEdges (now edges) (now closed) n (now work) ⌝ }
     requires { ⌜ Seeking (now edges) n (now work) u c × (c .edge ≡ c .stop) × (n ≤ c .link) ⌝ }
-    ensures { λ r. ⌜ Since (now (edges .entry)) (now (closed .entry)) n (now (work .entry)) u c r × (rank (now (edges .entry)) r < rank (now (edges .entry)) c) ⌝ }
+    ensures { λ r. ⌜ Since (now (edges .entry)) (now (closed .entry)) n (now (work .entry)) u c r
+        × (rank (now (edges .entry)) r < rank (now (edges .entry)) c) ⌝ }
 {
     let b = block_at(edges.len() / EDGE_SIZE, work, n, c.size, c.link);
     within_block(edges, closed, n, work, u, b)
@@ -110,7 +111,7 @@ fn in_next_block(edges: &[u8], closed: &[u8], n: usize, work: &[u32], u: usize, 
 // The first open edge at u from the cursor's on, block by block.
 fn seek(edges: &[u8], closed: &[u8], n: usize, work: &[u32], u: usize, c: Cursor) -> Cursor
     requires { ⌜ (n ≤ maxNodes) × Enough n (now work) × (u < n) ⌝ }
-    requires { ⌜ Roads (now edges) (now closed) n (now work) ⌝ }
+    requires { ⌜ IndexedEdges (now edges) (now closed) n (now work) ⌝ }
     requires { ⌜ Seeking (now edges) n (now work) u c ⌝ }
     ensures { λ r. ⌜ FoundFrom (now (edges .entry)) (now (closed .entry)) n (now (work .entry)) u c r ⌝ }
 {
@@ -168,7 +169,7 @@ fn first_stop(edges: &[u8], size: usize) -> usize
 // A cursor at the first open edge at u.
 pub fn first_edge(edges: &[u8], closed: &[u8], n: usize, work: &[u32], u: usize) -> Cursor
     requires { ⌜ (n ≤ maxNodes) × Enough n (now work) × (u < n) ⌝ }
-    requires { ⌜ Roads (now edges) (now closed) n (now work) ⌝ }
+    requires { ⌜ IndexedEdges (now edges) (now closed) n (now work) ⌝ }
     ensures { λ c. ⌜ PassedEdges (now (edges .entry)) (now (closed .entry)) n (now (work .entry)) u [] c ⌝ }
 {
     let size = block_size(work, n, u);
@@ -189,7 +190,7 @@ pub fn first_edge(edges: &[u8], closed: &[u8], n: usize, work: &[u32], u: usize)
 // On to the next open edge at u.
 pub fn next_edge(edges: &[u8], closed: &[u8], n: usize, work: &[u32], u: usize, c: Cursor) -> Cursor
     requires { ⌜ (n ≤ maxNodes) × Enough n (now work) × (u < n) ⌝ }
-    requires { ⌜ Roads (now edges) (now closed) n (now work) ⌝ }
+    requires { ⌜ IndexedEdges (now edges) (now closed) n (now work) ⌝ }
     requires { ⌜ Valid (now edges) (now closed) n (now work) u c × (c .edge < edgeCount (now edges)) ⌝ }
     ensures { λ r. ⌜ Stepped (now (edges .entry)) (now (closed .entry)) n (now (work .entry)) u c r ⌝ }
 {

@@ -2,11 +2,10 @@
 ghost use mathlib.Core.Path.{_≡_};
 ghost use mathlib.Core.Bool.{false};
 ghost use mathlib.Core.Logic.{_⊎_};
-ghost use Prim.Native.Nat.{_*_, _<_, _≤_};
-ghost use lib.ListN.{length};
+ghost use Prim.Native.Nat.{_<_, _≤_};
 ghost use Rattle.model.specs.Network.{maxNodes, edge, edgeCount, someEdgeBroken};
 ghost use Rattle.words.specs.Frames.{Enough};
-ghost use Rattle.index.specs.Index.{Roads};
+ghost use Rattle.index.specs.Index.{IndexedEdges};
 ghost use Rattle.arcs.specs.Leaving.{cursorOf, Found, ValidArc, SteppedArc};
 use crate::cursor::Cursor;
 use crate::cursor::next_edge;
@@ -39,7 +38,8 @@ fn other_end(first: usize, second: usize, u: usize) -> usize
 // The arc out of u by the edge that the cursor has found. A walk begins with that of `first_edge`: as one function the two would be too large to be inlined
 // where a walk begins.
 pub fn arc_at(edges: &[u8], n: usize, u: usize, c: Cursor) -> ArcAt
-    requires { ⌜ (someEdgeBroken n (now edges) ≡ false) × (c .edge < edgeCount (now edges) → (edge (now edges) (c .edge) .first ≡ u) ⊎ (edge (now edges) (c .edge) .second ≡ u)) ⌝ }
+    requires { ⌜ (someEdgeBroken n (now edges) ≡ false) × (c .edge < edgeCount (now edges)
+        → (edge (now edges) (c .edge) .first ≡ u) ⊎ (edge (now edges) (c .edge) .second ≡ u)) ⌝ }
     ensures { λ r. ⌜ (cursorOf r ≡ c) × Found (now (edges .entry)) n u r ⌝ }
 {
     let i = c.edge;
@@ -68,7 +68,7 @@ pub fn arc_at(edges: &[u8], n: usize, u: usize, c: Cursor) -> ArcAt
 // On to the next arc out of u.
 pub fn next_arc(edges: &[u8], closed: &[u8], n: usize, work: &[u32], u: usize, a: ArcAt) -> ArcAt
     requires { ⌜ (n ≤ maxNodes) × Enough n (now work) × (u < n) ⌝ }
-    requires { ⌜ Roads (now edges) (now closed) n (now work) ⌝ }
+    requires { ⌜ IndexedEdges (now edges) (now closed) n (now work) ⌝ }
     requires { ⌜ ValidArc (now edges) (now closed) n (now work) u a × (a .to < n) ⌝ }
     ensures { λ r. ⌜ SteppedArc (now (edges .entry)) (now (closed .entry)) n (now (work .entry)) u a r ⌝ }
 {

@@ -18,7 +18,7 @@ use Rattle.theory.specs.ReadLaws.{word16-drop}
 use Rattle.theory.specs.Joined.{gapless-after}
 use Rattle.theory.specs.Whole.{AreBytes, four}
 use Rattle.theory.specs.Audits.{equal-self, equal→}
-use Rattle.passes.specs.Placed.{lists, front, whole, length-front}
+use Rattle.passes.specs.Stands.{lists, front, whole, length-front}
 use Rattle.auditor.proofs.Tested.{below→, →below}
 
 -- f gives the list of each node; a list's first number tells its size.
@@ -63,7 +63,8 @@ module _ (b : Bytes) (f : ℕ → Bytes) where
   lists-follow (suc m) k at g same =
       let a : Alike k = same k (omega arith) (omega arith) in
       let here : f k ≡ take (size k m at g) (drop at b) = sym a ∙ its-cut k m at g in
-      let later : concat (map f (range (suc k) m)) ≡ drop (at + length (f k)) b = lists-follow m (suc k) (at + length (f k)) (next k m at g a) (λ v l h. same v (omega arith) (omega arith)) in
+      let later : concat (map f (range (suc k) m)) ≡ drop (at + length (f k)) b = lists-follow m (suc k) (at + length (f k)) (next k m at g a)
+      (λ v l h. same v (omega arith) (omega arith)) in
       rw later (ap (λ (x : ℕ). f k ++ drop (at + x) b) (its-size k m at g a)
       ∙ (ap (λ (l : Bytes). l ++ drop (at + size k m at g) b) here
       ∙ (ap (λ (l : Bytes). take (size k m at g) (drop at b) ++ l) (sym (drop-drop (size k m at g) at b)) ∙ take-append-drop (size k m at g) (drop at b))))
@@ -83,12 +84,14 @@ module _ (b : Bytes) (f : ℕ → Bytes) where
         rw z (take-add startSize (startSize * m) (drop (startSize * k) b) ∙ rw (off, later, first))
 
   -- And back: where the lists stand from `at` on, each is found.
-  module _ (k m at : ℕ) (g : Stand k (suc m) at) (sized : (l : Bytes) → listSize (word16 (f k ++ l) 0) ≡ length (f k)) (more : Bytes) (split : drop at b ≡ f k ++ more) where
+  module _ (k m at : ℕ) (g : Stand k (suc m) at) (sized : (l : Bytes) → listSize (word16 (f k ++ l) 0) ≡ length (f k)) (more : Bytes)
+      (split : drop at b ≡ f k ++ more) where
     size-is : size k m at g ≡ length (f k)
     unfolding listCount
     size-is =
         let z : at + 0 ≡ at = omega arith in
-        let w : word16 b (listStart b k) ≡ word16 (f k ++ more) 0 = ap (word16 b) (start k m at g ∙ sym z) ∙ (word16-drop b at 0 ∙ ap (λ (l : Bytes). word16 l 0) split) in
+        let w : word16 b (listStart b k) ≡ word16 (f k ++ more) 0 = ap (word16 b) (start k m at g ∙ sym z)
+        ∙ (word16-drop b at 0 ∙ ap (λ (l : Bytes). word16 l 0) split) in
         rw w (sized more)
 
     here : Alike k
@@ -129,7 +132,8 @@ module _ (n T : ℕ) (b : Bytes) (f : ℕ → Bytes) (kept : accessBroken n T b 
 
   whole-lists : Sized n f → b ≡ whole n f → (v : ℕ) → v < n → cut (listPart b v) b ≡ f v
   whole-lists sized e v h =
-      let q : drop (startSize * n) b ≡ concat (lists n f) = ap (drop (startSize * n)) e ∙ drop-at (front n f) (concat (lists n f)) (startSize * n) (length-front n f) in
+      let q : drop (startSize * n) b ≡ concat (lists n f) = ap (drop (startSize * n)) e
+      ∙ drop-at (front n f) (concat (lists n f)) (startSize * n) (length-front n f) in
       follow-lists b f n 0 (startSize * n) stand (λ u i j. sized u (omega arith)) q v (omega arith) (omega arith)
 
   pub same-whole : AreBytes b → Sized n f → all (λ v. equal (cut (listPart b v) b) (f v)) (upTo n) ≡ equal b (whole n f)

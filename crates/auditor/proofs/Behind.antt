@@ -9,7 +9,7 @@ use Rattle.model.specs.Bytes.{Bytes}
 use Rattle.model.specs.Oracle.{valueSize}
 use Rattle.model.specs.Walk.{Arc}
 use Rattle.algorithms.specs.Rounds.{Found, distanceWords}
-use Rattle.index.specs.Index.{Roads}
+use Rattle.index.specs.Index.{IndexedEdges}
 use Rattle.words.specs.Regions.{regionAt, region, own, transit, indexAt, searchWords}
 use Rattle.emit.specs.Parts.{rowBytes}
 use Rattle.passes.specs.Building.{membersIn}
@@ -37,7 +37,7 @@ module _ (n : ℕ) (w w′ : List ℕ) (e : KeptFrom (searchWords n) w w′) whe
   pub transit-behind : region n transit w′ ≡ region n transit w
   transit-behind = region-later n transit w w′ (omega arith) e
 
-  pub roads-behind : (edges closed : Bytes) → Roads edges closed n w → Roads edges closed n w′
+  pub roads-behind : (edges closed : Bytes) → IndexedEdges edges closed n w → IndexedEdges edges closed n w′
   roads-behind edges closed r = roads-from edges closed n w w′ (searchWords n) (omega arith) e r
 
   pub size-behind : (size : ℕ) → size ≡ valueSize * length (membersIn n transit w) → size ≡ valueSize * length (membersIn n transit w′)
@@ -48,15 +48,16 @@ module _ (n : ℕ) (w w′ : List ℕ) (e : KeptFrom (searchWords n) w w′) whe
     row-behind = rw (f .times, transit-behind)
 
 -- From w, the index is written into x, the transit nodes are marked in y, and the lists passed to z.
-module _ (edges closed : Bytes) (n : ℕ) (some : 1 ≤ n) (w x y : List ℕ) (r : Roads edges closed n x) (first : KeptFrom (workWords n) w x) (second : KeptFrom (indexAt n) x y) where
-  pub roads-marked : Roads edges closed n y
+module _ (edges closed : Bytes) (n : ℕ) (some : 1 ≤ n) (w x y : List ℕ) (r : IndexedEdges edges closed n x) (first : KeptFrom (workWords n) w x)
+    (second : KeptFrom (indexAt n) x y) where
+  pub roads-marked : IndexedEdges edges closed n y
   roads-marked = roads-from edges closed n x y (indexAt n) (omega arith) second r
 
   pub rest-marked : KeptFrom (workWords n) w y
   rest-marked = kept-more (indexAt n) (workWords n) x y (omega arith) second ∙ first
 
   module _ (z : List ℕ) (third : KeptFrom (regionAt n transit) y z) where
-    pub roads-passed : Roads edges closed n z
+    pub roads-passed : IndexedEdges edges closed n z
     roads-passed = roads-from edges closed n y z (regionAt n transit) (omega arith) third roads-marked
 
     pub rest-passed : KeptFrom (workWords n) w z

@@ -1,5 +1,5 @@
 -- The bodies are the built ones just when the oracle is. Assumes nothing.
-use Prim.Native.Nat.{ℕ, _*_, _≤_}
+use Prim.Native.Nat.{ℕ, _≤_}
 use native.Mathlib.Omega.{arith}
 use mathlib.Core.Path.{_≡_, refl, sym, _∙_, ap}
 use mathlib.Core.Bool.{true, not, _&&_}
@@ -28,7 +28,7 @@ use Rattle.grid.specs.declared.Grid.{Grid}
 use Rattle.crossing.specs.Ground.{Ground}
 use Rattle.access.specs.Networks.{networkIn}
 use Rattle.passes.specs.Building.{accessOf, transitIn, listIn}
-use Rattle.passes.specs.Placed.{whole}
+use Rattle.passes.specs.Stands.{whole}
 use Rattle.passes.specs.BuildingLaws.{access-few, access-body}
 use Rattle.checks.specs.Grids.{oracleGrid}
 use Rattle.checks.proofs.OracleGrid.{over-oracle}
@@ -48,14 +48,16 @@ module _ (nodes edges closed : Bytes) (grid : Grid) (few : nodeCount nodes ≤ m
       ∙ word16-read (length a) (entries ++ l) (omega (arith, access-few nodes edges closed grid (nodeCount nodes) refl v)) in
       rw first (sym (length-list d t v a))
 
-module _ (o : Bytes) (shaped : wellShaped o ≡ true) (small : AreBytes o) (grid : Grid) (made : gridOf grid ≡ gridOver (division (gridBody o)) (nodes (nodeBody o))) where
+module _ (o : Bytes) (shaped : wellShaped o ≡ true) (small : AreBytes o) (grid : Grid)
+    (made : gridOf grid ≡ gridOver (division (gridBody o)) (nodes (nodeBody o))) where
   abbrev n : ℕ
   n = nodeCount (nodeBody o)
 
   p : Shaped o
   p = all-shaped o shaped
 
-  transit-is : transitIn (nodeBody o) (edgeBody o) (closedBody o) grid ≡ transitNodes (order (network o)) (accessLists (network o) (gridOver (division (gridBody o)) (network o .nodes)))
+  transit-is : transitIn (nodeBody o) (edgeBody o) (closedBody o) grid ≡ transitNodes (order (network o))
+      (accessLists (network o) (gridOver (division (gridBody o)) (network o .nodes)))
   unfolding transitIn network
   transit-is = rw (count-nodes o) (ap (λ (m : model.Grid). transitNodes n (accessLists (networkIn (nodeBody o) (edgeBody o) (closedBody o)) m)) made)
 
@@ -63,9 +65,11 @@ module _ (o : Bytes) (shaped : wellShaped o ≡ true) (small : AreBytes o) (grid
   unfolding network
   access-is =
       sym (access-body (nodeBody o) (edgeBody o) (closedBody o) grid n refl) ∙
-      (λ i. accessBytes (distance (networkIn (nodeBody o) (edgeBody o) (closedBody o))) (transit-is i) (accessLists (networkIn (nodeBody o) (edgeBody o) (closedBody o)) (made i)))
+      (λ i. accessBytes (distance (networkIn (nodeBody o) (edgeBody o) (closedBody o))) (transit-is i)
+      (accessLists (networkIn (nodeBody o) (edgeBody o) (closedBody o)) (made i)))
 
-  table-is : tableBytes (distance (networkIn (nodeBody o) (edgeBody o) (closedBody o))) (transitIn (nodeBody o) (edgeBody o) (closedBody o) grid) ≡ builtTable o shaped
+  table-is : tableBytes (distance (networkIn (nodeBody o) (edgeBody o) (closedBody o))) (transitIn (nodeBody o) (edgeBody o) (closedBody o) grid) ≡ builtTable o
+      shaped
   unfolding network
   table-is = ap (tableBytes (distance (networkIn (nodeBody o) (edgeBody o) (closedBody o)))) transit-is
 
@@ -84,21 +88,25 @@ module _ (o : Bytes) (shaped : wellShaped o ≡ true) (small : AreBytes o) (grid
   is-built-tells : sameBodies (nodeBody o) (edgeBody o) (closedBody o) grid (transitBody o) (accessBody o) (tableBody o) ≡ not (differsFromBuilt o)
   is-built-tells = bodies-tell ∙ same-test there back
     where
-      there : equal (transitBody o) (builtTransit o shaped) && (equal (accessBody o) (builtAccess o shaped) && equal (tableBody o) (builtTable o shaped)) ≡ true → not (differsFromBuilt o) ≡ true
+      there : equal (transitBody o) (builtTransit o shaped) && (equal (accessBody o) (builtAccess o shaped) && equal (tableBody o) (builtTable o shaped)) ≡ true
+          → not (differsFromBuilt o) ≡ true
       there h =
           let x = both {b = equal (transitBody o) (builtTransit o shaped)} h in
           let y = both {b = equal (accessBody o) (builtAccess o shaped)} (x .1) in
           ap not (rule16 o .1 (built-is o shaped small (equal→ _ _ (x .0), equal→ _ _ (y .0), equal→ _ _ (y .1))))
 
-      back : not (differsFromBuilt o) ≡ true → equal (transitBody o) (builtTransit o shaped) && (equal (accessBody o) (builtAccess o shaped) && equal (tableBody o) (builtTable o shaped)) ≡ true
+      back : not (differsFromBuilt o) ≡ true → equal (transitBody o) (builtTransit o shaped) &&
+          (equal (accessBody o) (builtAccess o shaped) && equal (tableBody o) (builtTable o shaped)) ≡ true
       back h =
           let (x, y, z) = is-built o shaped (rule16 o .0 (not-true (differsFromBuilt o) h)) in
           rw (← x, ← y, ← z) (and (equal-self (transitBody o)) (and (equal-self (accessBody o)) (equal-self (tableBody o))))
 
 -- ---- with the bodies as the code has them
-module _ (o : Bytes) (shaped : wellShaped o ≡ true) (grid : Grid) (made : gridOf grid ≡ oracleGrid o) (nb eb cb : Bytes) (p : nb ≡ nodeBody o) (q : eb ≡ edgeBody o)
+module _ (o : Bytes) (shaped : wellShaped o ≡ true) (grid : Grid) (made : gridOf grid ≡ oracleGrid o) (nb eb cb : Bytes) (p : nb ≡ nodeBody o)
+    (q : eb ≡ edgeBody o)
     (r : cb ≡ closedBody o) (ab : Bytes) (s : ab ≡ accessBody o) where
-  pub bodies-asked : (n room : ℕ) → n ≡ nodeCount (nodeBody o) → workWords n ≤ room → Ground nb eb cb grid × (n ≡ nodeCount nb) × (n ≤ maxNodes) × (workWords n ≤ room) × KeepsLists n ab × (1 ≤ n)
+  pub bodies-asked : (n room : ℕ) → n ≡ nodeCount (nodeBody o) → workWords n ≤ room → Ground nb eb cb grid × (n ≡ nodeCount nb) × (n ≤ maxNodes)
+      × (workWords n ≤ room) × KeepsLists n ab × (1 ≤ n)
   bodies-asked n room e h =
       let k = all-shaped o shaped in (
         record { over = over-oracle o nb p grid made k; edges-rule = rw (p, q) (k .sound .some-edge); closed-rule = rw (q, r) (k .sound .closed) },

@@ -3,7 +3,6 @@ use Prim.Native.Nat.{ℕ, _<_}
 use mathlib.Core.Path.{_≡_, ap}
 use mathlib.Core.Bool.{true, false}
 use mathlib.Core.List.{List}
-use lib.ListN.{drop}
 use Rattle.model.specs.Lists.{all, equal, upTo}
 use Rattle.model.specs.Bytes.{Bytes, cut}
 use Rattle.model.specs.Network.{nodeCount, distance}
@@ -49,10 +48,13 @@ module _ (nodes edges closed : Bytes) (grid : Grid) (access : Bytes) (u : ℕ) w
     first-node e = rw (e, size)
 
     -- The list of v, of the cell of u.
-    pub this-cell : (w : List ℕ) → membersIn n transit w ≡ transitIn nodes edges closed grid → membersIn n own w ≡ accessOf nodes edges closed grid u → (v : ℕ) → sameCell cs u v ≡ true
-        → equal (cut (listPart access v) access) (listBytesOf (distanceWords (arcsIn edges closed) n v) (membersIn n transit w) (membersIn n own w)) ≡ sameBeside nodes edges closed grid access u v
+    pub this-cell : (w : List ℕ) → membersIn n transit w ≡ transitIn nodes edges closed grid → membersIn n own w ≡ accessOf nodes edges closed grid u → (v : ℕ)
+        → sameCell cs u v ≡ true
+        → equal (cut (listPart access v) access) (listBytesOf (distanceWords (arcsIn edges closed) n v) (membersIn n transit w) (membersIn n own w)) ≡
+        sameBeside nodes edges closed grid access u v
     unfolding sameBeside sameList listIn
     this-cell w ts os v e =
         rw (e, ts, os, same-access nodes edges closed grid u v (same-cell cs u v .0 e))
         (ap (equal (cut (listPart access v) access))
-        (list-values (distance (networkIn nodes edges closed)) v n _ _ _ (distance-words nodes edges closed grid n size v) (access-below nodes edges closed grid n size v)))
+        (list-values (distance (networkIn nodes edges closed)) v n _ _ _ (distance-words nodes edges closed grid n size v)
+        (access-below nodes edges closed grid n size v)))

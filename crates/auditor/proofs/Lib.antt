@@ -1,7 +1,6 @@
 -- The laws that the proofs cite.
 mod Tested
 mod AccessBytes
-mod Shown
 mod Behind
 mod RowBytes
 mod TableRows

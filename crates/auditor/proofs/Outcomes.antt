@@ -35,7 +35,8 @@ module _ (o : Bytes) (work : List ℕ) (r : ℕ) (e : r ≡ firstBroken (roomRul
       same : auditRefusal o work ≡ r
       same = unfold auditRefusal in (ap firstBroken (with-last o (length work)) ∙ sym (sooner (roomRules o (length work)) r e _ h))
 
-  module _ (z : r ≡ 0) (same : Bool) (told : same ≡ not (differsFromBuilt o)) (mid work′ : List ℕ) (rest : KeptFrom (wordsNeeded o) work mid) (c : work′ ≡ cleared (wordsNeeded o) mid) where
+  module _ (z : r ≡ 0) (same : Bool) (told : same ≡ not (differsFromBuilt o)) (mid work′ : List ℕ) (rest : KeptFrom (wordsNeeded o) work mid)
+      (c : work′ ≡ cleared (wordsNeeded o) mid) where
     last : auditRefusal o work ≡ cond (differsFromBuilt o) 16 0
     unfolding auditRefusal
     last = ap firstBroken (with-last o (length work)) ∙ last-left (roomRules o (length work)) r e (room-counted o (length work)) z 16 (differsFromBuilt o)
@@ -45,7 +46,11 @@ module _ (o : Bytes) (work : List ℕ) (r : ℕ) (e : r ≡ firstBroken (roomRul
     twice false = refl
 
     pub audit-told : (q : ℕ) → q ≡ cond (not same) 16 0 → Audit o work q work′
-    audit-told q n = record { result = n ∙ (rw told (twice (differsFromBuilt o)) ∙ sym last); words = rw last (c ∙ last-clears o work mid rest 16 (unfold clears in refl) (differsFromBuilt o)) }
+    audit-told q n = record {
+      result = n ∙ (rw told (twice (differsFromBuilt o)) ∙ sym last);
+      words = rw last
+          (c ∙ last-clears o work mid rest 16 (unfold clears in refl) (differsFromBuilt o));
+    }
 
 -- Behind the words of N nodes.
 pub behind-needed : (f : Bytes) (n : ℕ) → n ≡ nodeCount (nodeBody f) → (w w′ : List ℕ) → KeptFrom (workWords n) w w′ → KeptFrom (wordsNeeded f) w w′

@@ -43,7 +43,8 @@ module _ (b : Bytes) (at size : ℕ) (times l : List ℕ) (e : size ≡ valueSiz
   unfolding compared
   row-short h =
       let long : begins row (drop at b) ≡ false = sym (begins-front row (drop at b))
-      ∙ refuted (λ q. omega (arith, ap length (equal→ (take (length row) (drop at b)) row q), length-take (length row) (drop at b), length-drop at b, its-size)) in
+      ∙ refuted (λ q. omega (arith, ap length (equal→ (take (length row) (drop at b)) row q), length-take (length row) (drop at b), length-drop at b, its-size))
+      in
       rw long
 
   pub row-same : equal (midOf at (at + size - at) b) row ≡ true → Same (at + size) ≡ compared b at row

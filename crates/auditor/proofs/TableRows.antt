@@ -1,9 +1,9 @@
 -- Passing the table row by row. Assumes nothing.
-use Prim.Native.Nat.{ℕ, _+_, _*_, _≤_, _<_}
+use Prim.Native.Nat.{ℕ, _+_, _≤_, _<_}
 use mathlib.Core.Path.{_≡_, sym, _∙_}
 use mathlib.Core.Bool.{false}
 use mathlib.Core.List.{List}
-use lib.ListN.{length, drop}
+use lib.ListN.{length}
 use lib.Dec.{eqb}
 use Rattle.model.specs.Lists.{equal, concatMap}
 use Rattle.model.specs.Bytes.{Bytes}
@@ -45,7 +45,11 @@ module _ (arcs : List Arc) (n : ℕ) (b : Bytes) (w : List ℕ) where
     rows-differ q = left-different (members-step rowOf (region n transit w) n v h) (p .left) (sym told ∙ q)
 
     pub rows-next : (m : ℕ) → c ≡ Same m → (y : List ℕ) → length y ≡ length x → KeptFrom (searchWords n) x y → RowsLeft (v + 1) m y
-    rows-next m q y s d = record { kept = kept-then n w x y (p .kept) s d; left = left-next (members-step rowOf (region n transit w) n v h) (p .left) (sym told ∙ q) }
+    rows-next m q y s d = record {
+      kept = kept-then n w x y (p .kept) s d;
+      left = left-next (members-step rowOf (region n transit w) n v h) (p .left)
+          (sym told ∙ q);
+    }
 
   pub rows-end : (v at : ℕ) (x : List ℕ) → RowsLeft v at x → n ≤ v → eqb at (length b) ≡ equal b whole
   rows-end v at x p h = left-end (members-end rowOf (region n transit w) n v h) (p .left)

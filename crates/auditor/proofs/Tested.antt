@@ -62,7 +62,8 @@ module _ (nodes edges closed : Bytes) (grid : Grid) (access : Bytes) where
   by-cells : all (sameOfCell nodes edges closed grid access) (upTo n) ≡ sameLists nodes edges closed grid access
   unfolding sameLists sameOfCell sameBeside
   by-cells = same-test (λ h. →below _ n (λ v l. let (u, m, f, q) = first-found cs v in
-      let c : all (sameBeside nodes edges closed grid access u) (upTo n) ≡ true = asked (firstOfCell cs u) _ f (below→ (sameOfCell nodes edges closed grid access) n h u (omega arith)) in
+      let c : all (sameBeside nodes edges closed grid access u) (upTo n) ≡ true = asked (firstOfCell cs u) _ f
+      (below→ (sameOfCell nodes edges closed grid access) n h u (omega arith)) in
       asked (sameCell cs u v) _ (same-cell cs u v .1 q) (below→ (sameBeside nodes edges closed grid access u) n c v l)))
       (λ h. →below _ n (λ u m. let c : all (sameBeside nodes edges closed grid access u) (upTo n) ≡ true =
       →below _ n (λ v l. rw (below→ (sameList nodes edges closed grid access) n h v l) (or-true (not (sameCell cs u v)))) in

@@ -26,7 +26,8 @@ sameBeside nodes edges closed grid access u v = not (sameCell (cellsIn grid node
 
 -- All lists of the cell of u are, where u is its first node.
 unfoldable pub sameOfCell : Bytes → Bytes → Bytes → Grid → Bytes → ℕ → Bool
-sameOfCell nodes edges closed grid access u = not (firstOfCell (cellsIn grid nodes) u) || all (sameBeside nodes edges closed grid access u) (upTo (nodeCount nodes))
+sameOfCell nodes edges closed grid access u = not (firstOfCell (cellsIn grid nodes) u) || all (sameBeside nodes edges closed grid access u)
+    (upTo (nodeCount nodes))
 
 -- All lists are.
 unfoldable pub sameLists : Bytes → Bytes → Bytes → Grid → Bytes → Bool

@@ -2,7 +2,6 @@
 ghost use mathlib.Core.Path.{_≡_};
 ghost use mathlib.Core.Bool.{true, not};
 ghost use Prim.Native.Nat.{_*_, _≤_};
-ghost use lib.ListN.{length, drop};
 ghost use Rattle.model.specs.Contents.{nodeBody};
 ghost use Rattle.model.specs.Network.{maxNodes, nodeCount};
 ghost use Rattle.model.specs.Rules.{wellShaped, differsFromBuilt, workWords};
@@ -38,8 +37,10 @@ fn same_bodies(
     table: &[u8],
     work: &mut [u32],
 ) -> bool
-    requires { ⌜ Ground (now nodes) (now edges) (now closed) grid × (n ≡ nodeCount (now nodes)) × (n ≤ maxNodes) × Enough n (now work) × KeepsLists n (now access) × (1 ≤ n) ⌝ }
-    ensures same { λ r. ⌜ r ≡ sameBodies (now (nodes .entry)) (now (edges .entry)) (now (closed .entry)) grid (now (transit .entry)) (now (access .entry)) (now (table .entry)) ⌝ }
+    requires { ⌜ Ground (now nodes) (now edges) (now closed) grid × (n ≡ nodeCount (now nodes)) × (n ≤ maxNodes) × Enough n (now work)
+        × KeepsLists n (now access) × (1 ≤ n) ⌝ }
+    ensures same { λ r. ⌜ r ≡ sameBodies (now (nodes .entry)) (now (edges .entry)) (now (closed .entry)) grid (now (transit .entry)) (now (access .entry))
+        (now (table .entry)) ⌝ }
     ensures rest { λ _. ⌜ KeptFrom (workWords n) (now (work .entry)) (now (work .exit)) ⌝ }
 {
     build_index(edges, closed, n, work);

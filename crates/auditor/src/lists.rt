@@ -1,25 +1,23 @@
 // Body 6: the lists of the nodes, cell by cell. The starts need no comparing: lists that follow each other without gaps have them.
 ghost use mathlib.Core.Path.{_≡_};
-ghost use Prim.Native.Nat.{_*_, _<_, _≤_};
-ghost use lib.ListN.{length, take, drop};
+ghost use Prim.Native.Nat.{_<_, _≤_};
 ghost use Rattle.model.specs.Lists.{all, equal, upTo};
 ghost use Rattle.model.specs.Bytes.{cut};
 ghost use Rattle.model.specs.Network.{maxNodes, nodeCount};
 ghost use Rattle.model.specs.Oracle.{listPart};
 ghost use Rattle.algorithms.specs.Rounds.{distanceWords};
 ghost use Rattle.arcs.specs.Arcs.{arcsIn};
-ghost use Rattle.index.specs.Index.{Roads};
+ghost use Rattle.index.specs.Index.{IndexedEdges};
 ghost use Rattle.tables.specs.Premises.{ListedBelow};
 ghost use Rattle.crossing.specs.Beside.{CellSquare};
 ghost use Rattle.crossing.specs.Ground.{Ground};
-ghost use Rattle.words.specs.Regions.{regionAt, region, own, transit, searchWords};
+ghost use Rattle.words.specs.Regions.{regionAt, region, own, transit, timesIn, searchWords};
 ghost use Rattle.emit.specs.Members.{Among};
 ghost use Rattle.emit.specs.Parts.{listBytesOf};
 ghost use Rattle.passes.specs.Building.{membersIn, accessOf, transitIn};
 ghost use Rattle.passes.specs.Sought.{Sought};
 ghost use Rattle.words.specs.Frames.{Enough, KeptFrom};
 ghost use Rattle.auditor.specs.Same.{KeepsLists, sameBeside, sameOfCell, sameLists};
-use bitset::bits::set_words;
 use crossing::cells::beside;
 use crossing::cells::cell_square;
 use crossing::cells::first_of_cell;
@@ -31,19 +29,15 @@ use passes::own::search_own;
 use tables::lists::list_part;
 use words::regions::OWN;
 use words::regions::TRANSIT;
-use words::regions::region_at;
+use words::regions::region;
 
 // Whether b is the list of the times in region TIMES to the nodes of region OWN, with their indexes in region TRANSIT.
 fn is_list(work: &[u32], n: usize, b: &[u8]) -> bool
     requires { ⌜ (n ≤ maxNodes) × Enough n (now work) × Among n (region n own (now work)) (region n transit (now work)) × (1 ≤ n) ⌝ }
-    ensures { λ r. ⌜ r ≡ equal (now (b .entry)) (listBytesOf (take n (now (work .entry))) (membersIn n transit (now (work .entry))) (membersIn n own (now (work .entry)))) ⌝ }
+    ensures { λ r. ⌜ r ≡ equal (now (b .entry)) (listBytesOf (timesIn n (now (work .entry))) (membersIn n transit (now (work .entry)))
+        (membersIn n own (now (work .entry)))) ⌝ }
 {
-    let m = set_words(n);
-    let a = region_at(n, OWN);
-    let e = a + m;
-    let t = region_at(n, TRANSIT);
-    let f = t + m;
-    same_list(n, &work[a..e], &work[t..f], &work[..n], b)
+    same_list(n, region(work, n, OWN), region(work, n, TRANSIT), work, b)
 }
 
 // Whether the list of v in the access body is that of the times from v, by a search for the `left` access nodes of its cell.
@@ -56,9 +50,12 @@ fn same_from(
     left: usize,
     work: &mut [u32],
 ) -> bool
-    requires { ⌜ (n ≤ maxNodes) × (v < n) × Enough n (now work) × Among n (region n own (now work)) (region n transit (now work)) × ListedBelow (now access) v × Sought n left (now work) ⌝ }
-    requires { ⌜ Roads (now edges) (now closed) n (now work) ⌝ }
-    ensures same { λ r. ⌜ r ≡ equal (cut (listPart (now (access .entry)) v) (now (access .entry))) (listBytesOf (distanceWords (arcsIn (now (edges .entry)) (now (closed .entry))) n v) (membersIn n transit (now (work .entry))) (membersIn n own (now (work .entry)))) ⌝ }
+    requires { ⌜ (n ≤ maxNodes) × (v < n) × Enough n (now work) × Among n (region n own (now work)) (region n transit (now work)) × ListedBelow (now access) v
+        × Sought n left (now work) ⌝ }
+    requires { ⌜ IndexedEdges (now edges) (now closed) n (now work) ⌝ }
+    ensures same { λ r. ⌜ r ≡ equal (cut (listPart (now (access .entry)) v) (now (access .entry)))
+        (listBytesOf (distanceWords (arcsIn (now (edges .entry)) (now (closed .entry))) n v) (membersIn n transit (now (work .entry)))
+        (membersIn n own (now (work .entry)))) ⌝ }
     ensures others { λ _. ⌜ KeptFrom (searchWords n) (now (work .entry)) (now (work .exit)) ⌝ }
 {
     search_own(edges, closed, n, v, left, work);
@@ -79,9 +76,11 @@ fn same_beside(
     left: usize,
     work: &mut [u32],
 ) -> bool
-    requires { ⌜ Ground (now nodes) (now edges) (now closed) grid × (n ≡ nodeCount (now nodes)) × (n ≤ maxNodes) × (u < n) × (v < n) × Enough n (now work) × KeepsLists n (now access) × CellSquare (now nodes) grid u square ⌝ }
-    requires { ⌜ (membersIn n transit (now work) ≡ transitIn (now nodes) (now edges) (now closed) grid) × (membersIn n own (now work) ≡ accessOf (now nodes) (now edges) (now closed) grid u) ⌝ }
-    requires { ⌜ Sought n left (now work) × Roads (now edges) (now closed) n (now work) ⌝ }
+    requires { ⌜ Ground (now nodes) (now edges) (now closed) grid × (n ≡ nodeCount (now nodes)) × (n ≤ maxNodes) × (u < n) × (v < n) × Enough n (now work)
+        × KeepsLists n (now access) × CellSquare (now nodes) grid u square ⌝ }
+    requires { ⌜ (membersIn n transit (now work) ≡ transitIn (now nodes) (now edges) (now closed) grid)
+        × (membersIn n own (now work) ≡ accessOf (now nodes) (now edges) (now closed) grid u) ⌝ }
+    requires { ⌜ Sought n left (now work) × IndexedEdges (now edges) (now closed) n (now work) ⌝ }
     ensures same { λ r. ⌜ r ≡ sameBeside (now (nodes .entry)) (now (edges .entry)) (now (closed .entry)) grid (now (access .entry)) u v ⌝ }
     ensures others { λ _. ⌜ KeptFrom (searchWords n) (now (work .entry)) (now (work .exit)) ⌝ }
 {
@@ -103,9 +102,11 @@ fn same_in_cell(
     left: usize,
     work: &mut [u32],
 ) -> bool
-    requires { ⌜ Ground (now nodes) (now edges) (now closed) grid × (n ≡ nodeCount (now nodes)) × (n ≤ maxNodes) × (u < n) × Enough n (now work) × KeepsLists n (now access) ⌝ }
-    requires { ⌜ (membersIn n transit (now work) ≡ transitIn (now nodes) (now edges) (now closed) grid) × (membersIn n own (now work) ≡ accessOf (now nodes) (now edges) (now closed) grid u) ⌝ }
-    requires { ⌜ Sought n left (now work) × Roads (now edges) (now closed) n (now work) ⌝ }
+    requires { ⌜ Ground (now nodes) (now edges) (now closed) grid × (n ≡ nodeCount (now nodes)) × (n ≤ maxNodes) × (u < n) × Enough n (now work)
+        × KeepsLists n (now access) ⌝ }
+    requires { ⌜ (membersIn n transit (now work) ≡ transitIn (now nodes) (now edges) (now closed) grid)
+        × (membersIn n own (now work) ≡ accessOf (now nodes) (now edges) (now closed) grid u) ⌝ }
+    requires { ⌜ Sought n left (now work) × IndexedEdges (now edges) (now closed) n (now work) ⌝ }
     ensures same { λ r. ⌜ r ≡ all (sameBeside (now (nodes .entry)) (now (edges .entry)) (now (closed .entry)) grid (now (access .entry)) u) (upTo n) ⌝ }
     ensures others { λ _. ⌜ KeptFrom (searchWords n) (now (work .entry)) (now (work .exit)) ⌝ }
 {
@@ -143,8 +144,9 @@ fn same_of_cell(
     u: usize,
     work: &mut [u32],
 ) -> bool
-    requires { ⌜ Ground (now nodes) (now edges) (now closed) grid × (n ≡ nodeCount (now nodes)) × (n ≤ maxNodes) × (u < n) × Enough n (now work) × KeepsLists n (now access) ⌝ }
-    requires { ⌜ (membersIn n transit (now work) ≡ transitIn (now nodes) (now edges) (now closed) grid) × Roads (now edges) (now closed) n (now work) ⌝ }
+    requires { ⌜ Ground (now nodes) (now edges) (now closed) grid × (n ≡ nodeCount (now nodes)) × (n ≤ maxNodes) × (u < n) × Enough n (now work)
+        × KeepsLists n (now access) ⌝ }
+    requires { ⌜ (membersIn n transit (now work) ≡ transitIn (now nodes) (now edges) (now closed) grid) × IndexedEdges (now edges) (now closed) n (now work) ⌝ }
     ensures same { λ r. ⌜ r ≡ sameOfCell (now (nodes .entry)) (now (edges .entry)) (now (closed .entry)) grid (now (access .entry)) u ⌝ }
     ensures others { λ _. ⌜ KeptFrom (regionAt n transit) (now (work .entry)) (now (work .exit)) ⌝ }
 {
@@ -165,8 +167,9 @@ pub fn same_lists(
     n: usize,
     work: &mut [u32],
 ) -> bool
-    requires { ⌜ Ground (now nodes) (now edges) (now closed) grid × (n ≡ nodeCount (now nodes)) × (n ≤ maxNodes) × Enough n (now work) × KeepsLists n (now access) ⌝ }
-    requires { ⌜ (membersIn n transit (now work) ≡ transitIn (now nodes) (now edges) (now closed) grid) × Roads (now edges) (now closed) n (now work) ⌝ }
+    requires { ⌜ Ground (now nodes) (now edges) (now closed) grid × (n ≡ nodeCount (now nodes)) × (n ≤ maxNodes) × Enough n (now work)
+        × KeepsLists n (now access) ⌝ }
+    requires { ⌜ (membersIn n transit (now work) ≡ transitIn (now nodes) (now edges) (now closed) grid) × IndexedEdges (now edges) (now closed) n (now work) ⌝ }
     ensures same { λ r. ⌜ r ≡ sameLists (now (nodes .entry)) (now (edges .entry)) (now (closed .entry)) grid (now (access .entry)) ⌝ }
     ensures others { λ _. ⌜ KeptFrom (regionAt n transit) (now (work .entry)) (now (work .exit)) ⌝ }
 {

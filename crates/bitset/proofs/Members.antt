@@ -10,8 +10,8 @@ use borrow.Author.Tests.{eq-eqb, ne-eqb}
 use lib.Dec.{eqb, lit<}
 use lib.Bits.{bitOr, or-step, or-shr}
 use lib.Pow.{pow-lt, pow-add, shl-shr, shl-exact}
-use lib.ListN.{length, getD, set, replicate, length-set, length-map, length-replicate, getD-replicate}
-use lib.Seq.{getD-set-same, getD-set-other, ext-getD}
+use lib.ListN.{length, getD, set, drop, replicate, length-set, length-map, length-replicate, getD-replicate}
+use lib.Seq.{getD-set-same, getD-set-other, getD-drop, drop-set-add, ext-getD}
 use Rattle.model.specs.Lists.{upTo}
 use Rattle.theory.specs.RangeLaws.{length-range, getD-map-range}
 use Rattle.algorithms.specs.Settle.{blank}
@@ -102,7 +102,8 @@ flags-same n s t h = flags-by n s (flags n t) (length-flags n t) (λ v k. rw (fl
 
 pub flags-insert : (n : ℕ) (s : List ℕ) (v : ℕ) → v < n → n ≤ length s * 32 → flags n (insertIn s v) ≡ set (flags n s) v 1
 unfolding flag
-flags-insert n s v i l = flags-by n (insertIn s v) (set (flags n s) v 1) (simp (length-set, length-flags)) (λ w k. rw (members s v (omega arith) w) (go w k (ℕ-discrete w v)))
+flags-insert n s v i l = flags-by n (insertIn s v) (set (flags n s) v 1) (simp (length-set, length-flags))
+    (λ w k. rw (members s v (omega arith) w) (go w k (ℕ-discrete w v)))
   where
     go : (w : ℕ) → w < n → Dec (w ≡ v) → cond (eqb w v || isIn s w) 1 0 ≡ getD (set (flags n s) v 1) w 0
     go w k (yes e) = rw (e, eq-eqb v v refl, getD-set-same (flags n s) v 1 0 (rw length-flags i))
@@ -114,9 +115,22 @@ flags-none n k = flags-by n (replicate k 0) (replicate n 0) (length-replicate n 
     let z : _≡_ {A = ℕ} (getD (replicate k 0) (v / 32) 0) 0 = omega (arith, blank k (v / 32)) in
     rw (z, zero-div, getD-replicate {A = ℕ} n v 0 0 h))
 
--- The code's mask.
-pub settle-same : (s : List ℕ) (v : ℕ) → set s (v / 32) (bitOr (getD s (v / 32) 0) (1 * 2 ^ (v % 32) % 2 ^ 32)) ≡ insertIn s v
-unfolding insertIn
-settle-same s v =
-    let one : 1 * 2 ^ (v % 32) % 2 ^ 32 ≡ 2 ^ (v % 32) = shl-exact {a = 1} 1 (v % 32) 32 (lit< tt) (omega arith) ∙ one-mul (2 ^ (v % 32)) in
-    rw one
+-- ---- a set that begins at word a
+
+module _ (s : List ℕ) (a v : ℕ) where
+  pub insert-is : insertIn s (32 * a + v) ≡ set s (a + v / 32) (bitOr (getD s (a + v / 32) 0) (2 ^ (v % 32)))
+  unfolding insertIn
+  insert-is =
+      let word : (32 * a + v) / 32 ≡ a + v / 32 = omega arith in
+      let bit : (32 * a + v) % 32 ≡ v % 32 = omega arith in
+      rw (word, bit)
+
+  -- The code's mask.
+  pub settle-same : set s (a + v / 32) (bitOr (getD s (a + v / 32) 0) (1 * 2 ^ (v % 32) % 2 ^ 32)) ≡ insertIn s (32 * a + v)
+  settle-same =
+      let one : 1 * 2 ^ (v % 32) % 2 ^ 32 ≡ 2 ^ (v % 32) = shl-exact {a = 1} 1 (v % 32) 32 (lit< tt) (omega arith) ∙ one-mul (2 ^ (v % 32)) in
+      rw (one, insert-is)
+
+  pub insert-from : drop a (insertIn s (32 * a + v)) ≡ insertIn (drop a s) v
+  unfolding insertIn
+  insert-from = rw (insert-is, drop-set-add a s (v / 32) (bitOr (getD s (a + v / 32) 0) (2 ^ (v % 32))), getD-drop a s (v / 32) 0)

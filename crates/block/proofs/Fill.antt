@@ -6,26 +6,28 @@ use mathlib.Core.List.{List, []}
 use lib.ListN.{length, getD, take, set, replicate}
 use lib.Seq.{set-set, set-getD, getD-set-same, getD-take, length-take-le}
 use Rattle.model.specs.Bytes.{Bytes}
-use Rattle.block.specs.Block.{maxNames, square, twelve, rowOf, unusedRow, blockOf}
+use Rattle.block.specs.Block.{maxNames, entryOf, twelve, rowOf, unusedRow, blockOf}
 use Rattle.block.specs.Twelve.{used-at, unused-at, twelve-more}
 
 -- ---- a row
 
 -- A store into row i, which is r.
-pub row-store : {B : Type 0} (t : List (List B)) (i j : ℕ) (r : List B) (v : B) → i < length t → set (set t i r) i (set (getD (set t i r) i []) j v) ≡ set t i (set r j v)
+pub row-store : {B : Type 0} (t : List (List B)) (i j : ℕ) (r : List B) (v : B) → i < length t
+    → set (set t i r) i (set (getD (set t i r) i []) j v) ≡ set t i (set r j v)
 row-store t i j r v h = rw (getD-set-same t i r [] h) (set-set t i r (set r j v))
 
 pub row-is : {B : Type 0} (t : List (List B)) (i : ℕ) (r : List B) → getD t i [] ≡ r → t ≡ set t i r
 row-is {B} t i r e = sym (ap (λ (q : List B). set t i q) (sym e) ∙ set-getD t i [])
 
 module _ (o : Bytes) where
-  pub row-more : (s : ℕ) (ends : List ℕ) (j : ℕ) → j < length ends → j < maxNames → set (rowOf o (take j ends) s) j (square o s (getD ends j 0)) ≡ rowOf o (take (j + 1) ends) s
+  pub row-more : (s : ℕ) (ends : List ℕ) (j : ℕ) → j < length ends → j < maxNames
+      → set (rowOf o (take j ends) s) j (entryOf o s (getD ends j 0)) ≡ rowOf o (take (j + 1) ends) s
   unfolding rowOf
-  row-more s ends j h k = twelve-more (square o s) 0 ends j h k
+  row-more s ends j h k = twelve-more (entryOf o s) 0 ends j h k
 
-  pub no-squares : (s : ℕ) → unusedRow ≡ rowOf o [] s
+  pub no-entries : (s : ℕ) → unusedRow ≡ rowOf o [] s
   unfolding rowOf twelve
-  no-squares s = refl
+  no-entries s = refl
 
   -- ---- the rows of the first i starts
   module _ (starts ends : List ℕ) where

@@ -2,6 +2,6 @@
 mod FirstNamed
 mod Named
 mod Fill
-mod Squares
+mod Entries
 mod NearLaws
 mod Squared

@@ -3,7 +3,7 @@ use Prim.Native.Nat.{ℕ, _≤_}
 use mathlib.Core.Path.{_≡_, refl, sym, _∙_}
 use mathlib.Core.Bool.{true}
 use mathlib.Core.List.{List}
-use lib.ListN.{length, drop, replicate}
+use lib.ListN.{length, replicate}
 use lib.Dec.{ltb}
 use borrow.Author.Tests.{eq-eqb, ne-eqb, le-ltb}
 use Rattle.model.specs.Bytes.{Bytes}
@@ -29,7 +29,8 @@ module _ (names : List ℕ) where
   many-names h = rw (ne-eqb (length names) 0 h)
 
 -- With words enough the rules of a block are those of its sides.
-pub block-roomy : (o : Bytes) (starts ends : List ℕ) (words : ℕ) → wordsNeeded o ≤ words → firstBroken (blockRules o starts ends words) ≡ firstBroken (sidesRules o starts ends)
+pub block-roomy : (o : Bytes) (starts ends : List ℕ) (words : ℕ) → wordsNeeded o ≤ words
+    → firstBroken (blockRules o starts ends words) ≡ firstBroken (sidesRules o starts ends)
 unfolding blockRules workTooSmall
 block-roomy o starts ends words h = last-kept (sidesRules o starts ends) 14 (le-ltb words (wordsNeeded o) h)
 
@@ -42,12 +43,21 @@ module _ (o : Bytes) (starts ends work : List ℕ) (k : ℕ) (e : k ≡ firstBro
   pub block-refused : (b : Block) → (k ≡ 0 → ⊥) → b .rule ≡ k → b .times ≡ replicate maxNames unusedRow → BlockCall o starts ends work b work
   unfolding blockRefusal blockAfter
   block-refused b h p q =
-      record { result = rw (← e, ne-eqb k 0 h) (λ i. record { rule = p i; times = q i }); words = rw (← e) (words-kept (blockRules o starts ends (length work)) unwritten k e o work h) }
+      record {
+        result = rw (← e, ne-eqb k 0 h) (λ i. record { rule = p i; times = q i });
+        words = rw (← e)
+            (words-kept (blockRules o starts ends (length work)) unwritten k e o work h);
+      }
 
-  pub block-given : (b : Block) (work′ mid : List ℕ) → k ≡ 0 → b .rule ≡ 0 → b .times ≡ blockOf o starts ends → KeptFrom (wordsNeeded o) work mid → work′ ≡ cleared (wordsNeeded o) mid
+  pub block-given : (b : Block) (work′ mid : List ℕ) → k ≡ 0 → b .rule ≡ 0 → b .times ≡ blockOf o starts ends → KeptFrom (wordsNeeded o) work mid
+      → work′ ≡ cleared (wordsNeeded o) mid
       → BlockCall o starts ends work b work′
   unfolding blockRefusal blockAfter
-  block-given b work′ mid z p q d c = record { result = rw (sym e ∙ z) (λ i. record { rule = p i; times = q i }); words = c ∙ words-cleared o work mid d _ (sym e ∙ z) }
+  block-given b work′ mid z p q d c = record {
+    result = rw (sym e ∙ z) (λ i. record { rule = p i; times = q i });
+    words = c
+        ∙ words-cleared o work mid d _ (sym e ∙ z);
+  }
 
 -- ---- the block of an opened oracle
 module _ (o : Bytes) (starts ends work : List ℕ) (h : Opened o work) (k : ℕ) (e : k ≡ firstBroken (sidesRules o starts ends)) where

@@ -5,8 +5,8 @@ use native.Mathlib.Omega.{arith}
 use mathlib.Core.Path.{_≡_, refl, sym, ap, _∙_, subst}
 use mathlib.Core.Bool.{Bool, true, false}
 use mathlib.Core.List.{List, [], _∷_}
-use lib.ListN.{length, getD, set, take, drop, replicate}
-use lib.Seq.{getD-set-same, getD-take, drop-set-lt}
+use lib.ListN.{length, getD, set, drop, replicate, length-replicate}
+use lib.Seq.{getD-set-same}
 use Rattle.model.specs.Bytes.{Bytes}
 use Rattle.model.specs.Contents.{nodeBody, edgeBody, closedBody}
 use Rattle.model.specs.Lists.{any}
@@ -17,27 +17,32 @@ use Rattle.model.specs.Rules.{isLocal, localPair, noSuchNode, wellShaped, words
 use Rattle.theory.specs.Times.{kind-itself}
 use Rattle.algorithms.specs.Dijkstra.{at, at-set}
 use Rattle.algorithms.specs.Settle.{blank}
-use Rattle.algorithms.specs.Stops.{Stopped, lacking, nonzeros, lacking-all, nonzeros-one}
+use Rattle.algorithms.specs.Stops.{Stopped, lacking, nonzeros, lacking-all, nonzeros-none, nonzeros-most}
 use Rattle.arcs.specs.Arcs.{arcsIn}
 use Rattle.bitset.specs.Bits.{setWords, isIn}
 use Rattle.bitset.proofs.Members.{length-flags, flag-in, flag-out}
-use Rattle.words.specs.Regions.{searchWords, regionAt, regionFlags, want, gridAt, searchWords}
+use Rattle.words.specs.Regions.{regionAt, regionFlags, timesIn, want, wantIn, gridAt, searchWords}
+use Rattle.words.specs.Times.{store}
 use Rattle.opened.specs.Opened.{Opened}
 use Rattle.checks.proofs.RulesKept.{some-node}
 use Rattle.opened.proofs.SearchWords.{distance-in, itself-no-time}
 use Rattle.checks.proofs.NameLists.{named-there}
 use Rattle.block.specs.Near.{wantedIn, Wants, WantsToo, WantedTimes, NearTimes}
-use Rattle.words.specs.Regions.{wantIn, searchWords}
 use Rattle.words.specs.Frames.{Only, KeptFrom}
+use Rattle.words.proofs.TimeLaws.{time-at, store-same, store-kept}
 
 -- A flag more.
-nonzeros-set : (xs : List ℕ) (t : ℕ) → nonzeros (set xs t 1) ≤ nonzeros xs + 1
+nonzeros-set : (xs : List ℕ) (t : ℕ) → t < length xs → at xs t ≡ 0 → nonzeros (set xs t 1) ≡ nonzeros xs + 1
 unfolding nonzeros
-nonzeros-set [] t = omega arith
-nonzeros-set (zero ∷ xs) zero = omega arith
-nonzeros-set (suc x ∷ xs) zero = omega arith
-nonzeros-set (zero ∷ xs) (suc t) = nonzeros-set xs t
-nonzeros-set (suc x ∷ xs) (suc t) = omega (arith, nonzeros-set xs t)
+nonzeros-set [] t h z = absurd (omega arith)
+nonzeros-set (zero ∷ xs) zero h z = omega arith
+nonzeros-set (suc x ∷ xs) zero h z = absurd (omega arith)
+nonzeros-set (zero ∷ xs) (suc t) h z = nonzeros-set xs t (omega arith) z
+nonzeros-set (suc x ∷ xs) (suc t) h z = omega (arith, nonzeros-set xs t (omega arith) z)
+
+nonzeros-single : (n s : ℕ) → s < n → nonzeros (set (replicate n 0) s 1) ≡ 1
+nonzeros-single n s h =
+    omega (arith, nonzeros-set (replicate n 0) s (omega (arith, length-replicate {A = ℕ} n 0)) (omega (arith, blank n s)), nonzeros-none n)
 
 -- ---- the start as an end: no cell is far from itself
 itself-local : (o : Bytes) (s : ℕ) → localPair o s s ≡ true
@@ -46,11 +51,11 @@ itself-local o s = rw (kind-itself _ _)
 
 -- ---- the wanted set, end by end
 module _ (o : Bytes) (s : ℕ) where
-  wants-start : (n : ℕ) (names w : List ℕ) → w ≡ set (replicate n 0) s 1 → Wants o s names 0 0 w
-  wants-start n names w e = rw e (record {
+  wants-start : (n : ℕ) (names w : List ℕ) → s < n → w ≡ set (replicate n 0) s 1 → Wants o s names 0 0 w
+  wants-start n names w i e = rw e (record {
     near = λ i h l. absurd (omega arith);
     only = λ v h. rw (single v h) (itself-local o s);
-    few = nonzeros-one n s;
+    count = nonzeros-single n s i;
     fits = omega arith;
     alone = λ z v h. single v h;
   })
@@ -76,17 +81,17 @@ module _ (o : Bytes) (s : ℕ) where
     wants-same new names j left e g = record {
       near = near-too w names j left e g (λ v h. h) new;
       only = g .only;
-      few = omega (arith, g .few);
+      count = omega (arith, g .count);
       fits = omega (arith, g .fits);
       alone = λ z. g .alone (omega arith);
     }
 
     -- It is put there.
-    pub wants-put : localPair o s t ≡ true → t < length w → (w′ : List ℕ) → w′ ≡ set w t 1 → WantsToo o s t 1 w w′
-    wants-put l i w′ e names j left q g = rw e (record {
+    pub wants-put : localPair o s t ≡ true → t < length w → at w t ≡ 0 → (w′ : List ℕ) → w′ ≡ set w t 1 → WantsToo o s t 1 w w′
+    wants-put l i z w′ e names j left q g = rw e (record {
       near = near-too (set w t 1) names j left q g still (λ h. omega (arith, getD-set-same w t 1 0 i));
       only = at-set (λ v x. 0 < x → localPair o s v ≡ true) w t 1 (λ h. l) (g .only);
-      few = omega (arith, g .few, nonzeros-set w t);
+      count = omega (arith, g .count, nonzeros-set w t i z);
       fits = omega (arith, g .fits);
       alone = λ z. absurd (omega arith);
     })
@@ -112,6 +117,9 @@ module _ (o : Bytes) (m : ℕ) (e : m ≡ nodeCount (nodeBody o)) (w : List ℕ)
   pub want-has : (t : ℕ) → t < nodeCount (nodeBody o) → isIn (drop (regionAt m want) w) t ≡ true → 0 < at (wantedIn o w) t
   want-has t i h = rw (← want-is w) (omega (arith, flag-in m (drop (regionAt m want) w) t (omega (arith, e)) h))
 
+  pub want-lacks : (t : ℕ) → t < nodeCount (nodeBody o) → isIn (drop (regionAt m want) w) t ≡ false → at (wantedIn o w) t ≡ 0
+  want-lacks t i h = rw (← want-is w) (flag-out m (drop (regionAt m want) w) t (omega (arith, e)) h)
+
   pub want-put : (x : List ℕ) (t : ℕ) → regionFlags m want x ≡ set (regionFlags m want w) t 1 → wantedIn o x ≡ set (wantedIn o w) t 1
   want-put x t h = sym (want-is x) ∙ (h ∙ ap (λ (l : List ℕ). set l t 1) (want-is w))
 
@@ -120,9 +128,9 @@ module _ (o : Bytes) (m : ℕ) (e : m ≡ nodeCount (nodeBody o)) (w : List ℕ)
 
   -- From w it was cleared, in x, and s put there, in y.
   module _ (x y : List ℕ) (s : ℕ) where
-    pub want-first : (names : List ℕ) → regionFlags m want x ≡ replicate m 0 → regionFlags m want y ≡ set (regionFlags m want x) s 1
+    pub want-first : (names : List ℕ) → s < m → regionFlags m want x ≡ replicate m 0 → regionFlags m want y ≡ set (regionFlags m want x) s 1
         → Wants o s names 0 0 (wantedIn o y)
-    want-first names z h = wants-start o s m names (wantedIn o y) (sym (want-is y) ∙ (h ∙ ap (λ (l : List ℕ). set l s 1) z))
+    want-first names i z h = wants-start o s m names (wantedIn o y) i (sym (want-is y) ∙ (h ∙ ap (λ (l : List ℕ). set l s 1) z))
 
 -- ---- the times, in the words w′ that were w when the wanted set was made
 module _ (o : Bytes) (s : ℕ) (names : List ℕ) (left : ℕ) (w : List ℕ) (g : Wants o s names (length names) left (wantedIn o w)) where
@@ -130,7 +138,11 @@ module _ (o : Bytes) (s : ℕ) (names : List ℕ) (left : ℕ) (w : List ℕ) (g
   n = nodeCount (nodeBody o)
 
   pub want-lacking : lacking (wantedIn o w) (replicate n 0) ≤ left + 1
-  want-lacking = omega (arith, lacking-all (wantedIn o w) n (omega (arith, wanted-size o w)), g .few)
+  want-lacking = omega (arith, lacking-all (wantedIn o w) n (omega (arith, wanted-size o w)), g .count)
+
+  -- Where another node than s is wanted, there are two.
+  pub want-two : (left ≡ 0 → ⊥) → 2 ≤ n
+  want-two h = omega (arith, g .count, nonzeros-most (wantedIn o w), wanted-size o w)
 
   module _ (there : any (noSuchNode o) names ≡ false) where
     told : (t : ℕ) → t < n → (localPair o s t ≡ true → 0 < at (wantedIn o w) t) → isIn (drop (searchWords n) w) t ≡ localPair o s t
@@ -152,15 +164,15 @@ module _ (o : Bytes) (s : ℕ) (names : List ℕ) (left : ℕ) (w : List ℕ) (g
           time = λ l. times t i (g .near j h l);
         }
 
-    -- No end but s is local to it: the word of s is 0, and no search is made.
-    pub itself-times : left ≡ 0 → wellShaped o ≡ true → s < n → n ≤ length w → NearTimes o s names (set w s 0)
-    itself-times z shape i room = near-times (set w s 0) (drop-set-lt (searchWords n) w s 0 (omega arith)) (λ v k h.
-        rw (g .alone z v h) (getD-set-same w s 0 0 (omega arith) ∙ sym (itself-no-time o s shape i)))
+    -- No end but s is local to it: the time of s is 0, and no search is made.
+    pub itself-times : left ≡ 0 → wellShaped o ≡ true → s < n → n ≤ length w → NearTimes o s names (store n s 0 w)
+    itself-times z shape i room = near-times (store n s 0 w) (store-kept n s 0 w i (searchWords n) (omega arith)) (λ v k h.
+        rw (g .alone z v h) (store-same n s 0 w i (omega arith) ∙ sym (itself-no-time o s shape i)))
 
 -- What a search leaves, over the bodies and the number of nodes as the code has them.
 module _ (o : Bytes) (m : ℕ) (e : m ≡ nodeCount (nodeBody o)) (eb cb : Bytes) (p : eb ≡ edgeBody o) (q : cb ≡ closedBody o) (s : ℕ) (w w′ order : List ℕ) where
-  pub stopped-times : Stopped (arcsIn eb cb) m s (wantIn m w) (take m w′) order → WantedTimes o s (wantedIn o w) w′
+  pub stopped-times : Stopped (arcsIn eb cb) m s (wantIn m w) (timesIn m w′) order → WantedTimes o s (wantedIn o w) w′
   stopped-times found v i h =
       let n = nodeCount (nodeBody o) in
-      let f : Stopped (arcsIn (edgeBody o) (closedBody o)) n s (wantIn n w) (take n w′) order = rw (e, p, q) at found in
-      sym (getD-take n w′ v 0 i) ∙ (f .wanted v i h ∙ ap coded (sym (distance-in o s v)))
+      let f : Stopped (arcsIn (edgeBody o) (closedBody o)) n s (wantIn n w) (timesIn n w′) order = rw (e, p, q) at found in
+      sym (time-at n w′ v i) ∙ (f .wanted v i h ∙ ap coded (sym (distance-in o s v)))

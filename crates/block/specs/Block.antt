@@ -32,8 +32,8 @@ blockRules o starts ends words = sidesRules o starts ends ++ (rule 14 (workTooSm
 -- ---- the block
 
 -- "Each square equals the single answer for its pair", "'no walk' marked as in the table".
-unfoldable pub square : Bytes → ℕ → ℕ → ℕ
-square o s t = coded (distanceOf (timeAnswer o s t))
+unfoldable pub entryOf : Bytes → ℕ → ℕ → ℕ
+entryOf o s t = coded (distanceOf (timeAnswer o s t))
 
 -- Twelve of them, the unused ones at the end.
 unfoldable pub twelve : {A : Type 0} → A → List A → List A
@@ -41,7 +41,7 @@ twelve unused used = used ++ replicate (maxNames - length used) unused
 
 -- "A row for each start and a column for each end in the order named, with unused squares zero."
 unfoldable pub rowOf : Bytes → List ℕ → ℕ → List ℕ
-rowOf o ends s = twelve 0 (map (square o s) ends)
+rowOf o ends s = twelve 0 (map (entryOf o s) ends)
 
 abbrev pub unusedRow : List ℕ
 unusedRow = replicate maxNames 0

@@ -32,9 +32,11 @@ pub record BlockKept (o : Bytes) (starts ends : List ℕ) (words : ℕ) : Type 0
   pub few-ends : length ends ≤ maxNames
   pub enough : wordsNeeded o ≤ words
 
-pub sides-kept : (o : Bytes) (starts ends : List ℕ) → firstBroken (sidesRules o starts ends) ≡ 0 → (firstBroken (namedRules o (starts ++ ends)) ≡ 0) × (namesBroken starts || namesBroken ends ≡ false)
+pub sides-kept : (o : Bytes) (starts ends : List ℕ) → firstBroken (sidesRules o starts ends) ≡ 0 → (firstBroken (namedRules o (starts ++ ends)) ≡ 0)
+    × (namesBroken starts || namesBroken ends ≡ false)
 unfolding sidesRules
-sides-kept o starts ends h = split (namedRules o (starts ++ ends)) 17 (namesBroken starts || namesBroken ends) (named-counted o (starts ++ ends)) (omega arith) h
+sides-kept o starts ends h = split (namedRules o (starts ++ ends)) 17 (namesBroken starts || namesBroken ends) (named-counted o (starts ++ ends)) (omega arith)
+    h
 
 pub block-kept : (o : Bytes) (starts ends : List ℕ) (words : ℕ) → firstBroken (blockRules o starts ends words) ≡ 0 → BlockKept o starts ends words
 unfolding blockRules workTooSmall
@@ -42,4 +44,10 @@ block-kept o starts ends words h =
     let p = split (sidesRules o starts ends) 14 (workTooSmall o words) (sides-counted o starts ends) (omega arith) h in
     let q = sides-kept o starts ends (p .0) in
     let r = or-false (namesBroken starts) (namesBroken ends) (q .1) in
-    record { named = named-kept o starts ends (q .0); few-starts = few-names starts (r .0); few-ends = few-names ends (r .1); enough = ltb-false words (wordsNeeded o) (p .1) }
+    record {
+      named = named-kept o starts ends (q .0);
+      few-starts = few-names starts (r .0);
+      few-ends = few-names ends (r .1);
+      enough = ltb-false words
+          (wordsNeeded o) (p .1);
+    }

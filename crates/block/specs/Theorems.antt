@@ -30,7 +30,7 @@ use Rattle.theory.specs.FarModel.{exact}
 use Rattle.model.specs.Meanings.{meaning-injective}
 use Rattle.demands.specs.Outcomes.{Refuses}
 use Rattle.demands.specs.CallLaws as laws
-use Rattle.block.specs.Block.{maxNames, blockRules, square, rowOf, unusedRow, blockOf, blockRefusal, blockAfter, BlockCall}
+use Rattle.block.specs.Block.{maxNames, blockRules, entryOf, rowOf, unusedRow, blockOf, blockRefusal, blockAfter, BlockCall}
 use Rattle.block.specs.Twelve.{used-at, unused-at}
 use Rattle.checks.proofs.NameLists.{named-there}
 use Rattle.block.specs.Kept.{BlockKept, block-kept}
@@ -39,7 +39,8 @@ use Rattle.block.specs.declared.Block.{Block}
 -- ---- demand 1: "hands back the number of the first rule broken and writes nothing", and the block beside it is all zeros
 block-rule : (k : ℕ) (times : List (List ℕ)) → blockAfter k times .rule ≡ k
 unfolding blockAfter
-block-rule k times = laws.after k (λ (b : Block). b .rule) (record { rule = 0; times = times }) (record { rule = k; times = replicate maxNames unusedRow }) refl refl
+block-rule k times = laws.after k (λ (b : Block). b .rule) (record { rule = 0; times = times }) (record { rule = k; times = replicate maxNames unusedRow }) refl
+    refl
 
 module _ {o : Bytes} {starts ends work work′ : List ℕ} {r : Block} (call : BlockCall o starts ends work r work′) where
   number : r .rule ≡ blockRefusal o starts ends work
@@ -82,7 +83,7 @@ module _ {o : Bytes} {starts ends work work′ : List ℕ} {r : Block} (call : B
 
       pub unused-square : (j : ℕ) → length ends ≤ j → j < maxNames → getD (getD (r .times) i []) j 0 ≡ 0
       unfolding rowOf
-      unused-square j h k = rw row-is (unused-at (square o (getD starts i 0)) 0 ends 0 j h k)
+      unused-square j h k = rw row-is (unused-at (entryOf o (getD starts i 0)) 0 ends 0 j h k)
 
       module _ (j : ℕ) (hj : j < length ends) where
         abbrev s : ℕ
@@ -91,24 +92,32 @@ module _ {o : Bytes} {starts ends work work′ : List ℕ} {r : Block} (call : B
         abbrev t : ℕ
         t = getD ends j 0
 
-        square-is : getD (getD (r .times) i []) j 0 ≡ square o s t
+        square-is : getD (getD (r .times) i []) j 0 ≡ entryOf o s t
         unfolding rowOf
-        square-is = rw row-is (used-at (square o s) 0 ends 0 j hj)
+        square-is = rw row-is (used-at (entryOf o s) 0 ends 0 j hj)
 
         -- "Each square equals the single answer for its pair, equal places and repeated names included": what `time` hands back, of any words that are enough.
-        pub square-as-time : {words words′ : List ℕ} {a : Answer} → TimeCall o s t words a words′ → wordsNeeded o ≤ length words → getD (getD (r .times) i []) j 0 ≡ coded (distanceOf a)
-        unfolding timeResult answerAfter square
+        pub square-as-time : {words words′ : List ℕ} {a : Answer} → TimeCall o s t words a words′ → wordsNeeded o ≤ length words
+            → getD (getD (r .times) i []) j 0 ≡ coded (distanceOf a)
+        unfolding timeResult answerAfter entryOf
         square-as-time {words} single enough =
-            square-is ∙ rw (meaning-injective _ _ (single .result), time-kept o (kept .named .shape) s t (named-there o starts i hi (kept .named .firsts)) (named-there o ends j hj (kept .named .seconds)) words enough)
+            square-is ∙ rw (
+              meaning-injective _ _ (single .result),
+              time-kept o (kept .named .shape) s t (named-there o starts i hi (kept .named .firsts))
+                  (named-there o ends j hj (kept .named .seconds)) words enough,
+            )
 
 -- ---- demand 3 over a built oracle: each square is the least total of all walks from its start to its end, marked 'no walk' exactly where there is none
-module _ (f : Bytes) (dv : Division) (ok : accepted f dv ≡ true) {starts ends work work′ : List ℕ} {r : Block} (call : BlockCall (oracle f dv) starts ends work r work′) (given : r .rule ≡ 0) where
+module _ (f : Bytes) (dv : Division) (ok : accepted f dv ≡ true) {starts ends work work′ : List ℕ} {r : Block}
+    (call : BlockCall (oracle f dv) starts ends work r work′) (given : r .rule ≡ 0) where
   below : (names : List ℕ) (i : ℕ) → i < length names → any (noSuchNode (oracle f dv)) names ≡ false → getD names i 0 < nodeCount (nodeBody f)
   below names i h e = rw (bodies-of f dv (good f dv (all-passed f dv ok)) 0 (omega arith)) at (named-there (oracle f dv) names i h e)
 
-  pub square-least : (i j : ℕ) → i < length starts → j < length ends → IsLeast (Walk (arcs (network f)) (getD starts i 0) (getD ends j 0)) (decoded (getD (getD (r .times) i []) j 0))
-  unfolding square
-  square-least i j hi hj = rw (square-is call given i hi j hj, time-exact f dv ok s t (rw (count-nodes f) hs) (rw (count-nodes f) ht), small) (exact (network f) (sound.ends f (all-passed f dv ok .sound)) s t (rw (count-nodes f) hs))
+  pub square-least : (i j : ℕ) → i < length starts → j < length ends → IsLeast (Walk (arcs (network f)) (getD starts i 0) (getD ends j 0))
+      (decoded (getD (getD (r .times) i []) j 0))
+  unfolding entryOf
+  square-least i j hi hj = rw (square-is call given i hi j hj, time-exact f dv ok s t (rw (count-nodes f) hs) (rw (count-nodes f) ht), small)
+      (exact (network f) (sound.ends f (all-passed f dv ok .sound)) s t (rw (count-nodes f) hs))
     where
       s : ℕ
       s = getD starts i 0

@@ -50,6 +50,8 @@ module _ {B : Type 0} (f : ℕ → B) (unused : B) where
   unfolding front twelve
   front-is s i h = rw (length-map (take i s) f, length-take-le i s h, drop-replicate i maxNames)
 
-  pub twelve-more : (s : List ℕ) (i : ℕ) → i < length s → i < maxNames → set (twelve unused (map f (take i s))) i (f (getD s i 0)) ≡ twelve unused (map f (take (i + 1) s))
+  pub twelve-more : (s : List ℕ) (i : ℕ) → i < length s → i < maxNames → set (twelve unused (map f (take i s))) i (f (getD s i 0)) ≡ twelve unused
+      (map f (take (i + 1) s))
   twelve-more s i h k =
-      ap (λ (l : List B). set l i (f (getD s i 0))) (sym (front-is s i (omega arith))) ∙ (store s (replicate maxNames unused) i h k ∙ (front-is s (suc i) h ∙ rw (add-one i)))
+      ap (λ (l : List B). set l i (f (getD s i 0))) (sym (front-is s i (omega arith)))
+      ∙ (store s (replicate maxNames unused) i h k ∙ (front-is s (suc i) h ∙ rw (add-one i)))

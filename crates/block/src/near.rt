@@ -1,8 +1,8 @@
 // The search of a row: from its start up to the ends that are local to it.
 ghost use mathlib.Core.Path.{_≡_};
 ghost use mathlib.Core.Bool.{false};
-ghost use Prim.Native.Nat.{_*_, _<_, _≤_};
-ghost use lib.ListN.{length, drop, replicate};
+ghost use Prim.Native.Nat.{_<_, _≤_};
+ghost use lib.ListN.{length, replicate};
 ghost use Rattle.model.specs.Contents.{nodeBody};
 ghost use Rattle.model.specs.Lists.{any};
 ghost use Rattle.model.specs.Network.{nodeCount};
@@ -26,6 +26,7 @@ use words::regions::WANT;
 use words::regions::clear;
 use words::regions::has;
 use words::regions::put;
+use words::times::store_time;
 
 // Wants t where it is local to s. How many more nodes are wanted: none where t was wanted before.
 fn want_end(o: &[u8], grid: Grid, s: usize, t: usize, work: &mut [u32]) -> usize
@@ -46,7 +47,8 @@ fn want_end(o: &[u8], grid: Grid, s: usize, t: usize, work: &mut [u32]) -> usize
 
 // Wants s and the ends that are local to it, and no others. How many are wanted beside s.
 fn want_near(o: &[u8], grid: Grid, s: usize, ends: &[u32], work: &mut [u32]) -> usize
-    requires { ⌜ Opened (now o) (now work) × (gridOf grid ≡ oracleGrid (now o)) × (s < nodeCount (nodeBody (now o))) × (any (noSuchNode (now o)) (now ends) ≡ false) ⌝ }
+    requires { ⌜ Opened (now o) (now work) × (gridOf grid ≡ oracleGrid (now o)) × (s < nodeCount (nodeBody (now o)))
+        × (any (noSuchNode (now o)) (now ends) ≡ false) ⌝ }
     ensures wants { λ r. ⌜ Wants (now (o .entry)) s (now (ends .entry)) (length (now (ends .entry))) r (wantedIn (now (o .entry)) (now (work .exit))) ⌝ }
     ensures others { λ _. ⌜ KeptFrom (gridAt (nodeCount (nodeBody (now (o .entry))))) (now (work .entry)) (now (work .exit)) ⌝ }
 {
@@ -64,7 +66,7 @@ fn want_near(o: &[u8], grid: Grid, s: usize, ends: &[u32], work: &mut [u32]) -> 
 
 // Searches from s until the wanted nodes are settled, of which there are at most `left`. The word of each is its time from s then.
 fn search_until(o: &[u8], s: usize, left: usize, work: &mut [u32])
-    requires { ⌜ Opened (now o) (now work) × (s < nodeCount (nodeBody (now o))) ⌝ }
+    requires { ⌜ Opened (now o) (now work) × (s < nodeCount (nodeBody (now o))) × (2 ≤ nodeCount (nodeBody (now o))) ⌝ }
     requires { ⌜ lacking (wantedIn (now o) (now work)) (replicate (nodeCount (nodeBody (now o))) 0) ≤ left ⌝ }
     ensures times { λ _. ⌜ WantedTimes (now (o .entry)) s (wantedIn (now (o .entry)) (now (work .entry))) (now (work .exit)) ⌝ }
     ensures others { λ _. ⌜ KeptFrom (searchWords (nodeCount (nodeBody (now (o .entry))))) (now (work .entry)) (now (work .exit)) ⌝ }
@@ -81,13 +83,14 @@ fn search_until(o: &[u8], s: usize, left: usize, work: &mut [u32])
 
 // The times from s to the ends that are local to it stand in the words afterwards. Where s is the only one, no search is made.
 pub fn search_near(o: &[u8], grid: Grid, s: usize, ends: &[u32], work: &mut [u32])
-    requires { ⌜ Opened (now o) (now work) × (gridOf grid ≡ oracleGrid (now o)) × (s < nodeCount (nodeBody (now o))) × (any (noSuchNode (now o)) (now ends) ≡ false) ⌝ }
+    requires { ⌜ Opened (now o) (now work) × (gridOf grid ≡ oracleGrid (now o)) × (s < nodeCount (nodeBody (now o)))
+        × (any (noSuchNode (now o)) (now ends) ≡ false) ⌝ }
     ensures times { λ _. ⌜ NearTimes (now (o .entry)) s (now (ends .entry)) (now (work .exit)) ⌝ }
     ensures others { λ _. ⌜ KeptFrom (gridAt (nodeCount (nodeBody (now (o .entry))))) (now (work .entry)) (now (work .exit)) ⌝ }
 {
     let left = want_near(o, grid, s, ends, work);
     if left == 0 {
-        work[s] = 0;
+        store_time(work, node_count(o), s, 0);
         return;
     }
     search_until(o, s, left + 1, work);

@@ -1,6 +1,5 @@
 // The block over an opened oracle: many blocks after one check. What it hands back is what the block call does.
 ghost use mathlib.Core.Path.{_≡_};
-ghost use lib.ListN.{drop};
 ghost use Rattle.model.specs.Rules.{wordsNeeded};
 ghost use Rattle.opened.specs.Opened.{Opened};
 ghost use Rattle.words.specs.Frames.{KeptFrom};
@@ -12,7 +11,8 @@ use crate::rows::times_between;
 
 pub fn block(o: &[u8], starts: &[u32], ends: &[u32], work: &mut [u32]) -> Block
     requires { ⌜ Opened (now o) (now work) ⌝ }
-    ensures result { λ r. ⌜ r ≡ blockAfter (blockRefusal (now (o .entry)) (now (starts .entry)) (now (ends .entry)) (now (work .entry))) (blockOf (now (o .entry)) (now (starts .entry)) (now (ends .entry))) ⌝ }
+    ensures result { λ r. ⌜ r ≡ blockAfter (blockRefusal (now (o .entry)) (now (starts .entry)) (now (ends .entry)) (now (work .entry)))
+        (blockOf (now (o .entry)) (now (starts .entry)) (now (ends .entry))) ⌝ }
     ensures opened { λ _. ⌜ Opened (now (o .entry)) (now (work .exit)) ⌝ }
     ensures rest { λ _. ⌜ KeptFrom (wordsNeeded (now (o .entry))) (now (work .entry)) (now (work .exit)) ⌝ }
 {

@@ -4,7 +4,7 @@ ghost use mathlib.Core.Path.{_≡_};
 ghost use mathlib.Core.Bool.{false};
 ghost use mathlib.Core.List.{[]};
 ghost use Prim.Native.Nat.{_+_, _<_, _≤_};
-ghost use lib.ListN.{length, getD, take, set, drop};
+ghost use lib.ListN.{length, getD, take, set};
 ghost use Rattle.model.specs.Lists.{any};
 ghost use Rattle.model.specs.Contents.{nodeBody};
 ghost use Rattle.model.specs.Network.{nodeCount};
@@ -15,7 +15,7 @@ ghost use Rattle.grid.specs.Stored.{gridOf};
 ghost use Rattle.checks.specs.Grids.{oracleGrid};
 ghost use Rattle.opened.specs.Opened.{Opened};
 ghost use Rattle.words.specs.Frames.{KeptFrom};
-ghost use Rattle.block.specs.Block.{maxNames, square, rowOf, unusedRow, blockOf};
+ghost use Rattle.block.specs.Block.{maxNames, entryOf, rowOf, unusedRow, blockOf};
 ghost use Rattle.block.specs.Near.{NearTime, NearTimes};
 ghost use Rattle.words.specs.Regions.{gridAt};
 use crate::near::search_near;
@@ -27,6 +27,7 @@ use opened::opening::opened_grid;
 use reader::oracle::node_count;
 use words::regions::WANT;
 use words::regions::has;
+use words::times::time_of;
 
 // The seconds of an answer as the table marks them.
 pub fn seconds_of(a: Answer) -> u32
@@ -43,19 +44,20 @@ pub fn seconds_of(a: Answer) -> u32
     }
 }
 
-// The square of s and t: the time that the search from s has left where t is local, else by the lists and the table.
-fn square(o: &[u8], s: usize, t: usize, work: &[u32]) -> u32
+// The entry (02's square) of s and t: the time that the search from s has left where t is local, else by the lists and the table.
+fn entry_of(o: &[u8], s: usize, t: usize, work: &[u32]) -> u32
     requires { ⌜ Opened (now o) (now work) × (s < nodeCount (nodeBody (now o))) × (t < nodeCount (nodeBody (now o))) × NearTime (now o) s t (now work) ⌝ }
-    ensures { λ r. ⌜ r ≡ square (now (o .entry)) s t ⌝ }
+    ensures { λ r. ⌜ r ≡ entryOf (now (o .entry)) s t ⌝ }
 {
-    if has(work, node_count(o), WANT, t) {
-        return work[t];
+    let n = node_count(o);
+    if has(work, n, WANT, t) {
+        return time_of(work, n, t);
     }
     seconds_of(far_of(o, s, t))
 }
 
-// The block with the squares of s in its row i, which was unused.
-fn with_squares(
+// The block with the entries of s in its row i, which was unused.
+fn with_entries(
     times: [[u32; 12]; 12],
     i: usize,
     o: &[u8],
@@ -63,14 +65,15 @@ fn with_squares(
     ends: &[u32],
     work: &[u32],
 ) -> [[u32; 12]; 12]
-    requires { ⌜ Opened (now o) (now work) × (s < nodeCount (nodeBody (now o))) × (any (noSuchNode (now o)) (now ends) ≡ false) × (length (now ends) ≤ maxNames) ⌝ }
+    requires { ⌜ Opened (now o) (now work) × (s < nodeCount (nodeBody (now o))) × (any (noSuchNode (now o)) (now ends) ≡ false)
+        × (length (now ends) ≤ maxNames) ⌝ }
     requires { ⌜ NearTimes (now o) s (now ends) (now work) × (i < maxNames) × (getD times i [] ≡ unusedRow) ⌝ }
     ensures { λ r. ⌜ r ≡ set times i (rowOf (now (o .entry)) (now (ends .entry)) s) ⌝ }
 {
     let mut filled = times;
     let mut j = 0;
     while j < ends.len() {
-        filled[i][j] = square(o, s, ends[j] as usize, work);
+        filled[i][j] = entry_of(o, s, ends[j] as usize, work);
         j += 1;
     }
     filled
@@ -86,13 +89,14 @@ fn with_row(
     ends: &[u32],
     work: &mut [u32],
 ) -> [[u32; 12]; 12]
-    requires { ⌜ Opened (now o) (now work) × (gridOf grid ≡ oracleGrid (now o)) × (s < nodeCount (nodeBody (now o))) × (any (noSuchNode (now o)) (now ends) ≡ false) × (length (now ends) ≤ maxNames) ⌝ }
+    requires { ⌜ Opened (now o) (now work) × (gridOf grid ≡ oracleGrid (now o)) × (s < nodeCount (nodeBody (now o)))
+        × (any (noSuchNode (now o)) (now ends) ≡ false) × (length (now ends) ≤ maxNames) ⌝ }
     requires { ⌜ (i < maxNames) × (getD times i [] ≡ unusedRow) ⌝ }
     ensures times { λ r. ⌜ r ≡ set times i (rowOf (now (o .entry)) (now (ends .entry)) s) ⌝ }
     ensures others { λ _. ⌜ KeptFrom (gridAt (nodeCount (nodeBody (now (o .entry))))) (now (work .entry)) (now (work .exit)) ⌝ }
 {
     search_near(o, grid, s, ends, work);
-    with_squares(times, i, o, s, ends, work)
+    with_entries(times, i, o, s, ends, work)
 }
 
 // Where the name at i was named first.
@@ -127,8 +131,10 @@ fn with_start(
     ends: &[u32],
     work: &mut [u32],
 ) -> [[u32; 12]; 12]
-    requires { ⌜ Opened (now o) (now work) × (gridOf grid ≡ oracleGrid (now o)) × (any (noSuchNode (now o)) (now starts) ≡ false) × (any (noSuchNode (now o)) (now ends) ≡ false) ⌝ }
-    requires { ⌜ (length (now starts) ≤ maxNames) × (length (now ends) ≤ maxNames) × (i < length (now starts)) × (times ≡ blockOf (now o) (take i (now starts)) (now ends)) ⌝ }
+    requires { ⌜ Opened (now o) (now work) × (gridOf grid ≡ oracleGrid (now o)) × (any (noSuchNode (now o)) (now starts) ≡ false)
+        × (any (noSuchNode (now o)) (now ends) ≡ false) ⌝ }
+    requires { ⌜ (length (now starts) ≤ maxNames) × (length (now ends) ≤ maxNames) × (i < length (now starts))
+        × (times ≡ blockOf (now o) (take i (now starts)) (now ends)) ⌝ }
     ensures times { λ r. ⌜ r ≡ blockOf (now (o .entry)) (take (i + 1) (now (starts .entry))) (now (ends .entry)) ⌝ }
     ensures others { λ _. ⌜ KeptFrom (gridAt (nodeCount (nodeBody (now (o .entry))))) (now (work .entry)) (now (work .exit)) ⌝ }
 {

@@ -15,7 +15,7 @@ use Rattle.algorithms.specs.Rounds.{distanceWords}
 use Rattle.arcs.specs.Arcs.{arcsIn}
 use Rattle.bitset.specs.Bits.{setWords}
 use Rattle.bitset.specs.Members.{membersOf}
-use Rattle.index.specs.Index.{Roads}
+use Rattle.index.specs.Index.{IndexedEdges}
 use Rattle.grid.specs.declared.Grid.{Grid}
 use Rattle.crossing.specs.Ground.{cellsIn}
 use Rattle.crossing.specs.Cells.{sameCell, firstOfCell, same-cell}
@@ -29,10 +29,10 @@ use Rattle.passes.specs.BuildingLaws.{list-words, among, same-access}
 use Rattle.passes.specs.Sought.{Sought}
 use Rattle.passes.proofs.Seeking.{sought-later}
 use Rattle.passes.specs.Covered.{seen-none, seen-all, seen-later, to-none, to-all, to-other, to-same}
-use Rattle.passes.specs.Placed.{Placed, offset, whole, length-whole, offset-above, offset-within, offset-order, assembled, read-start}
+use Rattle.passes.specs.Stands.{Stands, offset, whole, length-whole, offset-above, offset-within, offset-order, assembled, read-start}
 use Rattle.words.specs.Frames.{Enough, KeptFrom}
 use Rattle.bodies.specs.Listed.{Based, Begun, Listed, ListedTo}
-use Rattle.bodies.proofs.OwnLists.{own-later}
+use Rattle.words.proofs.Windows.{region-later}
 use Rattle.words.proofs.Stays.{take-drop, kept-more}
 use Rattle.index.proofs.Laid.{roads-from}
 
@@ -73,20 +73,21 @@ module _ (n : ℕ) (list : ℕ → Bytes) (body : Bytes) (g : Begun n list body)
     starts = take-before body (offset n list v) (list v) fits-at (startSize * n) (offset-above n list v) ∙ g .starts;
   }
 
-  placed-here : Placed n list with-it v
+  stands-here : Stands n list with-it v
   unfolding cut
-  placed-here = cut-here body (offset n list v) (list v) fits-at
+  stands-here = cut-here body (offset n list v) (list v) fits-at
 
-  placed-still : (w : ℕ) → w < n → (w ≡ v → ⊥) → Placed n list body w → Placed n list with-it w
+  stands-still : (w : ℕ) → w < n → (w ≡ v → ⊥) → Stands n list body w → Stands n list with-it w
   unfolding cut
-  placed-still w l d p = pick (decLt w v)
+  stands-still w l d p = pick (decLt w v)
     where
       pick : Dec (w < v) → take (length (list w)) (drop (offset n list w) with-it) ≡ list w
       pick (yes q) =
           take-drop (offset n list w) (length (list w)) with-it ∙
           (ap (drop (offset n list w)) (take-before body (offset n list v) (list v) fits-at (offset n list w + length (list w)) (offset-order n list w v q h)) ∙
           (sym (take-drop (offset n list w) (length (list w)) body) ∙ p))
-      pick (no q) = ap (take (length (list w))) (drop-after body (offset n list v) (list v) fits-at (offset n list w) (offset-order n list v w (omega (arith, d)) l)) ∙ p
+      pick (no q) = ap (take (length (list w))) (drop-after body (offset n list v) (list v) fits-at (offset n list w)
+          (offset-order n list v w (omega (arith, d)) l)) ∙ p
 
 -- ---- the lists of a network
 module _ (b e c : Bytes) (grid : Grid) (n : ℕ) where
@@ -115,7 +116,7 @@ module _ (b e c : Bytes) (grid : Grid) (n : ℕ) where
   module _ (w : List ℕ) (based : Based b e c grid n w) (u v : ℕ) (u-in : u < n) (v-in : v < n) (os : membersIn n own w ≡ accessOf b e c grid u) (body : Bytes)
       (l : ListedTo b e c grid n u v body) where
     pub list-other : sameCell (cellsIn grid b) u v ≡ false → ListedTo b e c grid n u (v + 1) body
-    list-other other = record { begun = l .begun; seen = to-other (cellsIn grid b) (Placed n (listIn b e c grid) body) n u v other (l .seen) }
+    list-other other = record { begun = l .begun; seen = to-other (cellsIn grid b) (Stands n (listIn b e c grid) body) n u v other (l .seen) }
 
     module _ (same : sameCell (cellsIn grid b) u v ≡ true) where
       same-nodes : accessOf b e c grid u ≡ accessOf b e c grid v
@@ -126,7 +127,7 @@ module _ (b e c : Bytes) (grid : Grid) (n : ℕ) where
 
       pub list-room : (left : ℕ) → Sought n left w
           → ((n ≤ maxNodes) × (v < n) × Enough n w × Among n (region n own w) (region n transit w) × Sought n left w)
-          × (Roads e c n w
+          × (IndexedEdges e c n w
           × ((startSize * v + startSize ≤ length body) × (listStart body v + listSize left ≤ length body)))
       list-room left s = (
         (based .few, v-in, based .words, among b e c grid n (based .count) w u u-in (based .transits) os, s),
@@ -134,41 +135,51 @@ module _ (b e c : Bytes) (grid : Grid) (n : ℕ) where
           based .roads,
           (
             start-fits n (listIn b e c grid) body (l .begun) v v-in,
-            omega (arith, ap listSize (s .count), its-size, start-at n (listIn b e c grid) body (l .begun) v v-in, fits-at n (listIn b e c grid) body (l .begun) v v-in),
+            omega (
+              arith,
+              ap listSize (s .count),
+              its-size,
+              start-at n (listIn b e c grid) body (l .begun) v v-in,
+              fits-at n (listIn b e c grid) body (l .begun)
+                  v v-in,
+            ),
           ),
         ),
       )
 
-      pub list-done : (new : Bytes) → new ≡ splice (listStart body v) (listBytesOf (distanceWords (arcsIn e c) n v) (membersIn n transit w) (membersIn n own w)) body
+      pub list-done : (new : Bytes) → new ≡ splice (listStart body v) (listBytesOf (distanceWords (arcsIn e c) n v) (membersIn n transit w) (membersIn n own w))
+          body
           → ListedTo b e c grid n u (v + 1) new
       list-done new s =
           let list = listIn b e c grid in
-          let its : listBytesOf (distanceWords (arcsIn e c) n v) (membersIn n transit w) (membersIn n own w) ≡ list v = list-words b e c grid n (based .count) w v u (based .transits) same-nodes os in
+          let its : listBytesOf (distanceWords (arcsIn e c) n v) (membersIn n transit w) (membersIn n own w) ≡ list v = list-words b e c grid n (based .count) w
+          v u (based .transits) same-nodes os in
           let is : new ≡ with-it n list body (l .begun) v v-in = s ∙ rw (start-at n list body (l .begun) v v-in, its) in
           rw is
           (record {
             begun = begun-still n list body (l .begun) v v-in;
-            seen = to-same (cellsIn grid b) (Placed n list body) (Placed n list (with-it n list body (l .begun) v v-in)) n u v (l .seen)
-                (placed-here n list body (l .begun) v v-in) (placed-still n list body (l .begun) v v-in);
+            seen = to-same (cellsIn grid b) (Stands n list body) (Stands n list (with-it n list body (l .begun) v v-in)) n u v (l .seen)
+                (stands-here n list body (l .begun) v v-in) (stands-still n list body (l .begun) v v-in);
           })
 
   -- ---- cell by cell
   module _ (body : Bytes) where
     pub listed-first : Begun n (listIn b e c grid) body → Listed b e c grid n 0 body
-    listed-first g = record { begun = g; seen = seen-none (cellsIn grid b) (Placed n (listIn b e c grid) body) n }
+    listed-first g = record { begun = g; seen = seen-none (cellsIn grid b) (Stands n (listIn b e c grid) body) n }
 
     module _ (u : ℕ) where
       pub cell-none : Listed b e c grid n u body → ListedTo b e c grid n u 0 body
-      cell-none l = record { begun = l .begun; seen = to-none (cellsIn grid b) (Placed n (listIn b e c grid) body) n u (l .seen) }
+      cell-none l = record { begun = l .begun; seen = to-none (cellsIn grid b) (Stands n (listIn b e c grid) body) n u (l .seen) }
 
       pub cell-all : (v : ℕ) → n ≤ v → ListedTo b e c grid n u v body → Listed b e c grid n (u + 1) body
-      cell-all v h l = record { begun = l .begun; seen = to-all (cellsIn grid b) (Placed n (listIn b e c grid) body) n u v h (l .seen) }
+      cell-all v h l = record { begun = l .begun; seen = to-all (cellsIn grid b) (Stands n (listIn b e c grid) body) n u v h (l .seen) }
 
       pub listed-later : firstOfCell (cellsIn grid b) u ≡ false → Listed b e c grid n u body → Listed b e c grid n (u + 1) body
-      listed-later later l = record { begun = l .begun; seen = seen-later (cellsIn grid b) (Placed n (listIn b e c grid) body) n u later (l .seen) }
+      listed-later later l = record { begun = l .begun; seen = seen-later (cellsIn grid b) (Stands n (listIn b e c grid) body) n u later (l .seen) }
 
       pub listed-all : n ≤ u → Listed b e c grid n u body → body ≡ whole n (listIn b e c grid)
-      listed-all h l = assembled n (listIn b e c grid) body (l .begun .size) (l .begun .starts) (seen-all (cellsIn grid b) (Placed n (listIn b e c grid) body) n u h (l .seen))
+      listed-all h l = assembled n (listIn b e c grid) body (l .begun .size) (l .begun .starts)
+          (seen-all (cellsIn grid b) (Stands n (listIn b e c grid) body) n u h (l .seen))
 
 -- ---- the words for the cell of u, while its lists are written
 pub record Working (b e c : Bytes) (grid : Grid) (n u left : ℕ) (w₀ w : List ℕ) : Type 0 where
@@ -178,12 +189,13 @@ pub record Working (b e c : Bytes) (grid : Grid) (n u left : ℕ) (w₀ w : List
   pub kept : length w ≡ length w₀
   pub others : KeptFrom (regionAt n transit) w₀ w
 
-pub working-next : (b e c : Bytes) (grid : Grid) (n u left : ℕ) (w₀ w w′ : List ℕ) → Working b e c grid n u left w₀ w → length w′ ≡ length w → KeptFrom (searchWords n) w w′
+pub working-next : (b e c : Bytes) (grid : Grid) (n u left : ℕ) (w₀ w w′ : List ℕ) → Working b e c grid n u left w₀ w → length w′ ≡ length w
+    → KeptFrom (searchWords n) w w′
     → Working b e c grid n u left w₀ w′
 working-next b e c grid n u left w₀ w w′ g k q =
     record {
       based = based-later b e c grid n w w′ (g .based) k q;
-      owns = own-later n w w′ q ∙ g .owns;
+      owns = ap (membersOf n) (region-later n own w w′ (omega arith) q) ∙ g .owns;
       sought = sought-later n left w (g .sought) w′ q;
       kept = k ∙ g .kept;
       others = kept-more (searchWords n) (regionAt n transit) w w′ (omega arith) q ∙ g .others;

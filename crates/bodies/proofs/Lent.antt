@@ -1,7 +1,7 @@
--- A part of the output, lent and come back, and regions of the working words that a search leaves as they are. Assumes nothing.
+-- A part of the output, lent and come back. Assumes nothing.
 use Prim.Native.Nat.{ℕ, _+_, _-_, _≤_}
 use native.Mathlib.Omega.{arith}
-use mathlib.Core.Path.{_≡_, sym}
+use mathlib.Core.Path.{_≡_, sym, _∙_, ap}
 use mathlib.Core.List.{append-assoc}
 use borrow.Rule.Slice.PartMut.{midOf, putMid, post-is, mid-len}
 use lib.ListN.{length, take, drop}
@@ -13,3 +13,8 @@ unfolding splice
 part-written a e out ys h l k =
     let z : a + length ys ≡ e = omega (arith, k, mid-len a e out l) in
     rw (post-is a e out h, z) (sym (append-assoc (take a out) ys (drop e out)))
+
+-- The same, where these bytes came back.
+pub bytes-written : (a size : ℕ) (out : Bytes) → a + size ≤ length out → (ys bytes : Bytes) → length ys ≡ length (midOf a (a + size - a) out) → ys ≡ bytes
+    → putMid a (a + size - a) out ys ≡ splice a bytes out
+bytes-written a size out h ys bytes k e = part-written a (a + size) out ys (omega arith) h k ∙ ap (λ (b : Bytes). splice a b out) e

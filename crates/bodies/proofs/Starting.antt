@@ -12,20 +12,10 @@ use Rattle.words.specs.Regions.{regionAt, countsIn, counts}
 use Rattle.emit.specs.Parts.{Counted, startsOf, listSizes}
 use Rattle.emit.specs.PartLaws.{starts-lists}
 use Rattle.passes.specs.Building.{accessOf, listIn}
-use Rattle.passes.specs.Placed.{whole, front, length-front, length-whole}
+use Rattle.passes.specs.Stands.{whole, front, length-front, length-whole}
 use Rattle.passes.specs.BuildingLaws.{access-few}
 use Rattle.bodies.specs.Listed.{Based, Begun, Counts}
 use Rattle.bodies.proofs.CellLists.{length-its}
-
--- s are the words of region COUNTS, as the code lends them.
-module _ (n : ℕ) (work s : List ℕ) (p : s ≡ countsIn n work) where
-  pub starts-room : (body : Bytes) → startSize * n ≤ length body → Counted n (countsIn n work)
-      → Counted n s × (length (take (startSize * n) body) ≡ startSize * n)
-  starts-room body h c = (rw p c, length-take-le (startSize * n) body h)
-
-  pub starts-put : (body ys : Bytes) → ys ≡ startsOf (startSize * n) (listSizes n s)
-      → ys ++ drop (startSize * n) body ≡ startsOf (startSize * n) (listSizes n (countsIn n work)) ++ drop (startSize * n) body
-  starts-put body ys e = rw (e, p)
 
 module _ (b e c : Bytes) (grid : Grid) (n : ℕ) (work : List ℕ) (based : Based b e c grid n work) (all : Counts b e c grid n work) where
   pub count-is : (v : ℕ) → v < n → getD (countsIn n work) v 0 ≡ length (accessOf b e c grid v)
@@ -34,7 +24,14 @@ module _ (b e c : Bytes) (grid : Grid) (n : ℕ) (work : List ℕ) (based : Base
   pub counted-all : Counted n (countsIn n work)
   counted-all = (
     based .few,
-    omega (arith, based .words, based .some, length-drop (regionAt n counts) work, length-take-le n (drop (regionAt n counts) work) (simp length-drop (omega (arith, based .words, based .some)))),
+    omega (
+      arith,
+      based .words,
+      based .some,
+      length-drop (regionAt n counts) work,
+      length-take-le n (drop (regionAt n counts) work)
+          (simp length-drop (omega (arith, based .words, based .some))),
+    ),
     λ v h. omega (arith, count-is v h, based .few, access-few b e c grid n (based .count) v),
   )
 

@@ -1,12 +1,10 @@
 -- The rows of the table, written one after the other. Assumes nothing.
-use Prim.Native.Nat.{ℕ, _+_, _-_, _*_, _≤_, _<_}
+use Prim.Native.Nat.{ℕ, _+_, _*_, _≤_, _<_}
 use native.Mathlib.Omega.{arith}
-use mathlib.Core.Path.{_≡_, sym, _∙_, ap}
+use mathlib.Core.Path.{_≡_, sym, _∙_}
 use mathlib.Core.Bool.{true, false}
 use mathlib.Core.List.{List}
-use borrow.Rule.Slice.PartMut.{midOf, putMid, mid-len}
 use lib.ListN.{length, take, drop}
-use lib.Seq.{length-take-le}
 use Rattle.model.specs.Lists.{concatMap}
 use Rattle.model.specs.Bytes.{Bytes, splice}
 use Rattle.model.specs.Oracle.{valueSize}
@@ -15,35 +13,16 @@ use Rattle.theory.specs.ReadLaws.{length-concatMap}
 use Rattle.arcs.specs.Arcs.{arcsIn}
 use Rattle.bitset.specs.Bits.{isIn}
 use Rattle.words.specs.Regions.{regionAt, region, transit, searchWords}
-use Rattle.words.proofs.Windows.{region-length, in-front, region-later}
+use Rattle.words.proofs.Windows.{in-front, region-later}
 use Rattle.emit.specs.Members.{ifIn}
-use Rattle.bitset.specs.Members.{membersOf, HasBits}
 use Rattle.emit.specs.Parts.{rowBytes}
 use Rattle.emit.specs.PartLaws.{length-row}
 use Rattle.emit.specs.Records.{Wrote}
 use Rattle.emit.proofs.Writing.{Written, written-start}
 use Rattle.emit.proofs.Turns.{membersFrom, members-all, wrote-out, wrote-in, fits-in}
 use Rattle.passes.specs.Building.{membersIn}
-use Rattle.words.specs.Frames.{Enough, KeptFrom}
+use Rattle.words.specs.Frames.{KeptFrom}
 use Rattle.bodies.specs.Rows.{rowIn}
-use Rattle.bodies.proofs.Lent.{part-written}
-
--- ---- a row, from the words: s are those of region TRANSIT, as the code lends them
-module _ (n at t : ℕ) (work : List ℕ) (out : Bytes) (long : Enough n work) (e : t ≡ length (membersIn n transit work)) (h : at + valueSize * t ≤ length out) (some : 1 ≤ n)
-    (s : List ℕ) (p : s ≡ region n transit work) where
-  pub row-room : HasBits n s × (n ≤ length (take n work)) × (length (midOf at (at + valueSize * t - at) out) ≡ valueSize * length (membersOf n s))
-  row-room =
-      let z : at + valueSize * t - at ≡ valueSize * t = omega arith in (
-        rw p (omega (arith, region-length n transit work (omega arith))),
-        omega (arith, length-take-le n work (omega arith)),
-        mid-len at (at + valueSize * t) out h ∙ (z ∙ rw p (ap (λ (m : ℕ). valueSize * m) e)),
-      )
-
-  pub row-written : (ys : Bytes) → length ys ≡ length (midOf at (at + valueSize * t - at) out) → ys ≡ rowBytes (take n work) (membersOf n s)
-      → putMid at (at + valueSize * t - at) out ys ≡ splice at (rowBytes (take n work) (membersIn n transit work)) out
-  row-written ys k q =
-      part-written at (at + valueSize * t) out ys (omega arith) h k ∙
-      ap (λ (b : Bytes). splice at b out) (q ∙ ap (λ (s : List ℕ). rowBytes (take n work) (membersOf n s)) p)
 
 -- ---- the row of v, where it is a transit node
 module _ (edges closed : Bytes) (n v : ℕ) (work : List ℕ) (h : v < n) where

@@ -6,13 +6,13 @@ use lib.ListN.{length, getD, take}
 use Rattle.model.specs.Bytes.{Bytes}
 use Rattle.model.specs.Network.{maxNodes, nodeCount}
 use Rattle.model.specs.Oracle.{startSize}
-use Rattle.index.specs.Index.{Roads}
+use Rattle.index.specs.Index.{IndexedEdges}
 use Rattle.grid.specs.declared.Grid.{Grid}
 use Rattle.crossing.specs.Ground.{cellsIn, Ground}
 use Rattle.words.specs.Regions.{regionAt, counts, transit}
 use Rattle.passes.specs.Building.{accessOf, transitIn, listIn, membersIn}
 use Rattle.passes.specs.Covered.{Seen, SeenTo}
-use Rattle.passes.specs.Placed.{Placed, front, whole}
+use Rattle.passes.specs.Stands.{Stands, front, whole}
 use Rattle.words.specs.Frames.{Enough}
 
 -- What the lists are worked out by: an accepted network of n nodes with a grid, and working words with its transit nodes and the index of its edges.
@@ -23,7 +23,7 @@ pub record Based (nodes edges closed : Bytes) (grid : Grid) (n : ℕ) (work : Li
   pub words : Enough n work
   pub some : 1 ≤ n
   pub transits : membersIn n transit work ≡ transitIn nodes edges closed grid
-  pub roads : Roads edges closed n work
+  pub roads : IndexedEdges edges closed n work
 
 -- A body with the size of the whole one, and with its starts.
 pub record Begun (n : ℕ) (list : ℕ → Bytes) (body : Bytes) : Type 0 where
@@ -34,12 +34,12 @@ pub record Begun (n : ℕ) (list : ℕ → Bytes) (body : Bytes) : Type 0 where
 -- The lists of the nodes of all cells met before u are written.
 pub record Listed (nodes edges closed : Bytes) (grid : Grid) (n u : ℕ) (body : Bytes) : Type 0 where
   pub begun : Begun n (listIn nodes edges closed grid) body
-  pub seen : Seen (cellsIn grid nodes) (Placed n (listIn nodes edges closed grid) body) n u
+  pub seen : Seen (cellsIn grid nodes) (Stands n (listIn nodes edges closed grid) body) n u
 
 -- And those of the nodes below v of the cell of u.
 pub record ListedTo (nodes edges closed : Bytes) (grid : Grid) (n u v : ℕ) (body : Bytes) : Type 0 where
   pub begun : Begun n (listIn nodes edges closed grid) body
-  pub seen : SeenTo (cellsIn grid nodes) (Placed n (listIn nodes edges closed grid) body) n u v
+  pub seen : SeenTo (cellsIn grid nodes) (Stands n (listIn nodes edges closed grid) body) n u v
 
 -- Region COUNTS of the working words has the number of access nodes of each node.
 abbrev pub Counts : Bytes → Bytes → Bytes → Grid → ℕ → List ℕ → Type 0

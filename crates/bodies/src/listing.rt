@@ -8,7 +8,7 @@ ghost use Rattle.crossing.specs.Beside.{CellSquare};
 ghost use Rattle.words.specs.Regions.{regionAt, countsIn, transit, own, searchWords};
 ghost use Rattle.emit.specs.Parts.{Counted, startsOf, listSizes};
 ghost use Rattle.passes.specs.Building.{accessOf, listIn, membersIn};
-ghost use Rattle.passes.specs.Placed.{whole};
+ghost use Rattle.passes.specs.Stands.{whole};
 ghost use Rattle.passes.specs.Sought.{Sought};
 ghost use Rattle.words.specs.Frames.{Enough, KeptFrom};
 ghost use Rattle.bodies.specs.Listed.{Based, Listed, ListedTo, Counts};
@@ -21,8 +21,7 @@ use emit::starts::write_starts;
 use grid::Grid;
 use grid::square::Square;
 use passes::own::own_wanted;
-use words::regions::COUNTS;
-use words::regions::region_at;
+use words::regions::counts;
 
 // Writes the list of v, if v has the cell of u, which the square is of. The cell has `left` access nodes.
 fn list_beside(
@@ -131,10 +130,8 @@ fn put_starts(n: usize, work: &[u32], body: &mut [u8])
     requires { ⌜ Enough n (now work) × (startSize * n ≤ length (now body)) × Counted n (countsIn n (now work)) × (1 ≤ n) ⌝ }
     ensures { λ _. ⌜ now (body .exit) ≡ startsOf (startSize * n) (listSizes n (countsIn n (now (work .entry)))) ++ drop (startSize * n) (now (body .entry)) ⌝ }
 {
-    let a = region_at(n, COUNTS);
-    let e = a + n;
     let m = START_SIZE * n;
-    write_starts(&work[a..e], n, &mut body[..m]);
+    write_starts(counts(work, n), n, &mut body[..m]);
 }
 
 // The whole body.

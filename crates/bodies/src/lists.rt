@@ -1,46 +1,44 @@
 // The list of one node, at its place in body 6.
 ghost use mathlib.Core.Path.{_≡_};
 ghost use Prim.Native.Nat.{_+_, _*_, _<_, _≤_};
-ghost use lib.ListN.{length, drop};
+ghost use lib.ListN.{length};
 ghost use Rattle.model.specs.Bytes.{splice};
 ghost use Rattle.model.specs.Network.{maxNodes};
 ghost use Rattle.model.specs.Oracle.{startSize, listSize, listStart};
 ghost use Rattle.algorithms.specs.Rounds.{distanceWords};
 ghost use Rattle.arcs.specs.Arcs.{arcsIn};
-ghost use Rattle.index.specs.Index.{Roads};
+ghost use Rattle.index.specs.Index.{IndexedEdges};
 ghost use Rattle.words.specs.Regions.{region, own, transit, timesIn, searchWords};
 ghost use Rattle.emit.specs.Members.{Among};
 ghost use Rattle.emit.specs.Parts.{listBytesOf};
 ghost use Rattle.passes.specs.Building.{membersIn};
 ghost use Rattle.passes.specs.Sought.{Sought};
 ghost use Rattle.words.specs.Frames.{Enough, KeptFrom};
-use bitset::bits::set_words;
 use codec::lists::list_size;
 use codec::lists::list_start;
 use emit::lists::write_list;
 use passes::own::search_own;
 use words::regions::OWN;
 use words::regions::TRANSIT;
-use words::regions::region_at;
+use words::regions::region;
 
 // The list of the node whose times stand in the first region.
 fn write_own(n: usize, work: &[u32], out: &mut [u8])
-    requires { ⌜ (n ≤ maxNodes) × Enough n (now work) × Among n (region n own (now work)) (region n transit (now work)) × (length (now out) ≡ listSize (length (membersIn n own (now work)))) × (1 ≤ n) ⌝ }
-    ensures { λ _. ⌜ now (out .exit) ≡ listBytesOf (timesIn n (now (work .entry))) (membersIn n transit (now (work .entry))) (membersIn n own (now (work .entry))) ⌝ }
+    requires { ⌜ (n ≤ maxNodes) × Enough n (now work) × Among n (region n own (now work)) (region n transit (now work))
+        × (length (now out) ≡ listSize (length (membersIn n own (now work)))) × (1 ≤ n) ⌝ }
+    ensures { λ _. ⌜ now (out .exit) ≡ listBytesOf (timesIn n (now (work .entry))) (membersIn n transit (now (work .entry)))
+        (membersIn n own (now (work .entry))) ⌝ }
 {
-    let m = set_words(n);
-    let a = region_at(n, OWN);
-    let e = a + m;
-    let b = region_at(n, TRANSIT);
-    let f = b + m;
-    write_list(n, &work[a..e], &work[b..f], &work[..n], out);
+    write_list(n, region(work, n, OWN), region(work, n, TRANSIT), work, out);
 }
 
 // Writes it where the starts say that list v stands.
 fn put_own(n: usize, v: usize, size: usize, work: &[u32], body: &mut [u8])
-    requires { ⌜ (n ≤ maxNodes) × Enough n (now work) × Among n (region n own (now work)) (region n transit (now work)) × (size ≡ listSize (length (membersIn n own (now work)))) × (1 ≤ n) ⌝ }
+    requires { ⌜ (n ≤ maxNodes) × Enough n (now work) × Among n (region n own (now work)) (region n transit (now work))
+        × (size ≡ listSize (length (membersIn n own (now work)))) × (1 ≤ n) ⌝ }
     requires { ⌜ (startSize * v + startSize ≤ length (now body)) × (listStart (now body) v + size ≤ length (now body)) ⌝ }
-    ensures { λ _. ⌜ now (body .exit) ≡ splice (listStart (now (body .entry)) v) (listBytesOf (timesIn n (now (work .entry))) (membersIn n transit (now (work .entry))) (membersIn n own (now (work .entry)))) (now (body .entry)) ⌝ }
+    ensures { λ _. ⌜ now (body .exit) ≡ splice (listStart (now (body .entry)) v)
+        (listBytesOf (timesIn n (now (work .entry))) (membersIn n transit (now (work .entry))) (membersIn n own (now (work .entry)))) (now (body .entry)) ⌝ }
 {
     let start = list_start(body, v);
     let end = start + size;
@@ -58,9 +56,11 @@ pub fn put_list(
     body: &mut [u8],
 )
     requires { ⌜ (n ≤ maxNodes) × (v < n) × Enough n (now work) × Among n (region n own (now work)) (region n transit (now work)) × Sought n left (now work) ⌝ }
-    requires { ⌜ Roads (now edges) (now closed) n (now work) ⌝ }
+    requires { ⌜ IndexedEdges (now edges) (now closed) n (now work) ⌝ }
     requires { ⌜ (startSize * v + startSize ≤ length (now body)) × (listStart (now body) v + listSize left ≤ length (now body)) ⌝ }
-    ensures bytes { λ _. ⌜ now (body .exit) ≡ splice (listStart (now (body .entry)) v) (listBytesOf (distanceWords (arcsIn (now (edges .entry)) (now (closed .entry))) n v) (membersIn n transit (now (work .entry))) (membersIn n own (now (work .entry)))) (now (body .entry)) ⌝ }
+    ensures bytes { λ _. ⌜ now (body .exit) ≡ splice (listStart (now (body .entry)) v)
+        (listBytesOf (distanceWords (arcsIn (now (edges .entry)) (now (closed .entry))) n v) (membersIn n transit (now (work .entry)))
+        (membersIn n own (now (work .entry)))) (now (body .entry)) ⌝ }
     ensures others { λ _. ⌜ KeptFrom (searchWords n) (now (work .entry)) (now (work .exit)) ⌝ }
 {
     search_own(edges, closed, n, v, left, work);

@@ -11,16 +11,18 @@ use Rattle.model.specs.Network.{distance, maxNodes, nodeCount}
 use Rattle.model.specs.Grid.{divisionBytes}
 use Rattle.model.specs.Oracle.{tableBytes, valueSize}
 use Rattle.model.specs.declared.Division.{Division}
-use Rattle.index.specs.Index.{Roads}
+use Rattle.index.specs.Index.{IndexedEdges}
 use Rattle.grid.specs.declared.Grid.{Grid}
 use Rattle.access.specs.Networks.{networkIn}
+use Rattle.access.specs.Pairs.{NotAlone}
 use Rattle.emit.specs.Parts.{headBytes, numbersBytes, total}
 use Rattle.emit.specs.PartLaws.{length-numbers, length-head}
 use Rattle.emit.specs.Records.{Wrote}
 use Rattle.words.specs.Regions.{regionAt, transit}
 use Rattle.passes.specs.Building.{transitIn, listIn, membersIn}
 use Rattle.passes.specs.BuildingLaws.{transit-few, table-words}
-use Rattle.passes.specs.Placed.{whole}
+use Rattle.passes.specs.Stands.{whole}
+use Rattle.passes.proofs.Taken.{transit-alone}
 use Rattle.bodies.specs.Listed.{Based, Counts}
 use Rattle.bodies.specs.Rows.{rowIn}
 use Rattle.bodies.proofs.CellLists.{based-still}
@@ -59,24 +61,26 @@ table-is b e c grid n size l q = table-words b e c grid n size l q
 -- ---- bodies 5 to 7
 module _ (b e c : Bytes) (grid : Grid) (n t a : ℕ) (w : List ℕ) (p : Planned b e c grid n t a w) where
   pub transit-room : (at room : ℕ) → at + backSize t a ≤ room
-      → (n ≤ maxNodes) × Enough n w × (t ≡ length (membersIn n transit w)) × (at + numberSize * t ≤ room) × (1 ≤ n)
-  transit-room at room h = (p .based .few, p .based .words, rw (p .based .transits) (p .transits), omega arith, p .based .some)
+      → (n ≤ maxNodes) × Enough n w × (at + numberSize * length (membersIn n transit w) ≤ room) × (1 ≤ n)
+  transit-room at room h = (p .based .few, p .based .words, omega (arith, ap length (p .based .transits), p .transits), p .based .some)
 
   transit-ends : {old new : Bytes} {at m : ℕ} → Wrote old at (numbersBytes (membersIn n transit w)) m new → m ≡ at + numberSize * t
   transit-ends q = omega (arith, q .ends, length-numbers (membersIn n transit w), ap length (p .based .transits), p .transits)
 
   module _ (at m : ℕ) (old mid : Bytes) (q : Wrote old at (numbersBytes (membersIn n transit w)) m mid)
       (h : at + backSize t a ≤ length old) where
-    pub access-room : length mid ≡ length old → a < 4294967296 → (Based b e c grid n w × Counts b e c grid n w) × ((a ≡ length (whole n (listIn b e c grid))) × (a < 4294967296) × (m + a ≤ length mid))
+    pub access-room : length mid ≡ length old → a < 4294967296 → (Based b e c grid n w × Counts b e c grid n w)
+        × ((a ≡ length (whole n (listIn b e c grid))) × (a < 4294967296) × (m + a ≤ length mid))
     access-room k s = ((p .based, p .counts), (p .access, s, omega (arith, transit-ends q)))
 
-    module _ (w′ : List ℕ) (kept : length w′ ≡ length w) (others : KeptFrom (regionAt n transit) w w′) (k : ℕ) (next : Bytes) (r : Wrote mid m (whole n (listIn b e c grid)) k next) where
+    module _ (w′ : List ℕ) (kept : length w′ ≡ length w) (others : KeptFrom (regionAt n transit) w w′) (k : ℕ) (next : Bytes)
+        (r : Wrote mid m (whole n (listIn b e c grid)) k next) where
       after : Based b e c grid n w′
       after = based-still b e c grid n w w′ (p .based) kept others
 
       pub table-room : length next ≡ length old
           → ((n ≤ maxNodes) × Enough n w′ × (t ≡ length (membersIn n transit w′))
-          × (k + valueSize * t * t ≤ length next) × (t ≤ maxNodes)) × Roads e c n w′
+          × (k + valueSize * t * t ≤ length next) × (t ≤ maxNodes)) × (IndexedEdges e c n w′ × NotAlone n transit w′)
       table-room l = (
         (
           after .few,
@@ -85,10 +89,11 @@ module _ (b e c : Bytes) (grid : Grid) (n t a : ℕ) (w : List ℕ) (p : Planned
           omega (arith, transit-ends q, r .ends, p .access),
           omega (arith, p .transits, p .based .few, transit-few b e c grid n (p .based .count)),
         ),
-        after .roads,
+        (after .roads, transit-alone b e c grid n (after .count) (after .ground) transit w′ (after .transits)),
       )
 
-      pub back-written : {end : ℕ} {new : Bytes} → length mid ≡ length old → Wrote next k (concatMap (rowIn e c n (membersIn n transit w′)) (membersIn n transit w′)) end new
+      pub back-written : {end : ℕ} {new : Bytes} → length mid ≡ length old
+          → Wrote next k (concatMap (rowIn e c n (membersIn n transit w′)) (membersIn n transit w′)) end new
           → Wrote old at (backBytes b e c grid n) end new
       unfolding backBytes
       back-written l s =
@@ -120,7 +125,8 @@ module _ (f b e c : Bytes) (dv : Division) (t a : ℕ) (joined : networkHead + l
         let ends : m ≡ gridEnd (length f) = omega (arith, q .ends, length-front f dv given l (ap length s)) in
         (omega arith, omega arith)
 
-    pub whole-written : (old mid new : Bytes) (m end : ℕ) (given : List ℕ) → given ≡ sizes → Wrote old 0 (frontBytes f dv given) m mid → wholeSize (length f) t a ≤ length old
+    pub whole-written : (old mid new : Bytes) (m end : ℕ) (given : List ℕ) → given ≡ sizes → Wrote old 0 (frontBytes f dv given) m mid
+        → wholeSize (length f) t a ≤ length old
         → {back : Bytes} → Wrote mid m back end new
         → Wrote old 0 (frontBytes f dv sizes ++ back) end new
     whole-written old mid new m end given s q h r = rw s at (wrote-then q r (omega (arith, back-room old mid m given s q h .0)))

@@ -23,7 +23,7 @@ use Rattle.emit.specs.PartLaws.{file-head, length-head, length-numbers}
 use Rattle.emit.specs.Records.{Wrote}
 use Rattle.passes.specs.Building.{transitIn, listIn}
 use Rattle.passes.specs.BuildingLaws.{access-body}
-use Rattle.passes.specs.Placed.{whole}
+use Rattle.passes.specs.Stands.{whole}
 use Rattle.builder.specs.Plan.{backSize, sizesIn, wholeSize, frontBytes, backBytes}
 use Rattle.builder.specs.Laid.{Laid}
 use Rattle.builder.proofs.Joins.{length-front}
@@ -42,7 +42,8 @@ all-joined h a b c g n w t =
 module _ (f : Bytes) (dv : Division) (b e c : Bytes) (grid : Grid) (n : ℕ) (l : Laid f dv b e c grid n) where
   -- ---- the bodies
   abbrev bodies : List Bytes
-  bodies = b ∷ e ∷ c ∷ divisionBytes dv ∷ numbersBytes (transitIn b e c grid) ∷ whole n (listIn b e c grid) ∷ tableBytes (distance (networkIn b e c)) (transitIn b e c grid) ∷ []
+  bodies = b ∷ e ∷ c ∷ divisionBytes dv ∷ numbersBytes (transitIn b e c grid) ∷ whole n (listIn b e c grid) ∷ tableBytes (distance (networkIn b e c))
+      (transitIn b e c grid) ∷ []
 
   pub transits-are : transitIn b e c grid ≡ transitOf f dv
   unfolding transitIn transitOf network
@@ -62,7 +63,8 @@ module _ (f : Bytes) (dv : Division) (b e c : Bytes) (grid : Grid) (n : ℕ) (l 
     unfolding range concat entryAt
     network-bytes =
         let three : List Bytes = map (body f) (upTo networkEntries) in
-        let is : f ≡ headBytes networkEdition (map length three) ++ concat three = whole-file f small networkEdition networkEntries (l .passed .contents) (l .passed .bodies)
+        let is : f ≡ headBytes networkEdition (map length three) ++ concat three = whole-file f small networkEdition networkEntries (l .passed .contents)
+        (l .passed .bodies)
         ∙ file-head networkEdition three in
         let behind : drop networkHead f ≡ concat three = ap (drop networkHead) is
         ∙ drop-at (headBytes networkEdition (map length three)) (concat three) networkHead (length-head networkEdition (map length three)) in
@@ -100,6 +102,7 @@ module _ (f : Bytes) (dv : Division) (b e c : Bytes) (grid : Grid) (n : ℕ) (l 
       pub size-small : wholeSize (length f) t a < 4294967296
       size-small = omega (arith, size-is, good f dv (l .passed) .small)
 
-      pub oracle-written : {old new : Bytes} {end : ℕ} → Wrote old 0 (frontBytes f dv (sizesIn (length b) (length e) (length c) t a) ++ backBytes b e c grid n) end new
+      pub oracle-written : {old new : Bytes} {end : ℕ} → Wrote old 0 (frontBytes f dv (sizesIn (length b) (length e) (length c) t a) ++ backBytes b e c grid n)
+          end new
           → new ≡ splice 0 (oracle f dv) old
       oracle-written {old} w = w .spliced ∙ ap (λ (bytes : Bytes). splice 0 bytes old) whole-is

@@ -62,7 +62,8 @@ module _ (f : Bytes) (dv : Division) where
     pub given-short : length out < length (oracle f dv) → BuildGiven f dv out (record { rule = 15; size = 0; transit = 0 }) out
     given-short h = record { result = rw (short (length out) h) (unfold builtAfter in refl); bytes = rw (short (length out) h) (unfold outputAfter in refl) }
 
-    pub given-built : (size t : ℕ) (out′ : Bytes) → size ≡ length (oracle f dv) → t ≡ length (transitOf f dv) → length (oracle f dv) ≤ length out → out′ ≡ splice 0 (oracle f dv) out
+    pub given-built : (size t : ℕ) (out′ : Bytes) → size ≡ length (oracle f dv) → t ≡ length (transitOf f dv) → length (oracle f dv) ≤ length out
+        → out′ ≡ splice 0 (oracle f dv) out
         → BuildGiven f dv out (record { rule = 0; size = size; transit = t }) out′
     given-built size t out′ s q h w = record {
       result = rw (enough (length out) h, s, q) (unfold builtAfter in refl);
@@ -83,7 +84,8 @@ module _ (f : Bytes) (dv : Division) where
         same = unfold buildRefusal in (ap firstBroken (rules-are (length work) (length out)) ∙ sym (sooner (workRules f dv (length work)) r e _ h))
 
     -- ---- none
-    pub build-given : (work′ mid : List ℕ) (built : Built) (out′ : Bytes) → r ≡ 0 → BuildGiven f dv out built out′ → KeptFrom (wordsNeeded f) work mid → work′ ≡ cleared (wordsNeeded f) mid
+    pub build-given : (work′ mid : List ℕ) (built : Built) (out′ : Bytes) → r ≡ 0 → BuildGiven f dv out built out′ → KeptFrom (wordsNeeded f) work mid
+        → work′ ≡ cleared (wordsNeeded f) mid
         → Build f dv work out built work′ out′
     build-given work′ mid built out′ z given d c = record {
       result = rw last (given .result);

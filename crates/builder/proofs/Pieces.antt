@@ -1,22 +1,16 @@
 -- Parts of the output, written one after the other. Assumes nothing.
-use Prim.Native.Nat.{ℕ, _+_, _-_, _*_, _≤_}
+use Prim.Native.Nat.{ℕ, _+_, _-_, _≤_}
 use native.Mathlib.Nat.{zero-add}
 use native.Mathlib.Omega.{arith}
 use mathlib.Core.Path.{_≡_, _∙_, ap}
-use mathlib.Core.List.{List, _++_}
+use mathlib.Core.List.{_++_}
 use borrow.Rule.Slice.PartMut.{midOf, putMid, mid-len}
 use lib.ListN.{length, take, drop, length-append}
 use lib.Seq.{length-take-le}
-use Rattle.model.specs.Bytes.{Bytes, splice, numberSize}
-use Rattle.words.proofs.Windows.{region-length}
-use Rattle.bitset.specs.Members.{membersOf, HasBits}
-use Rattle.emit.specs.Parts.{numbersBytes}
+use Rattle.model.specs.Bytes.{Bytes, splice}
 use Rattle.emit.specs.Records.{Wrote}
 use Rattle.emit.proofs.Writing.{splice-then}
-use Rattle.words.specs.Regions.{region, transit}
-use Rattle.passes.specs.Building.{membersIn}
 use Rattle.bodies.proofs.Lent.{part-written}
-use Rattle.words.specs.Frames.{Enough}
 
 -- One part after another is one of both.
 pub wrote-then : {old mid new x y : Bytes} {at m end : ℕ} → Wrote old at x m mid → Wrote mid m y end new → m ≤ length old → Wrote old at (x ++ y) end new
@@ -28,7 +22,8 @@ wrote-then {old} {x = x} {y = y} {at = at} p q h =
     }
 
 -- A part that was lent and came back as these bytes.
-pub wrote-part : (a e : ℕ) (out ys bytes : Bytes) → a ≤ e → e ≤ length out → length ys ≡ length (midOf a (e - a) out) → ys ≡ bytes → Wrote out a bytes e (putMid a (e - a) out ys)
+pub wrote-part : (a e : ℕ) (out ys bytes : Bytes) → a ≤ e → e ≤ length out → length ys ≡ length (midOf a (e - a) out) → ys ≡ bytes
+    → Wrote out a bytes e (putMid a (e - a) out ys)
 wrote-part a e out ys bytes h l k q = record {
   ends = omega (arith, k, mid-len a e out l, ap length q);
   spliced = part-written a e out ys h l k ∙ ap (λ (b : Bytes). splice a b out) q;
@@ -40,15 +35,3 @@ unfolding splice
 wrote-front m out ys bytes h k q =
     let l : length ys ≡ m = k ∙ length-take-le m out h in
     record { ends = omega (arith, l, ap length q); spliced = rw (← q, zero-add, l) }
-
--- ---- the transit nodes: s are the words of region TRANSIT, as the code lends them
-module _ (n t at : ℕ) (work : List ℕ) (out : Bytes) (long : Enough n work) (e : t ≡ length (membersIn n transit work)) (h : at + numberSize * t ≤ length out) (some : 1 ≤ n)
-    (s : List ℕ) (p : s ≡ region n transit work) where
-  pub numbers-room : HasBits n s × (length (midOf at (at + numberSize * t - at) out) ≡ numberSize * length (membersOf n s))
-  numbers-room =
-      let z : at + numberSize * t - at ≡ numberSize * t = omega arith in
-      (rw p (omega (arith, region-length n transit work (omega arith))), mid-len at (at + numberSize * t) out h ∙ (z ∙ rw p (ap (λ (m : ℕ). numberSize * m) e)))
-
-  pub numbers-written : (ys : Bytes) → length ys ≡ length (midOf at (at + numberSize * t - at) out) → ys ≡ numbersBytes (membersOf n s)
-      → Wrote out at (numbersBytes (membersIn n transit work)) (at + numberSize * t) (putMid at (at + numberSize * t - at) out ys)
-  numbers-written ys k q = wrote-part at (at + numberSize * t) out ys (numbersBytes (membersIn n transit work)) (omega arith) h k (q ∙ rw p)

@@ -3,13 +3,12 @@ use Prim.Native.Nat.{ℕ, _+_, _*_, _≤_}
 use native.Mathlib.Omega.{arith}
 use mathlib.Core.Path.{_≡_, _∙_}
 use mathlib.Core.List.{List}
-use lib.ListN.{length, drop}
 use Rattle.model.specs.Bytes.{Bytes}
 use Rattle.model.specs.Network.{maxNodes, nodeCount}
 use Rattle.model.specs.declared.Division.{Division}
 use Rattle.model.specs.Oracle.{startSize}
 use Rattle.theory.specs.Sound.{node-bytes}
-use Rattle.index.specs.Index.{Roads}
+use Rattle.index.specs.Index.{IndexedEdges}
 use Rattle.grid.specs.declared.Grid.{Grid}
 use Rattle.grid.proofs.Cells.{over-made}
 use Rattle.crossing.specs.Ground.{Ground}
@@ -17,7 +16,7 @@ use Rattle.crossing.specs.Sets.{ones}
 use Rattle.words.specs.Regions.{regionAt, countsIn, regionFlags, transit}
 use Rattle.emit.specs.Parts.{Counted, listSizes, total}
 use Rattle.passes.specs.Building.{transitIn, listIn, membersIn}
-use Rattle.passes.specs.Placed.{length-whole}
+use Rattle.passes.specs.Stands.{length-whole}
 use Rattle.passes.proofs.Listing.{count-members}
 use Rattle.bodies.specs.Listed.{Based, Counts}
 use Rattle.bodies.proofs.CellLists.{length-its}
@@ -53,7 +52,7 @@ module _ (f : Bytes) (dv : Division) (b e c : Bytes) (grid : Grid) (n : ℕ) (l 
     pub pass-requires : Ground b e c grid × (n ≡ nodeCount b) × (n ≤ maxNodes) × Enough n w × (1 ≤ n)
     pass-requires = (laid-ground, l .count, laid-few, words, laid-some)
 
-    module _ (members : membersIn n transit w ≡ transitIn b e c grid) (all : Counts b e c grid n w) (roads : Roads e c n w) where
+    module _ (members : membersIn n transit w ≡ transitIn b e c grid) (all : Counts b e c grid n w) (roads : IndexedEdges e c n w) where
       based-first : Based b e c grid n w
       based-first = record { ground = laid-ground; count = l .count; few = laid-few; words = words; some = laid-some; transits = members; roads = roads }
 
@@ -67,5 +66,10 @@ module _ (f : Bytes) (dv : Division) (b e c : Bytes) (grid : Grid) (n : ℕ) (l 
             based = based-first;
             counts = all;
             transits = p ∙ (count-members n transit w ∙ rw members);
-            access = q ∙ omega (arith, length-whole n list, length-lists list n (countsIn n w) (λ v h. length-its b e c grid n v ∙ rw (count-is b e c grid n w based-first all v h)));
+            access = q ∙ omega (
+              arith,
+              length-whole n list,
+              length-lists list n (countsIn n w)
+                  (λ v h. length-its b e c grid n v ∙ rw (count-is b e c grid n w based-first all v h)),
+            );
           }

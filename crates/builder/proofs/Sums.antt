@@ -1,16 +1,15 @@
 -- The size of lists, summed up one after the other. Assumes nothing.
-use Prim.Native.Nat.{ℕ, _+_, _*_, _≤_, _<_}
+use Prim.Native.Nat.{ℕ, _+_, _≤_, _<_}
 use native.Mathlib.Omega.{arith}
 use mathlib.Core.Path.{_≡_, refl, _∙_, ap}
 use mathlib.Core.List.{List, [], _∷_, map, map-map}
 use lib.ListN.{length, getD, length-append}
 use Rattle.model.specs.Lists.{concat, upTo}
 use Rattle.model.specs.Bytes.{Bytes}
-use Rattle.model.specs.Oracle.{startSize, listSize}
+use Rattle.model.specs.Oracle.{listSize}
 use Rattle.theory.specs.RangeLaws.{rest, rest-all, rest-step, rest-end}
 use Rattle.theory.specs.Members.{range→}
-use Rattle.words.specs.Regions.{countsIn}
-use Rattle.emit.specs.Parts.{Counted, listSizes, total}
+use Rattle.emit.specs.Parts.{listSizes, total}
 use Rattle.emit.specs.PartLaws.{map-same}
 
 module _ (counts : List ℕ) (n : ℕ) where
@@ -36,16 +35,9 @@ unfolding concat total
 length-concat [] = refl
 length-concat (l ∷ ls) = omega (arith, length-append l (concat ls), length-concat ls)
 
-pub length-lists : (f : ℕ → Bytes) (n : ℕ) (counts : List ℕ) → ((v : ℕ) → v < n → length (f v) ≡ listSize (getD counts v 0)) → length (concat (map f (upTo n))) ≡ total (listSizes n counts)
+pub length-lists : (f : ℕ → Bytes) (n : ℕ) (counts : List ℕ) → ((v : ℕ) → v < n → length (f v) ≡ listSize (getD counts v 0))
+    → length (concat (map f (upTo n))) ≡ total (listSizes n counts)
 unfolding listSizes
 length-lists f n counts h =
     length-concat (map f (upTo n)) ∙
     ap total (map-map length f (upTo n) ∙ map-same _ _ (upTo n) (λ v m. h v (omega (arith, range→ 0 n v m .1))))
-
--- ---- the numbers as the words of region COUNTS, as the code lends them
-module _ (n : ℕ) (work s : List ℕ) (p : s ≡ countsIn n work) where
-  pub counted-part : Counted n (countsIn n work) → Counted n s
-  counted-part c = rw p c
-
-  pub sized-part : (r : ℕ) → r ≡ total (listSizes n s) → startSize * n + r ≡ startSize * n + total (listSizes n (countsIn n work))
-  sized-part r e = rw (e, p)

@@ -13,7 +13,7 @@ use Rattle.grid.specs.declared.Grid.{Grid}
 use Rattle.access.specs.Networks.{networkIn}
 use Rattle.emit.specs.Parts.{headBytes, numbersBytes}
 use Rattle.passes.specs.Building.{transitIn, listIn}
-use Rattle.passes.specs.Placed.{whole}
+use Rattle.passes.specs.Stands.{whole}
 use Rattle.bodies.specs.Listed.{Based, Counts}
 
 -- ---- sizes
@@ -44,7 +44,8 @@ frontBytes f dv sizes = headBytes oracleEdition sizes ++ drop networkHead f ++ d
 
 -- Bodies 5 to 7.
 unfoldable pub backBytes : Bytes → Bytes → Bytes → Grid → ℕ → Bytes
-backBytes nodes edges closed grid n = numbersBytes (transitIn nodes edges closed grid) ++ whole n (listIn nodes edges closed grid) ++ tableBytes (distance (networkIn nodes edges closed)) (transitIn nodes edges closed grid)
+backBytes nodes edges closed grid n = numbersBytes (transitIn nodes edges closed grid) ++ whole n (listIn nodes edges closed grid) ++ tableBytes
+    (distance (networkIn nodes edges closed)) (transitIn nodes edges closed grid)
 
 -- The working words are ready to write from, with t transit nodes and a body 6 of the size a.
 pub record Planned (nodes edges closed : Bytes) (grid : Grid) (n t a : ℕ) (work : List ℕ) : Type 0 where

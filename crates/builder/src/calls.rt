@@ -1,12 +1,12 @@
 // The call that builds. It asks nothing of its arguments.
 ghost use mathlib.Core.Path.{_≡_};
 ghost use Prim.Native.Nat.{_*_, _≤_};
-ghost use lib.ListN.{length, drop};
+ghost use lib.ListN.{length};
 ghost use Rattle.model.specs.Rules.{firstBroken, wordsNeeded, workWords};
 ghost use Rattle.model.specs.Network.{maxNodes, nodeCount};
 ghost use Rattle.model.specs.Calls.{Build};
 ghost use Rattle.theory.specs.Passed.{Passed};
-ghost use Rattle.index.specs.Index.{Roads};
+ghost use Rattle.index.specs.Index.{IndexedEdges};
 ghost use Rattle.crossing.specs.Ground.{Ground};
 ghost use Rattle.words.specs.Regions.{transit};
 ghost use Rattle.passes.specs.Building.{transitIn, membersIn};
@@ -50,7 +50,7 @@ fn prepare(nodes: &[u8], edges: &[u8], closed: &[u8], grid: Grid, n: usize, work
     requires { ⌜ Ground (now nodes) (now edges) (now closed) grid × (n ≡ nodeCount (now nodes)) × (n ≤ maxNodes) × Enough n (now work) × (1 ≤ n) ⌝ }
     ensures members { λ _. ⌜ membersIn n transit (now (work .exit)) ≡ transitIn (now (nodes .entry)) (now (edges .entry)) (now (closed .entry)) grid ⌝ }
     ensures counted { λ _. ⌜ Counts (now (nodes .entry)) (now (edges .entry)) (now (closed .entry)) grid n (now (work .exit)) ⌝ }
-    ensures roads { λ _. ⌜ Roads (now (edges .entry)) (now (closed .entry)) n (now (work .exit)) ⌝ }
+    ensures roads { λ _. ⌜ IndexedEdges (now (edges .entry)) (now (closed .entry)) n (now (work .exit)) ⌝ }
     ensures behind { λ _. ⌜ KeptFrom (workWords n) (now (work .entry)) (now (work .exit)) ⌝ }
 {
     build_index(edges, closed, n, work);

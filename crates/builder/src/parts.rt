@@ -1,5 +1,4 @@
 // The parts of an oracle that need no search, each written at its place: the head, bodies 1 to 4, and the transit nodes.
-ghost use mathlib.Core.Path.{_≡_};
 ghost use Prim.Native.Nat.{_+_, _*_, _<_, _≤_};
 ghost use lib.ListN.{length, drop};
 ghost use Rattle.model.specs.Contents.{entryAt, oracleEdition, oracleEntries, networkHead, oracleHead};
@@ -12,10 +11,8 @@ ghost use Rattle.words.specs.Regions.{transit};
 ghost use Rattle.passes.specs.Building.{membersIn};
 ghost use Rattle.words.specs.Frames.{Enough};
 ghost use Rattle.builder.specs.Plan.{networkEnd};
-use bitset::bits::set_words;
 use codec::bytes::write16;
 use codec::records::GRID_SIZE;
-use codec::records::NUMBER_SIZE;
 use contents::NETWORK_HEAD;
 use contents::ORACLE_EDITION;
 use contents::ORACLE_ENTRIES;
@@ -25,7 +22,7 @@ use emit::head::write_head;
 use emit::numbers::write_numbers;
 use model::Division;
 use words::regions::TRANSIT;
-use words::regions::region_at;
+use words::regions::region;
 
 // The head, for bodies of these sizes.
 pub fn put_head(sizes: [u32; ORACLE_ENTRIES], out: &mut [u8])
@@ -54,14 +51,10 @@ pub fn put_grid(dv: Division, out: &mut [u8], at: usize) -> usize
     at + GRID_SIZE
 }
 
-// Body 5, for t transit nodes.
-pub fn put_transit(n: usize, t: usize, work: &[u32], out: &mut [u8], at: usize) -> usize
-    requires { ⌜ (n ≤ maxNodes) × Enough n (now work) × (t ≡ length (membersIn n transit (now work))) × (at + numberSize * t ≤ length (now out)) × (1 ≤ n) ⌝ }
+// Body 5.
+pub fn put_transit(n: usize, work: &[u32], out: &mut [u8], at: usize) -> usize
+    requires { ⌜ (n ≤ maxNodes) × Enough n (now work) × (at + numberSize * length (membersIn n transit (now work)) ≤ length (now out)) × (1 ≤ n) ⌝ }
     ensures { λ r. ⌜ Wrote (now (out .entry)) at (numbersBytes (membersIn n transit (now (work .entry)))) r (now (out .exit)) ⌝ }
 {
-    let a = region_at(n, TRANSIT);
-    let e = a + set_words(n);
-    let end = at + NUMBER_SIZE * t;
-    write_numbers(n, &work[a..e], &mut out[at..end]);
-    end
+    write_numbers(n, region(work, n, TRANSIT), out, at)
 }

@@ -1,7 +1,6 @@
 // The sizes of the bodies, and of the whole oracle, from the numbers of transit nodes and of access nodes.
 ghost use mathlib.Core.Path.{_≡_};
 ghost use Prim.Native.Nat.{_+_, _*_, _<_, _≤_};
-ghost use lib.ListN.{length};
 ghost use Rattle.words.specs.Regions.{countsIn};
 ghost use Rattle.model.specs.Contents.{networkHead};
 ghost use Rattle.model.specs.Network.{maxNodes};
@@ -17,8 +16,7 @@ use codec::records::VALUE_SIZE;
 use contents::NETWORK_HEAD;
 use contents::ORACLE_ENTRIES;
 use contents::ORACLE_HEAD;
-use words::regions::COUNTS;
-use words::regions::region_at;
+use words::regions::counts;
 
 // The size of n lists with these numbers of entries.
 fn lists_size(counts: &[u32], n: usize) -> usize
@@ -39,10 +37,7 @@ pub fn access_size(n: usize, work: &[u32]) -> usize
     requires { ⌜ Enough n (now work) × Counted n (countsIn n (now work)) × (1 ≤ n) ⌝ }
     ensures { λ r. ⌜ r ≡ startSize * n + total (listSizes n (countsIn n (now (work .entry)))) ⌝ }
 {
-    let a = region_at(n, COUNTS);
-    let e = a + n;
-    let lists = lists_size(&work[a..e], n);
-    START_SIZE * n + lists
+    START_SIZE * n + lists_size(counts(work, n), n)
 }
 
 // The size of the oracle of a network of `size` bytes, with t transit nodes and this size of body 6.

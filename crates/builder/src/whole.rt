@@ -2,17 +2,18 @@
 ghost use mathlib.Core.Path.{_≡_};
 ghost use mathlib.Core.List.{_++_};
 ghost use Prim.Native.Nat.{_+_, _*_, _<_, _≤_};
-ghost use lib.ListN.{length, drop};
+ghost use lib.ListN.{length};
 ghost use Rattle.model.specs.Contents.{entryAt, networkHead, oracleEntries};
 ghost use Rattle.model.specs.Lists.{concatMap};
 ghost use Rattle.model.specs.Network.{maxNodes};
 ghost use Rattle.model.specs.Oracle.{valueSize};
-ghost use Rattle.index.specs.Index.{Roads};
+ghost use Rattle.index.specs.Index.{IndexedEdges};
+ghost use Rattle.access.specs.Pairs.{NotAlone};
 ghost use Rattle.emit.specs.Parts.{total};
 ghost use Rattle.emit.specs.Records.{Wrote};
 ghost use Rattle.words.specs.Regions.{regionAt, transit, searchWords};
 ghost use Rattle.passes.specs.Building.{listIn, membersIn};
-ghost use Rattle.passes.specs.Placed.{whole};
+ghost use Rattle.passes.specs.Stands.{whole};
 ghost use Rattle.bodies.specs.Listed.{Based, Counts};
 ghost use Rattle.bodies.specs.Rows.{rowIn};
 ghost use Rattle.words.specs.Frames.{Enough, KeptFrom};
@@ -31,7 +32,8 @@ use model::Division;
 
 // The head, bodies 1 to 3 and body 4. Answers where they end.
 fn put_front(network: &[u8], dv: Division, sizes: [u32; ORACLE_ENTRIES], out: &mut [u8]) -> usize
-    requires { ⌜ (networkHead ≤ length (now network)) × (gridEnd (length (now network)) ≤ length (now out)) × (entryAt oracleEntries + total sizes < 4294967296) ⌝ }
+    requires { ⌜ (networkHead ≤ length (now network)) × (gridEnd (length (now network)) ≤ length (now out))
+        × (entryAt oracleEntries + total sizes < 4294967296) ⌝ }
     ensures { λ r. ⌜ Wrote (now (out .entry)) 0 (frontBytes (now (network .entry)) dv sizes) r (now (out .exit)) ⌝ }
 {
     put_head(sizes, out);
@@ -53,7 +55,8 @@ fn access_part(
 ) -> usize
     requires { ⌜ Based (now nodes) (now edges) (now closed) grid n (now work) × Counts (now nodes) (now edges) (now closed) grid n (now work) ⌝ }
     requires { ⌜ (a ≡ length (whole n (listIn (now nodes) (now edges) (now closed) grid))) × (a < 4294967296) × (at + a ≤ length (now out)) ⌝ }
-    ensures bytes { λ r. ⌜ Wrote (now (out .entry)) at (whole n (listIn (now (nodes .entry)) (now (edges .entry)) (now (closed .entry)) grid)) r (now (out .exit)) ⌝ }
+    ensures bytes { λ r. ⌜ Wrote (now (out .entry)) at (whole n (listIn (now (nodes .entry)) (now (edges .entry)) (now (closed .entry)) grid)) r
+        (now (out .exit)) ⌝ }
     ensures others { λ _. ⌜ KeptFrom (regionAt n transit) (now (work .entry)) (now (work .exit)) ⌝ }
 {
     let end = at + a;
@@ -71,9 +74,11 @@ fn table_part(
     out: &mut [u8],
     at: usize,
 ) -> usize
-    requires { ⌜ (n ≤ maxNodes) × Enough n (now work) × (t ≡ length (membersIn n transit (now work))) × (at + valueSize * t * t ≤ length (now out)) × (t ≤ maxNodes) ⌝ }
-    requires { ⌜ Roads (now edges) (now closed) n (now work) ⌝ }
-    ensures bytes { λ r. ⌜ Wrote (now (out .entry)) at (concatMap (rowIn (now (edges .entry)) (now (closed .entry)) n (membersIn n transit (now (work .entry)))) (membersIn n transit (now (work .entry)))) r (now (out .exit)) ⌝ }
+    requires { ⌜ (n ≤ maxNodes) × Enough n (now work) × (t ≡ length (membersIn n transit (now work))) × (at + valueSize * t * t ≤ length (now out))
+        × (t ≤ maxNodes) ⌝ }
+    requires { ⌜ IndexedEdges (now edges) (now closed) n (now work) × NotAlone n transit (now work) ⌝ }
+    ensures bytes { λ r. ⌜ Wrote (now (out .entry)) at (concatMap (rowIn (now (edges .entry)) (now (closed .entry)) n (membersIn n transit (now (work .entry))))
+        (membersIn n transit (now (work .entry)))) r (now (out .exit)) ⌝ }
     ensures others { λ _. ⌜ KeptFrom (searchWords n) (now (work .entry)) (now (work .exit)) ⌝ }
 {
     let end = at + VALUE_SIZE * t * t;
@@ -98,7 +103,7 @@ fn put_back(
     ensures bytes { λ r. ⌜ Wrote (now (out .entry)) at (backBytes (now (nodes .entry)) (now (edges .entry)) (now (closed .entry)) grid n) r (now (out .exit)) ⌝ }
     ensures others { λ _. ⌜ KeptFrom (regionAt n transit) (now (work .entry)) (now (work .exit)) ⌝ }
 {
-    let lists = put_transit(n, t, work, out, at);
+    let lists = put_transit(n, work, out, at);
     let table = access_part(nodes, edges, closed, grid, n, a, work, out, lists);
     table_part(edges, closed, n, t, work, out, table)
 }
@@ -117,9 +122,12 @@ pub fn write_oracle(
     work: &mut [u32],
     out: &mut [u8],
 ) -> usize
-    requires { ⌜ Planned (now nodes) (now edges) (now closed) grid n t a (now work) × (networkHead + length (now nodes) + length (now edges) + length (now closed) ≡ length (now network)) ⌝ }
+    requires { ⌜ Planned (now nodes) (now edges) (now closed) grid n t a (now work)
+        × (networkHead + length (now nodes) + length (now edges) + length (now closed) ≡ length (now network)) ⌝ }
     requires { ⌜ (wholeSize (length (now network)) t a ≤ length (now out)) × (wholeSize (length (now network)) t a < 4294967296) ⌝ }
-    ensures bytes { λ r. ⌜ Wrote (now (out .entry)) 0 (frontBytes (now (network .entry)) dv (sizesIn (length (now (nodes .entry))) (length (now (edges .entry))) (length (now (closed .entry))) t a) ++ backBytes (now (nodes .entry)) (now (edges .entry)) (now (closed .entry)) grid n) r (now (out .exit)) ⌝ }
+    ensures bytes { λ r. ⌜ Wrote (now (out .entry)) 0 (frontBytes (now (network .entry)) dv
+        (sizesIn (length (now (nodes .entry))) (length (now (edges .entry))) (length (now (closed .entry))) t a) ++ backBytes (now (nodes .entry))
+        (now (edges .entry)) (now (closed .entry)) grid n) r (now (out .exit)) ⌝ }
     ensures others { λ _. ⌜ KeptFrom (regionAt n transit) (now (work .entry)) (now (work .exit)) ⌝ }
 {
     let sizes = head_sizes(nodes.len(), edges.len(), closed.len(), t, a);

@@ -4,7 +4,7 @@ use mathlib.Core.Bool.{cond}
 use lib.Dec.{eqb}
 use Rattle.model.specs.Bytes.{Bytes}
 use Rattle.model.specs.Oracle.{noWalk}
-use Rattle.model.specs.Query.{listPlace}
+use Rattle.model.specs.Query.{listSpan}
 use Rattle.model.specs.declared.Kind.{Kind}
 use Rattle.model.specs.declared.Kind.the-variants.{Far, Local}
 use Rattle.model.specs.declared.Answer.{Answer}
@@ -23,8 +23,8 @@ reply (None kind pairs) = record { rule = 0; kind = kindNumber kind; seconds = n
 reply (Refused rule) = record { rule = rule; kind = 0; seconds = 0; pairs = 0 }
 
 -- Where the list of u stands in the oracle; nowhere, beside a refusal.
-unfoldable pub placed : Bytes → ℕ → Part
-placed o u = record { start = listPlace o u .start; size = listPlace o u .size }
+unfoldable pub span : Bytes → ℕ → Part
+span o u = record { start = listSpan o u .start; size = listSpan o u .size }
 
-unfoldable pub listPlaced : ℕ → Bytes → ℕ → Part
-listPlaced rule o u = cond (eqb rule 0) (placed o u) (record { start = 0; size = 0 })
+unfoldable pub listReply : ℕ → Bytes → ℕ → Part
+listReply rule o u = cond (eqb rule 0) (span o u) (record { start = 0; size = 0 })

@@ -1,4 +1,3 @@
-// The C interface: the calls as functions that other languages link. A slice crosses as a pointer and a length.
+// The C interface: the entry points as functions that other languages link, none of which requires anything. A slice crosses as a pointer and a length.
 pub mod building;
 pub mod oracles;
-pub mod questions;

@@ -7,7 +7,7 @@ ghost use Rattle.model.specs.Network.{nodeCount};
 ghost use Rattle.model.specs.Rules.{wellShaped};
 ghost use Rattle.model.specs.Calls.{workAfter, timeRefusal, timeResult, farResult, listRefusal, WayCall};
 ghost use Rattle.block.specs.Block.{BlockCall};
-ghost use Rattle.capi.specs.Replies.{kindNumber, reply, placed, listPlaced};
+ghost use Rattle.capi.specs.Replies.{kindNumber, reply, span, listReply};
 use block::Block;
 use block::calls as blocks;
 use codec::bytes::read32;
@@ -101,9 +101,9 @@ pub extern "C" fn jukesogbi_list_rule(o: &[u8], u: u32) -> u32
 }
 
 // Where the list of u stands.
-fn list_place(o: &[u8], u: usize) -> Part
+fn list_span(o: &[u8], u: usize) -> Part
     requires { ⌜ (wellShaped (now o) ≡ true) × (u < nodeCount (nodeBody (now o))) ⌝ }
-    ensures { λ r. ⌜ r ≡ placed (now (o .entry)) u ⌝ }
+    ensures { λ r. ⌜ r ≡ span (now (o .entry)) u ⌝ }
 {
     let access = oracle_body(o, ACCESS);
     let size = list_part(access, u).len();
@@ -114,12 +114,12 @@ fn list_place(o: &[u8], u: usize) -> Part
 // The access list of u as a part of the oracle, its count included; empty, at 0, where it is refused.
 #[no_mangle]
 pub extern "C" fn jukesogbi_list(o: &[u8], u: u32) -> Part
-    ensures { λ r. ⌜ r ≡ listPlaced (listRefusal (now (o .entry)) u) (now (o .entry)) u ⌝ }
+    ensures { λ r. ⌜ r ≡ listReply (listRefusal (now (o .entry)) u) (now (o .entry)) u ⌝ }
 {
     if calls::list_rule(o, u) != 0 {
         return Part { start: 0, size: 0 };
     }
-    list_place(o, u as usize)
+    list_span(o, u as usize)
 }
 
 #[no_mangle]

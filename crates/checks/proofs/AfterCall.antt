@@ -1,5 +1,5 @@
 -- What a call hands back and leaves in the working words, by the number of the broken rule or 0. Assumes nothing.
-use Prim.Native.Nat.{ℕ, _≤_, _*_}
+use Prim.Native.Nat.{ℕ, _≤_}
 use mathlib.Core.Path.{_≡_, refl, _∙_}
 use mathlib.Core.Bool.{Bool, true, false, not, _&&_, cond}
 use mathlib.Core.List.{List, [], _∷_, _++_}
@@ -39,7 +39,8 @@ uncleared (r ∷ rs) u h =
     let b = both {b = not (clears (r .number))} u in
     step (r .broken) (not-true (clears (r .number)) (b .0)) (λ k. uncleared rs (b .1) k) h
   where
-    step : (b : Bool) → clears (r .number) ≡ false → ((firstBroken rs ≡ 0 → ⊥) → clears (firstBroken rs) ≡ false) → (cond b (r .number) (firstBroken rs) ≡ 0 → ⊥)
+    step : (b : Bool) → clears (r .number) ≡ false → ((firstBroken rs ≡ 0 → ⊥) → clears (firstBroken rs) ≡ false)
+        → (cond b (r .number) (firstBroken rs) ≡ 0 → ⊥)
         → clears (cond b (r .number) (firstBroken rs)) ≡ false
     step true e rest k = e
     step false e rest k = rest k

@@ -31,12 +31,15 @@ grid-kept b h = or-false (not (eqb (length b) divisionSize)) (gridBroken (divisi
 module _ (o nb : Bytes) (p : nb ≡ nodeBody o) (r : Grid) (made : gridOf r ≡ oracleGrid o) where
   pub over-oracle : Shaped o → Over r nb
   unfolding oracleGrid
-  over-oracle shaped = rw p (over-made r (nodeBody o) (division (gridBody o)) made (shaped .sound .nodes-rule) (shaped .sound .coordinates) (grid-kept (gridBody o) (shaped .grid)))
+  over-oracle shaped = rw p (over-made r (nodeBody o) (division (gridBody o)) made (shaped .sound .nodes-rule) (shaped .sound .coordinates)
+      (grid-kept (gridBody o) (shaped .grid)))
 
-  cell-is : (c : Cell) (s : ℕ) → s < nodeCount nb → modelCell c ≡ cellOf (gridOf r) (node nb s) → modelCell c ≡ cellAt (cells (oracleGrid o) (nodes (nodeBody o))) s
+  cell-is : (c : Cell) (s : ℕ) → s < nodeCount nb → modelCell c ≡ cellOf (gridOf r) (node nb s)
+      → modelCell c ≡ cellAt (cells (oracleGrid o) (nodes (nodeBody o))) s
   cell-is c s h e = e ∙ (sym (cell-at (gridOf r) nb s h) ∙ rw (made, p))
 
-  pub kind-is : (c e : Cell) (s t : ℕ) → s < nodeCount nb → t < nodeCount nb → modelCell c ≡ cellOf (gridOf r) (node nb s) → modelCell e ≡ cellOf (gridOf r) (node nb t)
+  pub kind-is : (c e : Cell) (s t : ℕ) → s < nodeCount nb → t < nodeCount nb → modelCell c ≡ cellOf (gridOf r) (node nb s)
+      → modelCell e ≡ cellOf (gridOf r) (node nb t)
       → kindOf (gridOf r) (modelCell c) (modelCell e) ≡ kindBetween o s t
   unfolding kindBetween oracleGrid
   kind-is c e s t hs ht x y = rw (cell-is c s hs x, cell-is e t ht y, made)

@@ -1,5 +1,5 @@
 -- What the rules of a call give when none is broken. Assumes nothing.
-use Prim.Native.Nat.{ℕ, _*_, _≤_, _<_}
+use Prim.Native.Nat.{ℕ, _≤_, _<_}
 use native.Mathlib.Omega.{arith}
 use mathlib.Core.Path.{_≡_}
 use mathlib.Core.Bool.{true, _||_}
@@ -8,7 +8,8 @@ use borrow.Author.Tests.{eq-eqb, le-ltb, leb-false, ltb-false}
 use Rattle.model.specs.Bytes.{Bytes}
 use Rattle.model.specs.Contents.{nodeBody}
 use Rattle.model.specs.Network.{nodeCount}
-use Rattle.model.specs.Rules.{firstBroken, shapeRules, pairRules, timeRules, farRules, listRules, wellShaped, noSuchNode, workTooSmall, wordsNeeded, localPair, workWords}
+use Rattle.model.specs.Rules.{firstBroken, shapeRules, pairRules, timeRules, farRules, listRules, wellShaped, noSuchNode, workTooSmall, wordsNeeded}
+use Rattle.model.specs.Rules.{localPair, workWords}
 use Rattle.theory.specs.BuiltCalls.{pair-counted}
 use Rattle.theory.specs.Firsts.{split}
 use Rattle.theory.specs.Passed.{shape-counted, or-false, all-shaped}

@@ -21,6 +21,7 @@ module _ (edition n : ℕ) (f : Bytes) where
   unfolding contentsBroken
   by-entries x e ne = rw (← e) (simp (ne-eqb x n ne, or-true))
 
-  pub by-contents : (x y at : ℕ) → 2 ≤ length f → x ≡ byte f 0 → x ≡ edition → y ≡ byte f 1 → y ≡ n → at ≡ entryAt n → ltb (length f) at ≡ contentsBroken edition n f
+  pub by-contents : (x y at : ℕ) → 2 ≤ length f → x ≡ byte f 0 → x ≡ edition → y ≡ byte f 1 → y ≡ n → at ≡ entryAt n
+      → ltb (length f) at ≡ contentsBroken edition n f
   unfolding contentsBroken
   by-contents x y at h e p d q a = rw (← e, ← d, ← a) (simp (le-ltb (length f) 2 h, eq-eqb x edition p, eq-eqb y n q))

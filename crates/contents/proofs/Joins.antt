@@ -31,7 +31,8 @@ swap false a q b = refl
 module _ (f : Bytes) (n : ℕ) where
   joined-step : (c : Contents) → c .count < n → joined f n c ≡ follows f c && joined f n (extended f c)
   unfolding follows extended bodyPart
-  joined-step c h = rw (all-step (ofItsKind f) (c .count) n h, gapless-step (bodyPart f) (c .end) (c .count) n (length f) h) (swap (ofItsKind f (c .count)) _ _ _)
+  joined-step c h = rw (all-step (ofItsKind f) (c .count) n h, gapless-step (bodyPart f) (c .end) (c .count) n (length f) h)
+      (swap (ofItsKind f (c .count)) _ _ _)
 
   joined-end : (c : Contents) → c .count ≡ n → joined f n c ≡ finished f n c
   joined-end c e =
@@ -46,7 +47,8 @@ module _ (f : Bytes) (n : ℕ) where
       more : c .count < n
       more = omega arith
 
-      step : (b : Bool) → follows f c ≡ b → finished f n (readSteps m f (extended f c)) ≡ joined f n (extended f c) → finished f n (readSteps m f (readNext f c)) ≡ joined f n c
+      step : (b : Bool) → follows f c ≡ b → finished f n (readSteps m f (extended f c)) ≡ joined f n (extended f c)
+          → finished f n (readSteps m f (readNext f c)) ≡ joined f n c
       step true h r = rw (joined-step c more, h, goes f c h) r
       step false h r = rw (joined-step c more, h, stays f c h, stopped f m c h, ne-eqb (c .count) n (λ q. omega (arith, more)))
 

@@ -50,7 +50,8 @@ module _ (f : Bytes) (c : Contents) (e : Entry) (is : e ≡ held f (c .count)) w
   unfolding held follows
   by-offset ne = sym (stays f c (rw (← ap (λ x. x .offset) is, ne-eqb (e .offset) (c .end) ne) (and-false (ofItsKind f (c .count)))))
 
-  pub by-both : e .kind ≡ c .count + 1 → e .offset ≡ c .end → record { entries = set (c .entries) (c .count) e; count = c .count + 1; end = c .end + e .size } ≡ readNext f c
+  pub by-both : e .kind ≡ c .count + 1 → e .offset ≡ c .end → record { entries = set (c .entries) (c .count) e; count = c .count + 1; end = c .end + e .size } ≡
+      readNext f c
   unfolding held follows ofItsKind extended
   by-both k o = rw (goes f c (rw (← ap (λ x. x .kind) is, ← ap (λ x. x .offset) is, eq-eqb (e .kind) (c .count + 1) k, eq-eqb (e .offset) (c .end) o)), is)
 

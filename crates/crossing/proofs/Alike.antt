@@ -32,7 +32,8 @@ same-index x y = same-test
     (λ e. let h : (y - x) + (x - y) ≤ 0 = leb-true e in true-eqb {m = x} {n = y} (omega arith))
     (λ e. let h : x ≡ y = eqb-true e in true-leb ((y - x) + (x - y)) 0 (omega arith))
 
-pub cell-square-made : (grid : Grid) (b : Bytes) (u : ℕ) (c : Cell) (s : Square) → Over grid b → u < nodeCount b → c ≡ cellOf (gridOf grid) (node b u) → SquareOf grid c 0 s → CellSquare b grid u s
+pub cell-square-made : (grid : Grid) (b : Bytes) (u : ℕ) (c : Cell) (s : Square) → Over grid b → u < nodeCount b → c ≡ cellOf (gridOf grid) (node b u)
+    → SquareOf grid c 0 s → CellSquare b grid u s
 cell-square-made grid b u c s o h e q = record { over = o; node-in = h; square = subst (λ (x : Cell). SquareOf grid x 0 s) (cell-read grid b u c h e) q }
 
 -- w is whether the square reaches over node v, as the code has read it.

@@ -29,8 +29,15 @@ unfolding crossesSquare
 crosses-read nodes s e u v a b p q h k = differs a b ∙ rw (h, k, p, q)
 
 -- An edge crosses the square by its coordinates exactly where it does so by its cells.
-pub crosses-same : {nodes : Bytes} {grid : Grid} → Over grid nodes → (r : ℕ) (c : Cell) (s : Square) → SquareOf grid c r s → (e : Edge) → e .first < nodeCount nodes
+pub crosses-same : {nodes : Bytes} {grid : Grid} → Over grid nodes → (r : ℕ) (c : Cell) (s : Square) → SquareOf grid c r s → (e : Edge)
+    → e .first < nodeCount nodes
     → e .second < nodeCount nodes → crossesSquare nodes s e ≡ crosses (cellsIn grid nodes) r c e
 unfolding crossesSquare crosses
 crosses-same {nodes} {grid} over r c s q e h k =
-    rw (has-within over c r s q (e .first) h, has-within over c r s q (e .second) k, cell-at (gridOf grid) nodes (e .first) h, cell-at (gridOf grid) nodes (e .second) k)
+    rw (
+      has-within over c r s q (e .first) h,
+      has-within over c r s q (e .second) k,
+      cell-at (gridOf grid) nodes (e .first) h,
+      cell-at (gridOf grid) nodes
+          (e .second) k,
+    )

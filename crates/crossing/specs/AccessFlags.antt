@@ -20,7 +20,8 @@ unfoldable pub through : (ℕ → ℕ → Distance) → List ℕ → List ℕ �
 through d ps qs a = any (λ p. toward d qs p a) ps
 
 pub access-flags : (d : ℕ → ℕ → Distance) (grid : Grid) (cs : List Cell) (es : List Edge) (c : Cell) → memberFlags (length cs) (accessNodes d grid cs es c)
-    ≡ both (memberFlags (length cs) (crossings cs es (grid .inner) c)) (testFlags (through d (crossings cs es 0 c) (crossings cs es (grid .outer) c)) (length cs))
+    ≡ both (memberFlags (length cs) (crossings cs es (grid .inner) c)) (testFlags (through d (crossings cs es 0 c) (crossings cs es (grid .outer) c))
+    (length cs))
 unfolding accessNodes through toward memberFlags
 access-flags d grid cs es c =
     let inner = crossings cs es (grid .inner) c in

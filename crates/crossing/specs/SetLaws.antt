@@ -95,7 +95,8 @@ unfolding ones filter
 ones-map p [] = refl
 ones-map p (v ∷ l) = step (p v) (ones-map p l)
   where
-    step : (b : Bool) → ones (map (λ v. cond (p v) 1 0) l) ≡ length (filter p l) → ones (cond b 1 0 ∷ map (λ v. cond (p v) 1 0) l) ≡ length (cond b (v ∷ filter p l) (filter p l))
+    step : (b : Bool) → ones (map (λ v. cond (p v) 1 0) l) ≡ length (filter p l)
+        → ones (cond b 1 0 ∷ map (λ v. cond (p v) 1 0) l) ≡ length (cond b (v ∷ filter p l) (filter p l))
     step true e = ap suc e
     step false e = e
 

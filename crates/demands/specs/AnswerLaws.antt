@@ -54,9 +54,11 @@ by-kind : (kind : Kind) (o : Bytes) (s t : ℕ) → answerOf kind o s t ≡ answ
 by-kind Far o s t = unfold answerOf farAnswer in form Far _ _
 by-kind Local o s t = unfold answerOf localAnswer in form Local _ _
 
-pub kind-answers : (P : ℕ → Type 0) (kind : Kind) (o : Bytes) (s t : ℕ) → IsLeast P (distanceOf (answerOf kind o s t)) → Answers P kind (pairsTried kind o s t) (answerOf kind o s t)
+pub kind-answers : (P : ℕ → Type 0) (kind : Kind) (o : Bytes) (s t : ℕ) → IsLeast P (distanceOf (answerOf kind o s t))
+    → Answers P kind (pairsTried kind o s t) (answerOf kind o s t)
 kind-answers P kind o s t h =
-    subst (λ (a : Answer). Answers P kind (pairsTried kind o s t) a) (sym (by-kind kind o s t)) (answers P kind (pairsTried kind o s t) (distanceOf (answerOf kind o s t)) h)
+    subst (λ (a : Answer). Answers P kind (pairsTried kind o s t) a) (sym (by-kind kind o s t))
+    (answers P kind (pairsTried kind o s t) (distanceOf (answerOf kind o s t)) h)
 
 pub time-answers : (P : ℕ → Type 0) (o : Bytes) (s t : ℕ) → IsLeast P (distanceOf (timeAnswer o s t))
     → Answers P (kindBetween o s t) (pairsTried (kindBetween o s t) o s t) (timeAnswer o s t)

@@ -67,7 +67,12 @@ refuses rules f work result out = record {
 
 -- The same of a call without output.
 pub without-output : (rules : List Rule) (f : Bytes) (work : List ℕ) → Refuses rules (firstBroken rules) f work (workAfter (firstBroken rules) f work) [] []
-without-output rules f work = record { first = first-of rules; words = words-kept (firstBroken rules) f work; zeroed = words-cleared (firstBroken rules) f work; bytes = λ k. refl }
+without-output rules f work = record {
+  first = first-of rules;
+  words = words-kept (firstBroken rules) f work;
+  zeroed = words-cleared (firstBroken rules) f work;
+  bytes = λ k. refl;
+}
 
 -- ---- the number in what a call hands back
 pub after : {A : Type 0} (k : ℕ) (number : A → ℕ) (x y : A) → number x ≡ 0 → number y ≡ k → number (cond (eqb k 0) x y) ≡ k
@@ -79,7 +84,8 @@ after {A} k number x y p q = step (eqb k 0) refl
 
 pub built-rule : (k : ℕ) (f : Bytes) (dv : Division) → builtAfter k f dv .rule ≡ k
 unfolding builtAfter
-built-rule k f dv = after k (λ (b : Built). b .rule) (record { rule = 0; size = length (oracle f dv); transit = length (transitOf f dv) }) (record { rule = k; size = 0; transit = 0 }) refl refl
+built-rule k f dv = after k (λ (b : Built). b .rule) (record { rule = 0; size = length (oracle f dv); transit = length (transitOf f dv) })
+    (record { rule = k; size = 0; transit = 0 }) refl refl
 
 pub route-rule : (k : ℕ) (nodes : List ℕ) → routeAfter k nodes .rule ≡ k
 unfolding routeAfter
@@ -119,7 +125,8 @@ module _ (f : Bytes) (dv : Division) (work : List ℕ) (out : Bytes) where
   unfolding buildRefusal buildRules accepted
   build-kept ok enough room =
       first-append (acceptRules f dv) two (accept-counted f dv) (eqb-true _ _ ok) ∙
-      sym (goes 14 _ (unfold workTooSmall in le-ltb (length work) (wordsNeeded f) enough) (goes 15 [] (unfold outputTooSmall in le-ltb (length out) (length (oracle f dv)) room) none))
+      sym (goes 14 _ (unfold workTooSmall in le-ltb (length work) (wordsNeeded f) enough)
+      (goes 15 [] (unfold outputTooSmall in le-ltb (length out) (length (oracle f dv)) room) none))
 
   pub build-accepted : buildRefusal f dv work out ≡ 0 → accepted f dv ≡ true
   unfolding buildRefusal buildRules accepted
@@ -139,7 +146,8 @@ unfolding outputAfter
 rest-done result out = drop-append-seam result (drop (length result) out)
 
 -- ---- the access nodes and the transit nodes
-pub access-below : (f : Bytes) (dv : Division) (c : Cell) (a : ℕ) → List·Memᴰ a (accessNodes (distance (network f)) (grid-of f dv) (cells-of f dv) (network f .edges) c) → a < order (network f)
+pub access-below : (f : Bytes) (dv : Division) (c : Cell) (a : ℕ) → List·Memᴰ a
+    (accessNodes (distance (network f)) (grid-of f dv) (cells-of f dv) (network f .edges) c) → a < order (network f)
 unfolding accessNodes
 access-below f dv c a m = omega (arith, count-cells f dv, range→ 0 (length (cells-of f dv)) a (filter→ _ (upTo (length (cells-of f dv))) m .0))
 
@@ -151,5 +159,6 @@ transit-member n lists all below a = (
       let l = any→ (member a) (map lists all) (filter→ (λ x. any (member x) (map lists all)) (upTo n) m .1) in
       let c = map→ lists all (l .1) in
       (c .0, c .1, member→ a (lists (c .0)) (rw (← c .2) (l .2))),
-  λ (c, i, m). →filter (λ x. any (member x) (map lists all)) (upTo n) (→upTo n a (below c a m)) (→any (member a) (map lists all) (→map lists all i) (→member a (lists c) m)),
+  λ (c, i, m). →filter (λ x. any (member x) (map lists all)) (upTo n) (→upTo n a (below c a m))
+      (→any (member a) (map lists all) (→map lists all i) (→member a (lists c) m)),
 )

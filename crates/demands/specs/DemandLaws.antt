@@ -16,10 +16,12 @@ use Rattle.model.specs.Network.{network, nodeCount, order, arcs, distance}
 use Rattle.model.specs.Grid.{Cell, division}
 use Rattle.model.specs.Access.{accessNodes}
 use Rattle.model.specs.Oracle.{AccessEntry, oracle, transitOf, transitCount, accessList, listSize, listStart, listCount, listPart, tableEntry}
-use Rattle.model.specs.Query.{ruleOf, distanceOf, kindBetween, answerOf, timeAnswer, farAnswer, localAnswer, way, listPlace, listOf}
+use Rattle.model.specs.Query.{ruleOf, distanceOf, kindBetween, answerOf, timeAnswer, farAnswer, localAnswer, way, listSpan, listOf}
 use Rattle.model.specs.Meanings.{meaning-injective}
-use Rattle.model.specs.Rules.{accepted, wellShaped, wordsNeeded, firstBroken, shapeRules, buildRules, auditRules, timeRules, farRules, listRules, wayRules, noSuchNode, workWords}
-use Rattle.model.specs.Calls.{cleared, workAfter, outputAfter, answerAfter, buildRefusal, builtAfter, Build, auditRefusal, Audit, timeRefusal, timeResult, TimeCall, farResult, FarCall, listRefusal, listResult, wayRefusal, routeAfter, WayCall}
+use Rattle.model.specs.Rules.{accepted, wellShaped, wordsNeeded, firstBroken, shapeRules, buildRules, auditRules, timeRules, farRules, listRules, wayRules}
+use Rattle.model.specs.Rules.{noSuchNode, workWords}
+use Rattle.model.specs.Calls.{cleared, workAfter, outputAfter, answerAfter, buildRefusal, builtAfter, Build, auditRefusal, Audit, timeRefusal, timeResult}
+use Rattle.model.specs.Calls.{TimeCall, farResult, FarCall, listRefusal, listResult, wayRefusal, routeAfter, WayCall}
 use Rattle.model.specs.declared.Division.{Division}
 use Rattle.model.specs.declared.Kind.{Kind}
 use Rattle.model.specs.declared.Kind.the-variants.{Far, Local}
@@ -89,7 +91,7 @@ way-refuses {o} {s} {t} {work} {work′} {out} {out′} {r} call =
 
 -- A list has its count at least.
 pub list-not-empty : (o : Bytes) (u : ℕ) → listRefusal o u ≡ 0 → listResult o u ≡ [] → ⊥
-unfolding listRefusal listRules listResult listOf listPlace listPart noSuchNode wellShaped cut body
+unfolding listRefusal listRules listResult listOf listSpan listPart noSuchNode wellShaped cut body
 list-not-empty o u e z =
     let p = split (shapeRules o) 12 (noSuchNode o u) (shape-counted o) (omega arith) e in
     let l : u < nodeCount (nodeBody o) = leb-false (nodeCount (nodeBody o)) u (p .1) in
@@ -97,7 +99,14 @@ list-not-empty o u e z =
     let q : length (listOf o u) ≡ 0 = ap length (rw e at z) in
     let d : Part = bodyPart o 5 in
     let k : ℕ = d .start + listStart (accessBody o) u in
-    omega (arith, length-take (listSize (listCount (accessBody o) u)) (drop k o), length-drop k o, length-take (d .size) (drop (d .start) o), length-drop (d .start) o)
+    omega (
+      arith,
+      length-take (listSize (listCount (accessBody o) u)) (drop k o),
+      length-drop k o,
+      length-take (d .size) (drop (d .start) o),
+      length-drop
+          (d .start) o,
+    )
 
 -- ---- any well-shaped oracle, built or not
 module _ (o : Bytes) (shaped : wellShaped o ≡ true) where
@@ -125,7 +134,8 @@ module _ (o : Bytes) (shaped : wellShaped o ≡ true) where
     unfolding timeResult answerAfter
     time-is {words} query enough = meaning-injective _ _ (query .result) ∙ rw (calls.time-kept o shaped s t hs ht words enough)
 
-    pub time-far : {words words′ : List ℕ} {a : Answer} → TimeCall o s t words a words′ → wordsNeeded o ≤ length words → kindBetween o s t ≡ Far → a ≡ farAnswer o s t
+    pub time-far : {words words′ : List ℕ} {a : Answer} → TimeCall o s t words a words′ → wordsNeeded o ≤ length words → kindBetween o s t ≡ Far
+        → a ≡ farAnswer o s t
     unfolding timeAnswer answerOf
     time-far query enough far = time-is query enough ∙ rw far
 
@@ -137,9 +147,11 @@ module _ (o : Bytes) (shaped : wellShaped o ≡ true) where
         → Answers (Walk (arcs (network o)) s t) Local 0 a
     unfolding timeAnswer answerOf localAnswer
     time-local query enough near =
-        rw (time-is query enough, near) (answers (Walk (arcs (network o)) s t) Local 0 (distance (network o) s t) (exact (network o) (ends o (all-shaped o shaped .sound)) s t (rw (count-nodes o) hs)))
+        rw (time-is query enough, near) (answers (Walk (arcs (network o)) s t) Local 0 (distance (network o) s t)
+        (exact (network o) (ends o (all-shaped o shaped .sound)) s t (rw (count-nodes o) hs)))
 
-    module _ {words words′ : List ℕ} {room room′ : Bytes} {route : Route} (query : WayCall o s t words room route words′ room′) (enough : wordsNeeded o ≤ length words) (fits : 2 * length (way (network o) s t) ≤ length room) where
+    module _ {words words′ : List ℕ} {room room′ : Bytes} {route : Route} (query : WayCall o s t words room route words′ room′)
+        (enough : wordsNeeded o ≤ length words) (fits : 2 * length (way (network o) s t) ≤ length room) where
       kept : wayRefusal o s t words room ≡ 0
       kept = calls.way-kept o shaped s t hs ht words room enough fits
 
@@ -189,14 +201,16 @@ module _ (o : Bytes) (shaped : wellShaped o ≡ true) where
 module _ {o p : Bytes} (ho : wellShaped o ≡ true) (hp : wellShaped p ≡ true) (agree : Agree o p) (s t : ℕ) where
   pub far-alike : {a b : Answer} → FarCall o s t a → FarCall p s t b → a ≡ b
   unfolding wellShaped
-  far-alike x y = meaning-injective _ _ (x .result) ∙ (one-far-answer o p (eqb-true _ _ ho) (eqb-true _ _ hp) agree s t ∙ sym (meaning-injective _ _ (y .result)))
+  far-alike x y = meaning-injective _ _ (x .result) ∙ (one-far-answer o p (eqb-true _ _ ho) (eqb-true _ _ hp) agree s t
+      ∙ sym (meaning-injective _ _ (y .result)))
 
   pub time-alike : s < nodeCount (nodeBody o) → t < nodeCount (nodeBody o) → kindBetween o s t ≡ Far
       → {words words′ others others′ : List ℕ} {a b : Answer} → TimeCall o s t words a words′ → wordsNeeded o ≤ length words
       → TimeCall p s t others b others′ → wordsNeeded p ≤ length others → a ≡ b
   time-alike hs ht far x enough y many =
       time-far o ho s t hs ht x enough far ∙
-      (far-body-answer o p agree s t ∙ sym (time-far p hp s t (rw (agree .nodes) at hs) (rw (agree .nodes) at ht) y many (sym (kind-alike o p agree s t) ∙ far)))
+      (far-body-answer o p agree s t ∙ sym (time-far p hp s t (rw (agree .nodes) at hs) (rw (agree .nodes) at ht) y many
+      (sym (kind-alike o p agree s t) ∙ far)))
 
 -- ---- what building hands over
 pub build-succeeds : {f : Bytes} {dv : Division} {work work′ : List ℕ} {out out′ : Bytes} {r : Built} → Build f dv work out r work′ out′
@@ -260,7 +274,8 @@ module _ {f : Bytes} {dv : Division} {work work′ : List ℕ} {out out′ : Byt
   unfolding transitOf
   built-numbers = rw handed-is (shape.transit-read f dv (all-passed f dv ok))
 
-  pub built-transit-nodes : (a : ℕ) → List·Memᴰ a (words16 (transitBody o)) ↔ ((c : Cell) × List·Memᴰ c (allCells (dv .g)) × AccessNode (network f) (built.grid-of f dv) (built.cells-of f dv) c a)
+  pub built-transit-nodes : (a : ℕ) → List·Memᴰ a (words16 (transitBody o)) ↔
+      ((c : Cell) × List·Memᴰ c (allCells (dv .g)) × AccessNode (network f) (built.grid-of f dv) (built.cells-of f dv) c a)
   unfolding transitOf
   built-transit-nodes a =
       let (there, back) = laws.transit-member (order (network f)) accessIn (allCells (dv .g)) (λ c a m. laws.access-below f dv c a m) a in
@@ -323,26 +338,32 @@ module _ {f : Bytes} {dv : Division} {work work′ : List ℕ} {out out′ : Byt
     pub time-built : {words words′ : List ℕ} {a : Answer} → TimeCall o s t words a words′ → wordsNeeded f ≤ length words
         → Answers (Walk (arcs (network f)) s t) (kindBetween o s t) (pairsTried (kindBetween o s t) o s t) a
     time-built query enough =
-        rw (time-is o handed-shape s t (rw handed-count hs) (rw handed-count ht) query (rw handed-words enough)) (time-answers (Walk (arcs (network f)) s t) o s t least)
+        rw (time-is o handed-shape s t (rw handed-count hs) (rw handed-count ht) query (rw handed-words enough))
+        (time-answers (Walk (arcs (network f)) s t) o s t least)
 
     pub far-built : {a : Answer} → FarCall o s t a → kindBetween o s t ≡ Far → Answers (Walk (arcs (network f)) s t) Far (pairsTried Far o s t) a
     unfolding timeAnswer answerOf
     far-built query far =
-        rw (far-is o handed-shape s t (rw handed-count hs) (rw handed-count ht) query far) (kind-answers (Walk (arcs (network f)) s t) Far o s t (rw far at least))
+        rw (far-is o handed-shape s t (rw handed-count hs) (rw handed-count ht) query far)
+        (kind-answers (Walk (arcs (network f)) s t) Far o s t (rw far at least))
 
-    module _ {words words′ : List ℕ} {room room′ : Bytes} {route : Route} (query : WayCall o s t words room route words′ room′) (enough : wordsNeeded f ≤ length words) (fits : 2 * length (way (network o) s t) ≤ length room) where
+    module _ {words words′ : List ℕ} {room room′ : Bytes} {route : Route} (query : WayCall o s t words room route words′ room′)
+        (enough : wordsNeeded f ≤ length words) (fits : 2 * length (way (network o) s t) ≤ length room) where
       pub way-built : {others others′ : List ℕ} {a : Answer} → TimeCall o s t others a others′ → wordsNeeded f ≤ length others
           → {n pairs : ℕ} {kind : Kind} → a ≡ Time n kind pairs → WayWritten (arcs (network f)) s t n room route room′
       way-built time many {n} e =
           let l = least-of _ (time-built time many) e in
-          rw handed-network at (way-least o handed-shape s t (rw handed-count hs) (rw handed-count ht) query (rw handed-words enough) fits n (rw handed-network l))
+          rw handed-network at (way-least o handed-shape s t (rw handed-count hs) (rw handed-count ht) query (rw handed-words enough) fits n
+          (rw handed-network l))
 
       pub way-built-first : {m : ℕ} → Walk (arcs (network f)) s t m → (n : ℕ) × WayWritten (arcs (network f)) s t n room route room′
-      way-built-first {m} w = rw handed-network at (way-first o handed-shape s t (rw handed-count hs) (rw handed-count ht) query (rw handed-words enough) fits {m = m} (rw handed-network w))
+      way-built-first {m} w = rw handed-network at (way-first o handed-shape s t (rw handed-count hs) (rw handed-count ht) query (rw handed-words enough) fits
+          {m = m} (rw handed-network w))
 
       pub way-built-none : ((n : ℕ) → Walk (arcs (network f)) s t n → ⊥) → (route .nodes ≡ 0) × (room′ ≡ room)
       way-built-none h = way-none o handed-shape s t (rw handed-count hs) (rw handed-count ht) query (rw handed-words enough) fits (rw handed-network h)
 
   pub time-itself : (s : ℕ) → s < N → {words words′ : List ℕ} {a : Answer} → TimeCall o s s words a words′ → wordsNeeded f ≤ length words → a ≡ Time 0 Local 0
   time-itself s hs query enough =
-      time-is o handed-shape s s (rw handed-count hs) (rw handed-count hs) query (rw handed-words enough) ∙ rw handed-is (times.time-itself f dv ok s (below-order hs))
+      time-is o handed-shape s s (rw handed-count hs) (rw handed-count hs) query (rw handed-words enough)
+      ∙ rw handed-is (times.time-itself f dv ok s (below-order hs))

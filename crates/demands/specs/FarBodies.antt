@@ -17,7 +17,8 @@ own o s t = rule 12 (noSuchNode o s || noSuchNode o t) ∷ rule 13 (localPair o 
 
 past : (o : Bytes) (s t : ℕ) → firstBroken (shapeRules o) ≡ 0 → firstBroken (farRules o s t) ≡ firstBroken (own o s t)
 unfolding farRules pairRules
-past o s t h = ap firstBroken (append-assoc (shapeRules o) (rule 12 (noSuchNode o s || noSuchNode o t) ∷ []) (rule 13 (localPair o s t) ∷ [])) ∙ first-append (shapeRules o) (own o s t) (shape-counted o) h
+past o s t h = ap firstBroken (append-assoc (shapeRules o) (rule 12 (noSuchNode o s || noSuchNode o t) ∷ []) (rule 13 (localPair o s t) ∷ []))
+    ∙ first-append (shapeRules o) (own o s t) (shape-counted o) h
 
 pub one-far-answer : (o p : Bytes) → firstBroken (shapeRules o) ≡ 0 → firstBroken (shapeRules p) ≡ 0 → Agree o p → (s t : ℕ) → farResult o s t ≡ farResult p s t
 unfolding farResult farAnswer noSuchNode localPair kindBetween

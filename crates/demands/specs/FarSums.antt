@@ -55,17 +55,35 @@ module _ (o : Bytes) (s t : ℕ) where
 
   sums : IsLeast Some (farDistance (tableBody o) T out into)
   unfolding farDistance Some Pair
-  sums = meets-soonest (λ a. Among into (Pair a)) _ out (λ a m. meets-soonest (Pair a) (sumBy (tableBody o) T a) into (λ b k. itself (sumBy (tableBody o) T a b)))
+  sums = meets-soonest (λ a. Among into (Pair a)) _ out (λ a m. meets-soonest (Pair a) (sumBy (tableBody o) T a) into
+      (λ b k. itself (sumBy (tableBody o) T a b)))
 
   some-sum : (n : ℕ) → Some n → FarSum o s t n
   unfolding Some Pair sumBy
   some-sum n w =
       let p = parts (w .x .distance) (tableEntry (tableBody o) T (w .x .index) (w .has .x .index)) (w .has .x .distance) n (w .has .has) in
-      record { a = w .x; b = w .has .x; leaving = w .listed; entering = w .has .listed; x = p .x; y = p .y; z = p .z; first = p .first; middle = p .middle; last = p .last; sum = p .sum }
+      record {
+        a = w .x;
+        b = w .has .x;
+        leaving = w .listed;
+        entering = w .has .listed;
+        x = p .x;
+        y = p .y;
+        z = p .z;
+        first = p .first;
+        middle = p .middle;
+        last
+            = p .last;
+        sum = p .sum;
+      }
 
   sum-some : (n : ℕ) → FarSum o s t n → Some n
   unfolding Some Pair sumBy
-  sum-some n h = record { x = h .a; listed = h .leaving; has = record { x = h .b; listed = h .entering; has = whole (h .first) (h .middle) (h .last) (h .sum) } }
+  sum-some n h = record {
+    x = h .a;
+    listed = h .leaving;
+    has = record { x = h .b; listed = h .entering; has = whole (h .first) (h .middle) (h .last) (h .sum) };
+  }
 
   pub far-least-sum : IsLeast (FarSum o s t) (farDistance (tableBody o) T out into)
   far-least-sum = meets-weaker Some (FarSum o s t) some-sum (λ n l. sum-some n (l .has)) (farDistance (tableBody o) T out into) sums

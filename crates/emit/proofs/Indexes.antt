@@ -10,6 +10,7 @@ use Rattle.model.specs.Bytes.{Bytes, bytes16, numberSize, splice}
 use Rattle.model.specs.Oracle.{valueBytes, decoded, countSize, entrySize, listSize}
 use Rattle.bitset.specs.Bits.{isIn}
 use Rattle.bitset.specs.Members.{membersOf}
+use Rattle.words.specs.Regions.{timesIn}
 use Rattle.emit.specs.Members.{Among, ifIn}
 use Rattle.emit.specs.Parts.{timeBytes, indexedBytes, listBytesOf}
 use Rattle.emit.specs.PartLaws.{length-list}
@@ -23,7 +24,10 @@ pub entry-written : (times : List ℕ) (index v at : ℕ) (old mid new : Bytes) 
 unfolding indexedBytes timeBytes bytes16
 entry-written times index v at old mid new h p q = q ∙ rw p (splice-then old at (bytes16 index) (omega arith) (valueBytes (decoded (getD times v 0))))
 
-module _ (n : ℕ) (access transit times : List ℕ) where
+module _ (n : ℕ) (access transit work : List ℕ) where
+  abbrev times : List ℕ
+  times = timesIn n work
+
   -- The entry of each access node.
   abbrev pub entryFor : ℕ → Bytes
   entryFor a = indexedBytes times (indexOf a (membersOf n transit)) a
@@ -49,7 +53,10 @@ module _ (n : ℕ) (access transit times : List ℕ) where
   pub entries-step : (v rank : ℕ) → v < n → Among n access transit → rank ≡ length (membersOf v transit)
       → Then (entriesFrom v) (ifIn access v (indexedBytes times rank v)) (entriesFrom (v + 1))
   unfolding ifIn
-  entries-step v rank h among e = record { is = members-step entryFor access n v h .is ∙ ap (λ (r : Bytes). r ++ entriesFrom (v + 1)) (pick (isIn access v) refl) }
+  entries-step v rank h among e = record {
+    is = members-step entryFor access n v h .is
+        ∙ ap (λ (r : Bytes). r ++ entriesFrom (v + 1)) (pick (isIn access v) refl);
+  }
     where
       pick : (b : Bool) → isIn access v ≡ b → cond b (entryFor v) [] ≡ cond b (indexedBytes times rank v) []
       pick true q = ap (λ (i : ℕ). indexedBytes times i v) (rank-index transit n v h (among v h q) ∙ sym e)

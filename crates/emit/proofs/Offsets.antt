@@ -43,7 +43,8 @@ module _ (counts : List ℕ) (n : ℕ) where
   unfolding startsOf
   starts-end v start h = rw (rest-end v n h)
 
-pub start-wrote : (old new : Bytes) (v start : ℕ) → new ≡ splice (startSize * v) (bytes32 start) old → Wrote old (startSize * v) (bytes32 start) (startSize * (v + 1)) new
+pub start-wrote : (old new : Bytes) (v start : ℕ) → new ≡ splice (startSize * v) (bytes32 start) old
+    → Wrote old (startSize * v) (bytes32 start) (startSize * (v + 1)) new
 unfolding bytes32 bytes16
 start-wrote old new v start e = record { ends = omega arith; spliced = e }
 
@@ -76,7 +77,8 @@ pub contents-end : (sizes : List ℕ) (k offset : ℕ) → length sizes ≤ k �
 unfolding entriesOf
 contents-end sizes k offset h = rw (drop-of-length-le sizes h)
 
-pub head-start : (edition : ℕ) (sizes : List ℕ) → length sizes ≡ oracleEntries → Then (headBytes edition sizes) (edition ∷ oracleEntries ∷ []) (entriesOf 0 (entryAt oracleEntries) sizes)
+pub head-start : (edition : ℕ) (sizes : List ℕ) → length sizes ≡ oracleEntries
+    → Then (headBytes edition sizes) (edition ∷ oracleEntries ∷ []) (entriesOf 0 (entryAt oracleEntries) sizes)
 unfolding headBytes
 head-start edition sizes e = record { is = rw e }
 
@@ -84,6 +86,7 @@ pub head-wrote : (old : Bytes) (edition entries : ℕ) → 2 ≤ length old → 
 unfolding splice entryAt
 head-wrote old edition entries h = record { ends = refl; spliced = sets-eq (edition ∷ entries ∷ []) old 0 (omega arith) }
 
-pub contents-wrote : (old new : Bytes) (k offset size : ℕ) → new ≡ splice (entryAt k) (nine k offset size) old → Wrote old (entryAt k) (nine k offset size) (entryAt (k + 1)) new
+pub contents-wrote : (old new : Bytes) (k offset size : ℕ) → new ≡ splice (entryAt k) (nine k offset size) old
+    → Wrote old (entryAt k) (nine k offset size) (entryAt (k + 1)) new
 unfolding nine entryAt bytes32 bytes16
 contents-wrote old new k offset size e = record { ends = omega arith; spliced = e }

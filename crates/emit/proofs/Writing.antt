@@ -5,8 +5,8 @@ use native.Mathlib.Nat.{add-assoc}
 use native.Mathlib.Numerals.{add-one}
 use mathlib.Core.Path.{_≡_, refl, sym, _∙_, ap}
 use mathlib.Core.List.{[], _∷_, _++_, append-nil, append-assoc}
-use lib.ListN.{length, getD, take, drop, set, length-append, length-drop}
-use lib.Seq.{take-at, drop-at, length-take-le, take-length, drop-cons, drop-drop, sets-eq}
+use lib.ListN.{length, getD, take, drop, set, length-append, length-drop, take-append-drop, drop-of-length-le}
+use lib.Seq.{take-at, drop-at, length-take-le, drop-cons, drop-drop, sets-eq}
 use Rattle.model.specs.Bytes.{Bytes, splice}
 use Rattle.emit.specs.Records.{Wrote}
 
@@ -47,13 +47,16 @@ splice-byte old at x h = sets-eq (x ∷ []) old at (omega arith)
 pub record Then (rest r more : Bytes) : Type 0 where
   pub is : rest ≡ r ++ more
 
--- `whole` is written in `out` up to `at`, and `rest` is left, for which the room is there.
+-- `out` becomes `whole` where `rest`, for which the room is there, is written from `at` on.
 pub record Written (whole : Bytes) (at : ℕ) (out rest : Bytes) : Type 0 where
-  pub room : at + length rest ≡ length out
-  pub same : take at out ++ rest ≡ whole
+  pub room : at + length rest ≤ length out
+  pub same : splice at rest out ≡ whole
 
 pub written-start : {whole out rest : Bytes} → whole ≡ rest → length out ≡ length whole → Written whole 0 out rest
-written-start e l = record { room = omega (arith, l, ap length e); same = sym e }
+unfolding splice
+written-start {whole} {out} {rest} e l =
+    let k : length out ≤ 0 + length rest = omega (arith, l, ap length e) in
+    record { room = omega (arith, l, ap length e); same = rw (drop-of-length-le out k) (append-nil rest ∙ sym e) }
 
 module _ {whole out rest r more : Bytes} {at : ℕ} (t : Then rest r more) (w : Written whole at out rest) where
   pub written-fits : at + length r ≤ length out
@@ -64,7 +67,7 @@ module _ {whole out rest r more : Bytes} {at : ℕ} (t : Then rest r more) (w : 
       rw (o .ends, o .spliced)
       (record {
         room = omega (arith, length-splice out at r written-fits, w .room, ap length (t .is), length-append r more);
-        same = rw (take-splice out at r written-fits, append-assoc, ← t .is) (w .same);
+        same = rw (splice-then out at r written-fits more, ← t .is) (w .same);
       })
 
 -- One byte of `from` after another.
@@ -73,7 +76,27 @@ pub byte-next : (from old : Bytes) (i : ℕ) → i < length from → i < length 
 byte-next from old i h k = (record { is = rw add-one (drop-cons from i 0 h) }, record { ends = refl; spliced = splice-byte old i (getD from i 0) k })
 
 pub written-end : {whole out rest : Bytes} {at : ℕ} → rest ≡ [] → Written whole at out rest → out ≡ whole
-written-end {out = out} {rest = rest} {at = at} e w =
-    let l : at ≡ length out = omega (arith, w .room, ap length e) in
-    let s : take at out ≡ out = rw l (take-length out) in
-    sym s ∙ sym (append-nil (take at out)) ∙ rw e at (w .same)
+unfolding splice
+written-end {out = out} {at = at} e w =
+    let z : at + 0 ≡ at = omega arith in
+    let s : splice at [] out ≡ out = rw (z, append-nil, take-append-drop) in
+    sym s ∙ rw e at (w .same)
+
+-- The same for `bytes` over `old` from `start` on.
+pub record WrittenFrom (old : Bytes) (start : ℕ) (bytes : Bytes) (at : ℕ) (out rest : Bytes) : Type 0 where
+  pub ends : at + length rest ≡ start + length bytes
+  pub written : Written (splice start bytes old) at out rest
+
+module _ {old bytes : Bytes} {start : ℕ} where
+  pub from-start : {rest : Bytes} → bytes ≡ rest → start + length bytes ≤ length old → WrittenFrom old start bytes start old rest
+  from-start e h = rw (← e) (record { ends = refl; written = record { room = h; same = refl } })
+
+  module _ {out rest r more : Bytes} {at : ℕ} (t : Then rest r more) (w : WrittenFrom old start bytes at out rest) where
+    pub from-next : {m : ℕ} {new : Bytes} → Wrote out at r m new → WrittenFrom old start bytes m new more
+    from-next o = record {
+      ends = omega (arith, o .ends, w .ends, ap length (t .is), length-append r more);
+      written = written-next t (w .written) o;
+    }
+
+  pub from-end : {out rest : Bytes} {at : ℕ} → rest ≡ [] → WrittenFrom old start bytes at out rest → Wrote old start bytes at out
+  from-end e w = record { ends = omega (arith, w .ends, ap length e); spliced = written-end e (w .written) }

@@ -82,7 +82,8 @@ entries-sizes k at (b ∷ bs) l =
 
 pub file-head : (edition : ℕ) (bodies : List Bytes) → file edition bodies ≡ headBytes edition (map length bodies) ++ concat bodies
 unfolding file headBytes
-file-head edition bodies = rw (length-map bodies length) (ap (λ (r : Bytes). edition ∷ (length bodies ∷ r)) (entries-sizes 0 (entryAt (length bodies)) bodies (concat bodies)))
+file-head edition bodies = rw (length-map bodies length) (ap (λ (r : Bytes). edition ∷ (length bodies ∷ r))
+    (entries-sizes 0 (entryAt (length bodies)) bodies (concat bodies)))
 
 -- ---- the starts: they depend on the sizes of the lists alone
 
@@ -92,7 +93,8 @@ starts-sizes at [] = refl
 starts-sizes at (l ∷ ls) = ap (λ (r : Bytes). bytes32 at ++ r) (starts-sizes (at + length l) ls)
 
 -- n lists with these numbers of entries.
-pub starts-lists : (f : ℕ → Bytes) (n : ℕ) (counts : List ℕ) → ((v : ℕ) → v < n → length (f v) ≡ listSize (getD counts v 0)) → starts (startSize * n) (map f (upTo n)) ≡ startsOf (startSize * n) (listSizes n counts)
+pub starts-lists : (f : ℕ → Bytes) (n : ℕ) (counts : List ℕ) → ((v : ℕ) → v < n → length (f v) ≡ listSize (getD counts v 0))
+    → starts (startSize * n) (map f (upTo n)) ≡ startsOf (startSize * n) (listSizes n counts)
 unfolding listSizes
 starts-lists f n counts h =
     starts-sizes (startSize * n) (map f (upTo n)) ∙
@@ -114,7 +116,8 @@ module _ (d : ℕ → Distance) (n : ℕ) (times : List ℕ) (e : times ≡ map 
     unfolding rowBytes
     row-values = concat-same (timeBytes times) (λ b. valueBytes (d b)) l (λ v m. time-value v (below v m))
 
-pub list-values : (d : ℕ → ℕ → Distance) (u n : ℕ) (times transit access : List ℕ) → times ≡ map (λ v. coded (d u v)) (upTo n) → ((v : ℕ) → List·Memᴰ v access → v < n) → listBytesOf times transit access ≡ listBytes d transit u access
+pub list-values : (d : ℕ → ℕ → Distance) (u n : ℕ) (times transit access : List ℕ) → times ≡ map (λ v. coded (d u v)) (upTo n)
+    → ((v : ℕ) → List·Memᴰ v access → v < n) → listBytesOf times transit access ≡ listBytes d transit u access
 unfolding listBytesOf listBytes indexedBytes entryBytes
 list-values d u n times transit access e below =
     ap (λ (r : Bytes). bytes16 (length access) ++ r)

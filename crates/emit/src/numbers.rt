@@ -28,17 +28,18 @@ fn write_number(set: &[u32], v: usize, out: &mut [u8], at: usize) -> usize
     at + NUMBER_SIZE
 }
 
-// The members below n.
-pub fn write_numbers(n: usize, set: &[u32], out: &mut [u8])
-    requires { ⌜ (n ≤ maxNodes) × HasBits n (now set) × (length (now out) ≡ numberSize * length (membersOf n (now set))) ⌝ }
-    ensures { λ _. ⌜ now (out .exit) ≡ numbersBytes (membersOf n (now (set .entry))) ⌝ }
+// Writes the members below n from `at` on, and answers where they end.
+pub fn write_numbers(n: usize, set: &[u32], out: &mut [u8], at: usize) -> usize
+    requires { ⌜ (n ≤ maxNodes) × HasBits n (now set) × (at + numberSize * length (membersOf n (now set)) ≤ length (now out)) ⌝ }
+    ensures { λ r. ⌜ Wrote (now (out .entry)) at (numbersBytes (membersOf n (now (set .entry)))) r (now (out .exit)) ⌝ }
 {
-    let mut at = 0;
+    let mut end = at;
     let mut v = 0;
     while v < n {
-        at = write_number(set, v, out, at);
+        end = write_number(set, v, out, end);
         v += 1;
     }
+    end
 }
 
 // Compares u with what stands at `at`, where the set has u.

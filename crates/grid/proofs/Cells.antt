@@ -11,13 +11,12 @@ use Rattle.model.specs.Lists.{least, greatest}
 use Rattle.model.specs.Bytes.{Bytes}
 use Rattle.model.specs.Network.{node, nodes, nodeCount, nodesBroken, coordinatesBroken}
 use Rattle.model.specs.Grid as model
-use Rattle.model.specs.Grid.{gridOver, cellIndex, cellOf, cells, cellAt, within, kindOf, gridBroken, maxGrid}
+use Rattle.model.specs.Grid.{gridOver, cellOf, cells, cellAt, within, kindOf, gridBroken, maxGrid}
 use Rattle.model.specs.declared.Division.{Division}
 use Rattle.model.specs.declared.Kind.the-variants.{Far, Local}
 use Rattle.theory.specs.RangeLaws.{getD-map-range}
 use Rattle.theory.specs.Passed.{or-false}
 use Rattle.theory.specs.Extremes.{least-le, greatest-ge}
-use Rattle.theory.specs.GridLaws.{index-below}
 use Rattle.grid.specs.Stored.{gridOf, divisionOf, along, origin, Over, InSpan, maxSpread}
 use Rattle.grid.specs.declared.Grid.{Grid}
 use Rattle.grid.proofs.Spans.{every}
@@ -35,7 +34,8 @@ unfolding gridBroken
 g-bounds g h = let p = or-false (ltb g 1) (ltb maxGrid g) h in (ltb-false g 1 (p .0), ltb-false maxGrid g (p .1))
 
 -- What `Grid::over` hands back for an accepted network.
-pub over-made : (r : Grid) (b : Bytes) (dv : Division) → gridOf r ≡ gridOver dv (nodes b) → nodesBroken b ≡ false → coordinatesBroken b ≡ false → gridBroken (dv .g) ≡ false → Over r b
+pub over-made : (r : Grid) (b : Bytes) (dv : Division) → gridOf r ≡ gridOver dv (nodes b) → nodesBroken b ≡ false → coordinatesBroken b ≡ false
+    → gridBroken (dv .g) ≡ false → Over r b
 unfolding gridOver
 over-made r b dv e n c k =
     let p : r .g ≡ dv .g = ap (λ (m : model.Grid). m .g) e in
@@ -71,10 +71,6 @@ module _ {r : Grid} {b : Bytes} (over : Over r b) where
       wide : (d : Bool) → greatest (every d b) - least (every d b) ≤ r .spread
       wide false = omega (arith, spreads)
       wide true = omega (arith, spreads)
-
-  index-inside : (d : Bool) (i : ℕ) → i < nodeCount b → cellIndex (gridOf r) (origin d r) (along d (node b i)) < r .g
-  unfolding cellIndex
-  index-inside d i h = let p = holds d i h in index-below (along d (node b i) - origin d r) (r .g) (r .spread) (p .most) (p .some)
 
 -- ---- the cell of a node, by the list of cells
 

@@ -39,19 +39,22 @@ module _ (g s d m : ℕ) (some : 0 < g) where
 module _ (r : Grid) (b : Bounded r) where
   -- The product of a start fits 32 bits.
   pub start-fits : (k m : ℕ) → m ≡ min k (r .g) → m * (r .spread + 1) ≤ maxGrid * (maxSpread + 1)
-  start-fits k m e = let few = b .few in let narrow = b .narrow in mul-le-mul {n₁ = m} {m₁ = r .spread + 1} {n₂ = maxGrid} {m₂ = maxSpread + 1} (omega arith) (omega arith)
+  start-fits k m e = let few = b .few in let narrow = b .narrow in mul-le-mul {n₁ = m} {m₁ = r .spread + 1} {n₂ = maxGrid} {m₂ = maxSpread + 1} (omega arith)
+      (omega arith)
 
   -- No start lies beyond the spread, and a larger index starts no sooner.
   pub start-most : (k : ℕ) → startOf r k ≤ r .spread + 1
   unfolding startOf
   start-most k =
-      let p : min k (r .g) * (r .spread + 1) ≤ r .g * (r .spread + 1) = mul-le-mul {n₁ = min k (r .g)} {m₁ = r .spread + 1} {n₂ = r .g} {m₂ = r .spread + 1} (omega arith) (omega arith) in
+      let p : min k (r .g) * (r .spread + 1) ≤ r .g * (r .spread + 1) = mul-le-mul {n₁ = min k (r .g)} {m₁ = r .spread + 1} {n₂ = r .g} {m₂ = r .spread + 1}
+      (omega arith) (omega arith) in
       let q = div-lt-iff-lt-mul {k = r .g} {x = min k (r .g) * (r .spread + 1) + (r .g - 1)} {y =
       suc (r .spread + 1)} (b .some) .1 (omega (arith, suc-mul (r .spread + 1) (r .g), mul-comm (r .g) (r .spread + 1))) in
       omega arith
 
   -- m is the index cut off, as the code has it.
-  pub start-read : (k m : ℕ) → m ≡ min k (r .g) → ((m * (r .spread + 1) + (r .g - 1)) / r .g ≡ startOf r k) × ((m * (r .spread + 1) + (r .g - 1)) / r .g ≤ r .spread + 1)
+  pub start-read : (k m : ℕ) → m ≡ min k (r .g) → ((m * (r .spread + 1) + (r .g - 1)) / r .g ≡ startOf r k)
+      × ((m * (r .spread + 1) + (r .g - 1)) / r .g ≤ r .spread + 1)
   unfolding startOf
   start-read k m e = let q : (m * (r .spread + 1) + (r .g - 1)) / r .g ≡ startOf r k = rw e in (q, rw q (start-most k))
 
@@ -93,7 +96,8 @@ module _ (r : Grid) (b : Bounded r) where
         let t : (index - c) + (c - index) ≤ k = leb-true _ _ e in
         let p = u .1 (omega arith) in
         let q : ¬ (startOf r (c + k + 1) ≤ x - from) = λ w. absurd (omega (arith, v .0 w)) in
-        lt-ltb ((x + (4_294_967_296 - (from + startOf r (c - k)))) % 4_294_967_296) (startOf r (c + k + 1) - startOf r (c - k)) (omega (arith, h .least, h .most, b .narrow)))
+        lt-ltb ((x + (4_294_967_296 - (from + startOf r (c - k)))) % 4_294_967_296) (startOf r (c + k + 1) - startOf r (c - k))
+        (omega (arith, h .least, h .most, b .narrow)))
 
 -- ---- an accepted network
 
@@ -109,7 +113,8 @@ module _ {r : Grid} {b : Bytes} (over : Over r b) where
       let p = holds over false 0 (some-node b (over .nodes-rule)) in
       record { some = p .some; few = p .few; narrow = p .narrow; left = origin-most false; bottom = origin-most true }
 
-  pub has-within : (c : model.Cell) (k : ℕ) (s : Square) → SquareOf r c k s → (v : ℕ) → v < nodeCount b → reachesNode s (node b v) ≡ within k c (cellOf (gridOf r) (node b v))
+  pub has-within : (c : model.Cell) (k : ℕ) (s : Square) → SquareOf r c k s → (v : ℕ) → v < nodeCount b
+      → reachesNode s (node b v) ≡ within k c (cellOf (gridOf r) (node b v))
   unfolding reachesNode within cellOf
   has-within c k s q v h =
       rw (

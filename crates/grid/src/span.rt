@@ -48,7 +48,8 @@ impl Span {
 
     pub fn over(b: &[u8], vertical: bool) -> Span
         requires { ⌜ nodesBroken (now b) ≡ false ⌝ }
-        ensures { λ r. ⌜ (r .low ≡ least (map (along vertical) (nodes (now (b .entry))))) × (r .high ≡ greatest (map (along vertical) (nodes (now (b .entry))))) ⌝ }
+        ensures { λ r. ⌜ (r .low ≡ least (map (along vertical) (nodes (now (b .entry)))))
+            × (r .high ≡ greatest (map (along vertical) (nodes (now (b .entry))))) ⌝ }
     {
         let n = b.len() / NODE_SIZE;
         let first = coordinate(b, 0, vertical);

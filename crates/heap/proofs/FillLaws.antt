@@ -13,7 +13,8 @@ from-more : (f : ℕ → ℕ) (s i : ℕ) (d : List ℕ) → i < length d → se
 unfolding range
 from-more f s i [] h = absurd (not-suc-le-zero h)
 from-more f s zero (x ∷ d) h = let e : s + 0 ≡ s = omega arith in rw e
-from-more f s (suc i) (x ∷ d) h = let e : s + suc i ≡ suc s + i = omega arith in rw e (ap (λ (l : List ℕ). f s ∷ l) (from-more f (suc s) i d (le-of-suc-le-suc h)))
+from-more f s (suc i) (x ∷ d) h = let e : s + suc i ≡ suc s + i = omega arith in rw e
+    (ap (λ (l : List ℕ). f s ∷ l) (from-more f (suc s) i d (le-of-suc-le-suc h)))
 
 pub number-more : (f : ℕ → ℕ) (i : ℕ) (d : List ℕ) → i < length d → set (map f (upTo i) ++ drop i d) i (f i) ≡ map f (upTo (i + 1)) ++ drop (i + 1) d
 number-more f i d h = let e : i ≡ 0 + i = omega arith in rw (add-one) (ap (λ (x : ℕ). set (map f (upTo i) ++ drop i d) i (f x)) e ∙ from-more f 0 i d h)

@@ -15,7 +15,8 @@ level-top n i h l = omega arith
 
 pub level-up : (l i p : ℕ) → l < maxLevels → i < doubled (maxLevels - l) → p + p < i → p < doubled (maxLevels - (l + 1))
 unfolding doubled
-level-up l i p h d q = let e : maxLevels - l ≡ suc (maxLevels - (l + 1)) = omega arith in let g : i < doubled (suc (maxLevels - (l + 1))) = rw e at d in omega arith
+level-up l i p h d q = let e : maxLevels - l ≡ suc (maxLevels - (l + 1)) = omega arith in let g : i < doubled (suc (maxLevels - (l + 1))) = rw e at d in omega
+    arith
 
 pub level-end : (l i : ℕ) → maxLevels ≤ l → i < doubled (maxLevels - l) → i ≡ 0
 unfolding doubled

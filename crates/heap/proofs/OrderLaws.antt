@@ -81,14 +81,28 @@ module _ (k : ℕ) (key : ℕ → ℕ) where
           pick : Dec (a ≡ i) → Dec (b ≡ i) → Dec (b ≡ c) → key′ a ≤ key′ b
           pick (yes e) s (yes t) = omega (arith, ap key′ e, ap key′ t, x .first, x .second)
           pick (yes e) s (no t) = omega (arith, ap key′ e, x .first, x .others b l (λ f. omega arith) t, q .least b (omega arith, omega arith) l)
-          pick (no e) (yes s) t = omega (arith, x .others a (omega arith) e n, ap key′ s, x .first, u .over a c (omega arith, omega arith) (q .below) (q .inside))
+          pick (no e) (yes s) t = omega (
+            arith,
+            x .others a (omega arith) e n,
+            ap key′ s,
+            x .first,
+            u .over a c (omega arith, omega arith) (q .below)
+                (q .inside),
+          )
           pick (no e) (no s) (yes t) = absurd (e (omega (arith, q .below .0, q .below .1)))
           pick (no e) (no s) (no t) = omega (arith, x .others a (omega arith) e n, x .others b l s t, u .rest a b h l e)
 
       over′ : (a b : ℕ) → Below a c → Below c b → b < k → key′ a ≤ key′ b
       over′ a b h j l =
           let e : a ≡ i = omega (arith, q .below .0, q .below .1) in
-          omega (arith, ap key′ e, x .first, x .others b l (λ f. omega (arith, q .below .0)) (λ f. omega arith), u .rest c b j l (λ f. omega (arith, q .below .0)))
+          omega (
+            arith,
+            ap key′ e,
+            x .first,
+            x .others b l (λ f. omega (arith, q .below .0)) (λ f. omega arith),
+            u .rest c b j l
+                (λ f. omega (arith, q .below .0)),
+          )
 
 -- ---- the order, before it is restored
 pub lowered-up : (k : ℕ) (key key′ : ℕ → ℕ) (p : ℕ) → Ordered k key → p < k → key′ p ≤ key p → ((m : ℕ) → m < k → m ≢ p → key′ m ≡ key m) → OrderedUp k p key′

@@ -11,23 +11,24 @@ use Rattle.model.specs.Oracle.{noWalk}
 use Rattle.words.specs.Regions.{timesIn}
 use Rattle.words.specs.Times.{time, store}
 use Rattle.words.proofs.TimeLaws.{time-at}
-use Rattle.heap.specs.Words.{Placed, node, position, key, swapped}
+use Rattle.heap.specs.Words.{Positioned, node, position, key, swapped}
 use Rattle.heap.specs.Order.{OrderedUp}
 use Rattle.heap.specs.Levels.{Up}
 use Rattle.heap.specs.Sifts.{Rearranged, Sifted}
 use Rattle.heap.specs.Queue.{Queue, Went, Entered, Lowered, lowered}
 use Rattle.heap.proofs.OrderLaws.{lowered-up, entered-up}
 use Rattle.heap.proofs.SwapLaws.{Swapped, swap-is, swap-kept, swap-keys, kept-more, kept-then, stood, stood-before}
-use Rattle.heap.proofs.StoreLaws.{queue-of, store-node, store-position, store-same, store-other, store-placed, store-key, store-key-here, store-times}
+use Rattle.heap.proofs.StoreLaws.{queue-of, store-node, store-position, store-same, store-other, store-positioned, store-key, store-key-here}
+use Rattle.heap.proofs.StoreLaws.{store-times}
 
 -- ---- a node that is held is lowered
 module _ (n k e v x : ℕ) (w : List ℕ) (q : Queue n k e w) (v-in : v < n) (small : x < noWalk) where
-  p : Placed n w
-  p = q .placed
+  p : Positioned n w
+  p = q .positioned
 
-  p₁ : Placed n (store n v x w)
+  p₁ : Positioned n (store n v x w)
   unfolding p
-  p₁ = store-placed n v x w p v-in
+  p₁ = store-positioned n v x w p v-in
 
   time₁ : (u : ℕ) → time n w u < noWalk → time n (store n v x w) u < noWalk
   unfolding p
@@ -50,9 +51,13 @@ module _ (n k e v x : ℕ) (w : List ℕ) (q : Queue n k e w) (v-in : v < n) (sm
       levels = s .levels;
       went = record {
         queue = queue-of n k e (store n v x w) w′ (kept-more n k e (store n v x w) w′ (q .held) (s .kept)) (s .order) (q .held) (q .room)
-            (λ u i l. time₁ u (q .reached u i (omega (arith, stood-before n k (store n v x w) w′ p₁ (s .kept .placed) (s .kept .beyond) u i l, store-position n v x w p v-in u))))
+            (λ u i l. time₁ u (q .reached u i (omega (
+              arith,
+              stood-before n k (store n v x w) w′ p₁ (s .kept .positioned) (s .kept .beyond) u i l,
+              store-position n v x w p v-in u,
+            ))))
             (λ u i l r.
-            let a = stood n k (store n v x w) w′ p₁ (s .kept .placed) (s .kept .beyond) u i l in
+            let a = stood n k (store n v x w) w′ p₁ (s .kept .positioned) (s .kept .beyond) u i l in
             let b = store-position n v x w p v-in u in
             let c : u ≢ v = λ f. omega (arith, ap (position n w) f) in
             omega (arith, store-other n v x w p v-in u c, q .unreached u i (omega arith) (omega arith)));
@@ -79,7 +84,8 @@ module _ (n k e v x : ℕ) (w : List ℕ) (q : Queue n k e w) (v-in : v < n) (sm
     pub enter-order : OrderedUp (k + 1) k (key n (swapped n k (position n w v) (store n v x w)))
     unfolding p k-in
     enter-order = entered-up k (key n w) (key n w₂) (q .order)
-        (λ m r. swap-keys n k (position n w v) (store n v x w) w₂ s n (omega arith) k-in (p .positions v v-in) .others m (omega (arith, k-in)) (λ f. omega arith) (λ f. omega arith)
+        (λ m r. swap-keys n k (position n w v) (store n v x w) w₂ s n (omega arith) k-in (p .positions v v-in) .others m (omega (arith, k-in))
+        (λ f. omega arith) (λ f. omega arith)
         ∙ store-key n v x w p v-in m (omega (arith, k-in)) (λ f. omega arith))
 
     -- where a node of w₂ stood in w
@@ -107,29 +113,35 @@ module _ (n k e v x : ℕ) (w : List ℕ) (q : Queue n k e w) (v-in : v < n) (sm
     }
       where
         all : Rearranged n e (store n v x w) w′
-        all = kept-then n e (store n v x w) w₂ w′ (swap-kept n k (position n w v) (store n v x w) w₂ s e (omega arith) l) (kept-more n (k + 1) e w₂ w′ (omega arith) (t .kept))
+        all = kept-then n e (store n v x w) w₂ w′ (swap-kept n k (position n w v) (store n v x w) w₂ s e (omega arith) l)
+            (kept-more n (k + 1) e w₂ w′ (omega arith) (t .kept))
 
         low : (u : ℕ) → u < n → position n w′ u < k + 1 → time n (store n v x w) u < noWalk
         low u i r = pick (ℕ-discrete (position n w₂ u) k)
           where
             r₂ : position n w₂ u < k + 1
-            r₂ = stood-before n (k + 1) w₂ w′ (s .placed) (t .kept .placed) (t .kept .beyond) u i r
+            r₂ = stood-before n (k + 1) w₂ w′ (s .positioned) (t .kept .positioned) (t .kept .beyond) u i r
 
             there₂ : node n w₂ (position n w₂ u) ≡ u
-            there₂ = s .placed .there u i
+            there₂ = s .positioned .there u i
 
             pick : Dec (position n w₂ u ≡ k) → time n (store n v x w) u < noWalk
             pick (yes f) = omega (arith, ap (time n (store n v x w)) (sym there₂ ∙ ap (node n w₂) f ∙ at-k), store-same n v x w p v-in)
-            pick (no m) = time₁ u (q .reached u i (omega (arith, r₂, stood-at u (position n w₂ u) (s .placed .positions u i) there₂ m (λ g. omega (arith, r₂)))))
+            pick (no m) = time₁ u (q .reached u i (omega (
+              arith,
+              r₂,
+              stood-at u (position n w₂ u) (s .positioned .positions u i) there₂ m
+                  (λ g. omega (arith, r₂)),
+            )))
 
         high : (u : ℕ) → u < n → k + 1 ≤ position n w′ u → position n w′ u < e → noWalk ≤ time n (store n v x w) u
         high u i r r′ = pick (ℕ-discrete (position n w₂ u) (position n w v))
           where
             same₂ : position n w₂ u ≡ position n w′ u
-            same₂ = stood n (k + 1) w₂ w′ (s .placed) (t .kept .placed) (t .kept .beyond) u i r
+            same₂ = stood n (k + 1) w₂ w′ (s .positioned) (t .kept .positioned) (t .kept .beyond) u i r
 
             there₂ : node n w₂ (position n w₂ u) ≡ u
-            there₂ = s .placed .there u i
+            there₂ = s .positioned .there u i
 
             done : k ≤ position n w u → position n w u < e → position n w u ≢ position n w v → noWalk ≤ time n (store n v x w) u
             done a b c = omega (arith, store-other n v x w p v-in u (λ g. c (ap (position n w) g)), q .unreached u i a b)
@@ -139,17 +151,17 @@ module _ (n k e v x : ℕ) (w : List ℕ) (q : Queue n k e w) (v-in : v < n) (sm
                 let g : position n w u ≡ k = ap (position n w) (sym there₂ ∙ ap (node n w₂) f) ∙ at-p in
                 done (omega arith) (omega arith) (λ d. omega (arith, same₂))
             pick (no m) =
-                let g : position n w u ≡ position n w₂ u = stood-at u (position n w₂ u) (s .placed .positions u i) there₂ (λ d. omega (arith, same₂)) m in
+                let g : position n w u ≡ position n w₂ u = stood-at u (position n w₂ u) (s .positioned .positions u i) there₂ (λ d. omega (arith, same₂)) m in
                 done (omega (arith, same₂)) (omega (arith, same₂)) (λ d. m (omega arith))
 
 -- ---- for the code: w₁ are the words after the time was written, and p is the position as it has read it then
 module _ (n k e v x : ℕ) (w : List ℕ) (q : Queue n k e w) (v-in : v < n) (small : x < noWalk) (w₁ : List ℕ) (e₁ : w₁ ≡ store n v x w) where
-  pub stored : Placed n w₁
-  stored = subst (Placed n) (sym e₁) (store-placed n v x w (q .placed) v-in)
+  pub stored : Positioned n w₁
+  stored = subst (Positioned n) (sym e₁) (store-positioned n v x w (q .positioned) v-in)
 
   module _ (p : ℕ) (ep : p ≡ position n w₁ v) where
     pub read-same : p ≡ position n w v
-    read-same = ep ∙ ap (λ (y : List ℕ). position n y v) e₁ ∙ store-position n v x w (q .placed) v-in v
+    read-same = ep ∙ ap (λ (y : List ℕ). position n y v) e₁ ∙ store-position n v x w (q .positioned) v-in v
 
     module _ (h : position n w v < k) (less : x < time n w v) where
       pub lower-from : OrderedUp k p (key n w₁)
@@ -166,8 +178,8 @@ module _ (n k e v x : ℕ) (w : List ℕ) (q : Queue n k e w) (v-in : v < n) (sm
       after : w₂ ≡ swapped n k (position n w v) (store n v x w)
       after = s ∙ ap (swapped n k p) e₁ ∙ ap (λ (m : ℕ). swapped n k m (store n v x w)) read-same
 
-      pub enter-from : Placed n w₂ × OrderedUp (k + 1) k (key n w₂)
-      enter-from = rw after (enter-swapped n k e v x w q v-in small h l .placed, enter-order n k e v x w q v-in small h l)
+      pub enter-from : Positioned n w₂ × OrderedUp (k + 1) k (key n w₂)
+      enter-from = rw after (enter-swapped n k e v x w q v-in small h l .positioned, enter-order n k e v x w q v-in small h l)
 
       pub enter-done : (w′ : List ℕ) → Sifted n (k + 1) Up k w₂ w′ → Entered n k e v x w w′
       enter-done w′ t = enter-queue n k e v x w q v-in small h l w′ (subst (λ (y : List ℕ). Sifted n (k + 1) Up k y w′) after t)

@@ -10,7 +10,7 @@ use mathlib.Core.List.{List}
 use borrow.Author.Tests.{ltb-true, ltb-false}
 use mir.Val.{boolByte}
 use lib.Dec.{ltb}
-use Rattle.heap.specs.Words.{Placed, key, swapped}
+use Rattle.heap.specs.Words.{Positioned, key, swapped}
 use Rattle.heap.specs.Order.{Below, Ordered, OrderedUp, OrderedDown, Lesser}
 use Rattle.heap.specs.Levels.{maxLevels, Up, Down, Passes, stays, passes}
 use Rattle.heap.specs.Sifts.{Rearranged, Level, Sifted}
@@ -28,7 +28,7 @@ less-small true = omega arith
 less-small false = omega arith
 
 -- ---- one level, in either direction: the node stays, or changes positions with the one there
-module _ (n k i : ℕ) (w : List ℕ) (p : Placed n w) (k-in : k ≤ n) (On : ℕ → ℕ → Type 0) (Partly : ℕ → ℕ → (ℕ → ℕ) → Type 0) where
+module _ (n k i : ℕ) (w : List ℕ) (p : Positioned n w) (k-in : k ≤ n) (On : ℕ → ℕ → Type 0) (Partly : ℕ → ℕ → (ℕ → ℕ) → Type 0) where
   stands : Partly k i (key n w) → Ordered k (key n w) → Level n k On Partly i w w i
   stands u o = record { kept = kept-refl n k w p; order = u; done = λ _. (o, refl); moved = λ f. absurd (f refl) }
 
@@ -43,7 +43,7 @@ module _ (n k i : ℕ) (w : List ℕ) (p : Placed n w) (k-in : k ≤ n) (On : �
         moved = λ f. (on, l, refl);
       })
 
-module _ (n k i : ℕ) (w : List ℕ) (p : Placed n w) (k-in : k ≤ n) where
+module _ (n k i : ℕ) (w : List ℕ) (p : Positioned n w) (k-in : k ≤ n) where
   -- ---- one level up
   module _ (h : i < k) (u : OrderedUp k i (key n w)) where
     pub rise-root : i ≡ 0 → Level n k Up OrderedUp i w w i
@@ -52,7 +52,8 @@ module _ (n k i : ℕ) (w : List ℕ) (p : Placed n w) (k-in : k ≤ n) where
     pub rise-stop : (i ≡ 0 → ⊥) → key n w ((i - 1) / 2) ≤ key n w i → Level n k Up OrderedUp i w w i
     rise-stop e l = stands n k i w p k-in Up OrderedUp u (up-done k (key n w) i ((i - 1) / 2) (omega arith, omega arith) l u)
 
-    pub rise-move : (i ≡ 0 → ⊥) → key n w i < key n w ((i - 1) / 2) → (w′ : List ℕ) → w′ ≡ swapped n i ((i - 1) / 2) w → Level n k Up OrderedUp i w w′ ((i - 1) / 2)
+    pub rise-move : (i ≡ 0 → ⊥) → key n w i < key n w ((i - 1) / 2) → (w′ : List ℕ) → w′ ≡ swapped n i ((i - 1) / 2) w
+        → Level n k Up OrderedUp i w w′ ((i - 1) / 2)
     rise-move e l = goes n k i w p k-in Up OrderedUp ((i - 1) / 2) h (omega arith) (λ f. omega arith) (omega arith, omega arith)
         (up-step k (key n w) i ((i - 1) / 2) (omega arith, omega arith) h l u (key n (swapped n i ((i - 1) / 2) w)))
 
@@ -72,7 +73,8 @@ module _ (n k i : ℕ) (w : List ℕ) (p : Placed n w) (k-in : k ≤ n) where
       pick b q r (no m) = let e : b ≡ i + i + 1 + 1 = omega arith in omega (arith, ap (key n w) e, l (omega arith))
 
   -- The two keys as the code has read them, and their comparison as a number.
-  pub lesser-of : (x y r : ℕ) → x ≡ key n w (i + i + 1 + 1) → y ≡ key n w (i + i + 1) → r ≡ cond (ltb x y) 1 0 → i + i + 1 + 1 < k → Lesser k (key n w) i (i + i + 1 + r)
+  pub lesser-of : (x y r : ℕ) → x ≡ key n w (i + i + 1 + 1) → y ≡ key n w (i + i + 1) → r ≡ cond (ltb x y) 1 0 → i + i + 1 + 1 < k
+      → Lesser k (key n w) i (i + i + 1 + r)
   lesser-of x y r ex ey er h = pick (ltb x y) refl
     where
       pick : (b : Bool) → ltb x y ≡ b → Lesser k (key n w) i (i + i + 1 + r)
@@ -105,12 +107,17 @@ pub record Going (n k : ℕ) (On : ℕ → ℕ → Type 0) (Partly : ℕ → ℕ
   pub path : Passes n On from w₀ level i w
 
 module _ (n k : ℕ) (On : ℕ → ℕ → Type 0) (Partly : ℕ → ℕ → (ℕ → ℕ) → Type 0) (from : ℕ) (w₀ : List ℕ) where
-  going-first : Placed n w₀ → Partly k from (key n w₀) → Going n k On Partly from w₀ w₀ from 0
+  going-first : Positioned n w₀ → Partly k from (key n w₀) → Going n k On Partly from w₀ w₀ from 0
   going-first p u = record { kept = kept-refl n k w₀ p; order = u; path = stays }
 
   module _ (w : List ℕ) (i level : ℕ) (s : Going n k On Partly from w₀ w i level) where
     going-turn : (w′ : List ℕ) (r : ℕ) → Level n k On Partly i w w′ r → r ≢ i → Going n k On Partly from w₀ w′ r (level + 1)
-    going-turn w′ r t m = record { kept = kept-then n k w₀ w w′ (s .kept) (t .kept); order = t .order; path = rw (t .moved m .2, add-one) (passes (s .path) r (t .moved m .0)) }
+    going-turn w′ r t m = record {
+      kept = kept-then n k w₀ w w′ (s .kept) (t .kept);
+      order = t .order;
+      path = rw (t .moved m .2, add-one)
+          (passes (s .path) r (t .moved m .0));
+    }
 
     ended : level ≤ maxLevels → Ordered k (key n w) → Sifted n k On from w₀ w
     ended h o = record { kept = s .kept; order = o; levels = record { levels = level; last = i; few = h; passed = s .path } }
@@ -126,14 +133,26 @@ pub record Rising (n k from : ℕ) (w₀ w : List ℕ) (i level : ℕ) : Type 0 
   pub last : level ≤ maxLevels
 
 module _ (n k from : ℕ) (w₀ : List ℕ) where
-  pub rising-first : Placed n w₀ → k ≤ n → from < k → OrderedUp k from (key n w₀) → Rising n k from w₀ w₀ from 0
-  rising-first p h l u = record { going = going-first n k Up OrderedUp from w₀ p u; inside = l; low = level-top n from (p .few) (omega arith); last = omega arith }
+  pub rising-first : Positioned n w₀ → k ≤ n → from < k → OrderedUp k from (key n w₀) → Rising n k from w₀ w₀ from 0
+  rising-first p h l u = record {
+    going = going-first n k Up OrderedUp from w₀ p u;
+    inside = l;
+    low = level-top n from (p .few) (omega arith);
+    last = omega
+        arith;
+  }
 
   module _ (w : List ℕ) (i level : ℕ) (s : Rising n k from w₀ w i level) where
     pub rising-turn : level < maxLevels → (w′ : List ℕ) (r : ℕ) → Level n k Up OrderedUp i w w′ r → (r ≡ i → ⊥) → Rising n k from w₀ w′ r (level + 1)
     rising-turn h w′ r t m =
         let d = t .moved m in
-        record { going = going-turn n k Up OrderedUp from w₀ w i level (s .going) w′ r t m; inside = d .1; low = level-up level i r h (s .low) (d .0 .0); last = omega arith }
+        record {
+          going = going-turn n k Up OrderedUp from w₀ w i level (s .going) w′ r t m;
+          inside = d .1;
+          low = level-up level i r h (s .low) (d .0 .0);
+          last =
+              omega arith;
+        }
 
     pub rising-stop : (w′ : List ℕ) (r : ℕ) → Level n k Up OrderedUp i w w′ r → r ≡ i → Sifted n k Up from w₀ w′
     rising-stop = stopped n k Up OrderedUp from w₀ w i level (s .going) (s .last)
@@ -149,18 +168,24 @@ pub record Falling (n k : ℕ) (w₀ w : List ℕ) (i level : ℕ) : Type 0 wher
   pub last : level ≤ maxLevels
 
 module _ (n k : ℕ) (w₀ : List ℕ) where
-  pub falling-first : Placed n w₀ → OrderedDown k 0 (key n w₀) → Falling n k w₀ w₀ 0 0
+  pub falling-first : Positioned n w₀ → OrderedDown k 0 (key n w₀) → Falling n k w₀ w₀ 0 0
   falling-first p u = record { going = going-first n k Down OrderedDown 0 w₀ p u; inside = omega arith; low = level-first 0; last = omega arith }
 
   module _ (w : List ℕ) (i level : ℕ) (s : Falling n k w₀ w i level) where
     pub falling-turn : level < maxLevels → (w′ : List ℕ) (r : ℕ) → Level n k Down OrderedDown i w w′ r → (r ≡ i → ⊥) → Falling n k w₀ w′ r (level + 1)
     falling-turn h w′ r t m =
         let d = t .moved m in
-        record { going = going-turn n k Down OrderedDown 0 w₀ w i level (s .going) w′ r t m; inside = omega (arith, d .1); low = level-down level i r (s .low) (d .0 .0); last = omega arith }
+        record {
+          going = going-turn n k Down OrderedDown 0 w₀ w i level (s .going) w′ r t m;
+          inside = omega (arith, d .1);
+          low = level-down level i r (s .low)
+              (d .0 .0);
+          last = omega arith;
+        }
 
     pub falling-stop : (w′ : List ℕ) (r : ℕ) → Level n k Down OrderedDown i w w′ r → r ≡ i → Sifted n k Down 0 w₀ w′
     falling-stop = stopped n k Down OrderedDown 0 w₀ w i level (s .going) (s .last)
 
     pub falling-end : maxLevels ≤ level → k ≤ n → Sifted n k Down 0 w₀ w
     falling-end h l = ended n k Down OrderedDown 0 w₀ w i level (s .going) (s .last)
-        (down-leaf k (key n w) i (level-leaf level i k h (s .last) (omega (arith, s .going .kept .placed .few)) (s .low)) (s .going .order))
+        (down-leaf k (key n w) i (level-leaf level i k h (s .last) (omega (arith, s .going .kept .positioned .few)) (s .low)) (s .going .order))

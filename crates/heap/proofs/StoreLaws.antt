@@ -8,7 +8,7 @@ use lib.ListN.{set}
 use Rattle.model.specs.Oracle.{noWalk}
 use Rattle.words.specs.Regions.{timesIn}
 use Rattle.words.specs.Times.{time, store}
-use Rattle.heap.specs.Words.{Placed, half, node, position, key}
+use Rattle.heap.specs.Words.{Positioned, half, node, position, key}
 use Rattle.heap.specs.Order.{Ordered}
 use Rattle.heap.specs.Sifts.{Rearranged}
 use Rattle.heap.specs.Queue.{Queue}
@@ -19,7 +19,7 @@ pub queue-of : (n k e : ℕ) (w w′ : List ℕ) → Rearranged n e w w′ → O
     → ((v : ℕ) → v < n → position n w′ v < k → time n w v < noWalk)
     → ((v : ℕ) → v < n → k ≤ position n w′ v → position n w′ v < e → noWalk ≤ time n w v) → Queue n k e w′
 queue-of n k e w w′ q o h l f g = record {
-  placed = q .placed;
+  positioned = q .positioned;
   order = o;
   held = h;
   room = l;
@@ -28,7 +28,7 @@ queue-of n k e w w′ q o h l f g = record {
 }
 
 -- ---- the store of a time
-module _ (n v x : ℕ) (w : List ℕ) (p : Placed n w) (v-in : v < n) where
+module _ (n v x : ℕ) (w : List ℕ) (p : Positioned n w) (v-in : v < n) where
   abbrev w₁ : List ℕ
   w₁ = store n v x w
 
@@ -46,8 +46,8 @@ module _ (n v x : ℕ) (w : List ℕ) (p : Placed n w) (v-in : v < n) where
   pub store-other : (u : ℕ) → u ≢ v → time n w₁ u ≡ time n w u
   store-other = times.store-other n v x w v-in
 
-  pub store-placed : Placed n w₁
-  store-placed = record {
+  pub store-positioned : Positioned n w₁
+  store-positioned = record {
     size = times.store-length n v x w v-in ∙ p .size;
     few = p .few;
     nodes = λ i h. omega (arith, store-node i, p .nodes i h);

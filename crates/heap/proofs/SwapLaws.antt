@@ -5,24 +5,25 @@ use native.Mathlib.Omega.{arith}
 use mathlib.Core.Path.{_≡_, refl, sym, ap, _∙_}
 use mathlib.Core.Logic.{_≢_}
 use mathlib.Core.List.{List}
-use lib.ListN.{length, take}
+use lib.ListN.{length}
 use Rattle.words.specs.Regions.{timesIn}
 use Rattle.words.specs.Times.{time}
 use Rattle.words.proofs.TimeLaws.{time-same}
-use Rattle.heap.specs.Words.{Placed, node, position, key, putNode, putPosition, swapped}
+use Rattle.heap.specs.Words.{Positioned, node, position, key, putNode, putPosition, swapped}
 use Rattle.heap.specs.Sifts.{Rearranged}
 use Rattle.heap.proofs.OrderLaws.{Exchanged}
-use Rattle.heap.proofs.WordLaws.{node-here, node-apart, put-positions, put-node-times, put-node-size, position-here, position-apart, put-nodes, put-position-times, put-position-size}
+use Rattle.heap.proofs.WordLaws.{node-here, node-apart, put-positions, put-node-times, put-node-size, position-here, position-apart, put-nodes}
+use Rattle.heap.proofs.WordLaws.{put-position-times, put-position-size}
 
 -- What an exchange says of the nodes and the times.
 pub record Swapped (n i j : ℕ) (w w′ : List ℕ) : Type 0 where
-  pub placed : Placed n w′
+  pub positioned : Positioned n w′
   pub times : timesIn n w′ ≡ timesIn n w
   pub first : node n w′ i ≡ node n w j
   pub second : node n w′ j ≡ node n w i
   pub others : (m : ℕ) → m < n → m ≢ i → m ≢ j → node n w′ m ≡ node n w m
 
-module _ (n i j : ℕ) (w : List ℕ) (p : Placed n w) (i-in : i < n) (j-in : j < n) where
+module _ (n i j : ℕ) (w : List ℕ) (p : Positioned n w) (i-in : i < n) (j-in : j < n) where
   abbrev a : ℕ
   a = node n w i
 
@@ -158,28 +159,28 @@ module _ (n i j : ℕ) (w : List ℕ) (p : Placed n w) (i-in : i < n) (j-in : j 
 
   pub swap-is : Swapped n i j w (swapped n i j w)
   swap-is = record {
-    placed = record { size = swap-size ∙ p .size; few = p .few; nodes = swap-nodes; positions = swap-positions; back = swap-back; there = swap-there };
+    positioned = record { size = swap-size ∙ p .size; few = p .few; nodes = swap-nodes; positions = swap-positions; back = swap-back; there = swap-there };
     times = swap-times;
     first = node-first;
     second = node-second;
     others = node-others;
   }
 
-pub kept-refl : (n k : ℕ) (w : List ℕ) → Placed n w → Rearranged n k w w
-kept-refl n k w p = record { placed = p; times = refl; beyond = λ m h l. refl }
+pub kept-refl : (n k : ℕ) (w : List ℕ) → Positioned n w → Rearranged n k w w
+kept-refl n k w p = record { positioned = p; times = refl; beyond = λ m h l. refl }
 
 pub kept-more : (n k k′ : ℕ) (w w′ : List ℕ) → k ≤ k′ → Rearranged n k w w′ → Rearranged n k′ w w′
-kept-more n k k′ w w′ h a = record { placed = a .placed; times = a .times; beyond = λ m i l. a .beyond m (omega arith) l }
+kept-more n k k′ w w′ h a = record { positioned = a .positioned; times = a .times; beyond = λ m i l. a .beyond m (omega arith) l }
 
 pub kept-then : (n k : ℕ) (w w′ w″ : List ℕ) → Rearranged n k w w′ → Rearranged n k w′ w″ → Rearranged n k w w″
-kept-then n k w w′ w″ a b = record { placed = b .placed; times = b .times ∙ a .times; beyond = λ m h l. b .beyond m h l ∙ a .beyond m h l }
+kept-then n k w w′ w″ a b = record { positioned = b .positioned; times = b .times ∙ a .times; beyond = λ m h l. b .beyond m h l ∙ a .beyond m h l }
 
 module _ (n i j : ℕ) (w w′ : List ℕ) (s : Swapped n i j w w′) where
   pub swap-kept : (k : ℕ) → i < k → j < k → Rearranged n k w w′
-  swap-kept k h l = record { placed = s .placed; times = s .times; beyond = λ m b c. s .others m c (λ e. omega arith) (λ e. omega arith) }
+  swap-kept k h l = record { positioned = s .positioned; times = s .times; beyond = λ m b c. s .others m c (λ e. omega arith) (λ e. omega arith) }
 
   key-of : (m : ℕ) → m < n → (m′ : ℕ) → node n w′ m ≡ node n w m′ → key n w′ m ≡ key n w m′
-  key-of m h m′ e = time-same n w w′ (s .times) (node n w′ m) (s .placed .nodes m h) ∙ ap (time n w) e
+  key-of m h m′ e = time-same n w w′ (s .times) (node n w′ m) (s .positioned .nodes m h) ∙ ap (time n w) e
 
   pub swap-keys : (k : ℕ) → k ≤ n → i < n → j < n → Exchanged k i j (key n w) (key n w′)
   swap-keys k h i-in j-in = record {
@@ -189,7 +190,7 @@ module _ (n i j : ℕ) (w w′ : List ℕ) (s : Swapped n i j w w′) where
   }
 
 -- Where the nodes from position k on are the same, a node that stands there stood there before.
-pub stood : (n k : ℕ) (w w′ : List ℕ) → Placed n w → Placed n w′ → ((m : ℕ) → k ≤ m → m < n → node n w′ m ≡ node n w m)
+pub stood : (n k : ℕ) (w w′ : List ℕ) → Positioned n w → Positioned n w′ → ((m : ℕ) → k ≤ m → m < n → node n w′ m ≡ node n w m)
     → (v : ℕ) → v < n → k ≤ position n w′ v → position n w v ≡ position n w′ v
 stood n k w w′ p p′ beyond v i l =
     let b = p′ .positions v i in
@@ -197,7 +198,7 @@ stood n k w w′ p p′ beyond v i l =
     sym (ap (position n w) t) ∙ p .back (position n w′ v) b
 
 -- And one that stands before them stood before them.
-pub stood-before : (n k : ℕ) (w w′ : List ℕ) → Placed n w → Placed n w′ → ((m : ℕ) → k ≤ m → m < n → node n w′ m ≡ node n w m)
+pub stood-before : (n k : ℕ) (w w′ : List ℕ) → Positioned n w → Positioned n w′ → ((m : ℕ) → k ≤ m → m < n → node n w′ m ≡ node n w m)
     → (v : ℕ) → v < n → position n w′ v < k → position n w v < k
 stood-before n k w w′ p p′ beyond v i l =
     let r : ¬ (k ≤ position n w v) = λ g. omega (arith, stood n k w′ w p′ p (λ m a b. sym (beyond m a b)) v i g) in

@@ -15,7 +15,8 @@ Up i j = Below j i
 abbrev pub Down : ℕ → ℕ → Type 0
 Down i j = Below i j
 
--- From the words w, the node at position i passes so many levels, and then stands at j, in words w′: at each level it changes positions with the node one level on,
+-- From the words w, the node at position i passes so many levels, and then stands at j, in words w′: at each level it changes positions with the node one
+-- level on,
 -- and nothing else is written.
 pub data Passes (n : ℕ) (On : ℕ → ℕ → Type 0) (i : ℕ) (w : List ℕ) : ℕ → ℕ → List ℕ → Type 0 where
   stays : Passes n On i w 0 i w

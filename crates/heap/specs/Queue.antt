@@ -3,16 +3,16 @@
 use Prim.Native.Nat.{ℕ, _+_, _-_, _≤_, _<_, min}
 use mathlib.Core.Path.{_≡_}
 use mathlib.Core.List.{List}
-use lib.ListN.{getD, set, take}
+use lib.ListN.{getD, set}
 use Rattle.model.specs.Oracle.{noWalk}
 use Rattle.words.specs.Regions.{timesIn}
 use Rattle.words.specs.Times.{time, store}
-use Rattle.heap.specs.Words.{Placed, node, position, key, swapped}
+use Rattle.heap.specs.Words.{Positioned, node, position, key, swapped}
 use Rattle.heap.specs.Order.{Ordered}
 use Rattle.heap.specs.Levels.{Up, Down, Few}
 
 pub record Queue (n k e : ℕ) (w : List ℕ) : Type 0 where
-  pub placed : Placed n w
+  pub positioned : Positioned n w
   pub order : Ordered k (key n w)
   pub held : k ≤ e
   pub room : e ≤ n

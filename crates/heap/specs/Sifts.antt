@@ -3,15 +3,14 @@ use Prim.Native.Nat.{ℕ, _≤_, _<_}
 use mathlib.Core.Path.{_≡_}
 use mathlib.Core.Logic.{_≢_}
 use mathlib.Core.List.{List}
-use lib.ListN.{take}
 use Rattle.words.specs.Regions.{timesIn}
-use Rattle.heap.specs.Words.{Placed, node, key, swapped}
+use Rattle.heap.specs.Words.{Positioned, node, key, swapped}
 use Rattle.heap.specs.Order.{Ordered}
 use Rattle.heap.specs.Levels.{Few}
 
 -- The nodes of the first k positions may have changed their positions, and nothing else.
 pub record Rearranged (n k : ℕ) (w w′ : List ℕ) : Type 0 where
-  pub placed : Placed n w′
+  pub positioned : Positioned n w′
   pub times : timesIn n w′ ≡ timesIn n w
   pub beyond : (m : ℕ) → k ≤ m → m < n → node n w′ m ≡ node n w m
 

@@ -30,7 +30,7 @@ abbrev pub key : ℕ → List ℕ → ℕ → ℕ
 key n w i = time n w (node n w i)
 
 -- Each of n nodes stands at one of n positions, and each position has one node.
-pub record Placed (n : ℕ) (w : List ℕ) : Type 0 where
+pub record Positioned (n : ℕ) (w : List ℕ) : Type 0 where
   pub size : length w ≡ n + n
   pub few : n ≤ maxNodes
   pub nodes : (i : ℕ) → i < n → node n w i < n

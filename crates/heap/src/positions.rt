@@ -2,7 +2,7 @@
 ghost use mathlib.Core.Path.{_≡_};
 ghost use Prim.Native.Nat.{_+_, _<_};
 ghost use lib.ListN.{length};
-ghost use Rattle.heap.specs.Words.{Placed, half, key, node, position, putNode, putPosition, swapped};
+ghost use Rattle.heap.specs.Words.{Positioned, half, key, node, position, putNode, putPosition, swapped};
 use words::times::time_of;
 
 // What a half counts up to.
@@ -10,7 +10,7 @@ pub const HALF: u32 = 65536;
 
 // The node at position i.
 pub fn node_at(w: &[u32], n: usize, i: usize) -> usize
-    requires { ⌜ Placed n (now w) × (i < n) ⌝ }
+    requires { ⌜ Positioned n (now w) × (i < n) ⌝ }
     ensures { λ r. ⌜ (r ≡ node n (now (w .entry)) i) × (r < n) ⌝ }
 {
     (w[n + i] % HALF) as usize
@@ -18,7 +18,7 @@ pub fn node_at(w: &[u32], n: usize, i: usize) -> usize
 
 // The position of node v.
 pub fn position_of(w: &[u32], n: usize, v: usize) -> usize
-    requires { ⌜ Placed n (now w) × (v < n) ⌝ }
+    requires { ⌜ Positioned n (now w) × (v < n) ⌝ }
     ensures { λ r. ⌜ (r ≡ position n (now (w .entry)) v) × (r < n) ⌝ }
 {
     (w[n + v] / HALF) as usize
@@ -26,7 +26,7 @@ pub fn position_of(w: &[u32], n: usize, v: usize) -> usize
 
 // The time of the node at position i.
 pub fn key_at(w: &[u32], n: usize, i: usize) -> u32
-    requires { ⌜ Placed n (now w) × (i < n) ⌝ }
+    requires { ⌜ Positioned n (now w) × (i < n) ⌝ }
     ensures { λ r. ⌜ r ≡ key n (now (w .entry)) i ⌝ }
 {
     let v = node_at(w, n, i);
@@ -51,7 +51,7 @@ fn put_position(w: &mut [u32], n: usize, v: usize, i: usize)
 
 // The positions i and j change their nodes.
 pub fn swap(w: &mut [u32], n: usize, i: usize, j: usize)
-    requires { ⌜ Placed n (now w) × (i < n) × (j < n) ⌝ }
+    requires { ⌜ Positioned n (now w) × (i < n) × (j < n) ⌝ }
     ensures { λ _. ⌜ now (w .exit) ≡ swapped n i j (now (w .entry)) ⌝ }
 {
     let a = node_at(w, n, i);

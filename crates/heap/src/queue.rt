@@ -1,6 +1,5 @@
 // Entering, lowering and taking out.
 ghost use Prim.Native.Nat.{_+_, _<_, _≤_};
-ghost use lib.ListN.{take};
 ghost use Rattle.model.specs.Oracle.{noWalk};
 ghost use Rattle.words.specs.Regions.{timesIn};
 ghost use Rattle.words.specs.Times.{time};

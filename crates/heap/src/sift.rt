@@ -3,7 +3,7 @@ ghost use mathlib.Core.Path.{_≡_};
 ghost use mathlib.Core.Bool.{cond};
 ghost use lib.Dec.{ltb};
 ghost use Prim.Native.Nat.{_+_, _<_, _≤_};
-ghost use Rattle.heap.specs.Words.{Placed, key};
+ghost use Rattle.heap.specs.Words.{Positioned, key};
 ghost use Rattle.heap.specs.Order.{OrderedUp, OrderedDown, Lesser};
 ghost use Rattle.heap.specs.Levels.{Up, Down};
 ghost use Rattle.heap.specs.Sifts.{Level, Sifted};
@@ -15,7 +15,7 @@ const LEVELS: usize = 12;
 
 // One level up from i, if the order asks for it: where that leads.
 fn rise(w: &mut [u32], n: usize, k: usize, i: usize) -> usize
-    requires { ⌜ Placed n (now w) × (k ≤ n) × (i < k) × OrderedUp k i (key n (now w)) ⌝ }
+    requires { ⌜ Positioned n (now w) × (k ≤ n) × (i < k) × OrderedUp k i (key n (now w)) ⌝ }
     ensures { λ r. ⌜ Level n k Up OrderedUp i (now (w .entry)) (now (w .exit)) r ⌝ }
 {
     if i == 0 {
@@ -31,7 +31,7 @@ fn rise(w: &mut [u32], n: usize, k: usize, i: usize) -> usize
 
 // Up from position `from` to where its node belongs.
 pub fn up(w: &mut [u32], n: usize, k: usize, from: usize)
-    requires { ⌜ Placed n (now w) × (k ≤ n) × (from < k) × OrderedUp k from (key n (now w)) ⌝ }
+    requires { ⌜ Positioned n (now w) × (k ≤ n) × (from < k) × OrderedUp k from (key n (now w)) ⌝ }
     ensures { λ _. ⌜ Sifted n k Up from (now (w .entry)) (now (w .exit)) ⌝ }
 {
     let mut i = from;
@@ -51,10 +51,11 @@ fn less(x: u32, y: u32) -> usize
     (x < y) as usize
 }
 
-// The position of the lesser of the two below i; k or more where there is none. The comparison is added as a number: a processor would guess a branch on it wrong
+// The position of the lesser of the two below i; k or more where there is none. The comparison is added as a number: a processor would guess a branch on it
+// wrong
 // half of the time.
 fn lesser(w: &[u32], n: usize, k: usize, i: usize) -> usize
-    requires { ⌜ Placed n (now w) × (k ≤ n) × (i ≤ k) ⌝ }
+    requires { ⌜ Positioned n (now w) × (k ≤ n) × (i ≤ k) ⌝ }
     ensures some { λ r. ⌜ (r < k → Lesser k (key n (now (w .entry))) i r) ⌝ }
     ensures none { λ r. ⌜ (k ≤ r → k ≤ i + i + 1) ⌝ }
 {
@@ -68,7 +69,7 @@ fn lesser(w: &[u32], n: usize, k: usize, i: usize) -> usize
 
 // One level down from i, if the order asks for it: where that leads.
 fn fall(w: &mut [u32], n: usize, k: usize, i: usize) -> usize
-    requires { ⌜ Placed n (now w) × (k ≤ n) × (i ≤ k) × OrderedDown k i (key n (now w)) ⌝ }
+    requires { ⌜ Positioned n (now w) × (k ≤ n) × (i ≤ k) × OrderedDown k i (key n (now w)) ⌝ }
     ensures { λ r. ⌜ Level n k Down OrderedDown i (now (w .entry)) (now (w .exit)) r ⌝ }
 {
     let c = lesser(w, n, k, i);
@@ -84,7 +85,7 @@ fn fall(w: &mut [u32], n: usize, k: usize, i: usize) -> usize
 
 // Down from the first position to where its node belongs.
 pub fn down(w: &mut [u32], n: usize, k: usize)
-    requires { ⌜ Placed n (now w) × (k ≤ n) × OrderedDown k 0 (key n (now w)) ⌝ }
+    requires { ⌜ Positioned n (now w) × (k ≤ n) × OrderedDown k 0 (key n (now w)) ⌝ }
     ensures { λ _. ⌜ Sifted n k Down 0 (now (w .entry)) (now (w .exit)) ⌝ }
 {
     let mut i = 0;

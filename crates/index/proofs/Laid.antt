@@ -12,7 +12,7 @@ use Rattle.model.specs.Network.{edgeCount, someEdgeBroken, numbersBroken}
 use Rattle.words.specs.Frames.{KeptFrom, OnlyIn, Enough}
 use Rattle.words.proofs.Stays.{kept-more}
 use Rattle.model.specs.Rules.{workWords}
-use Rattle.index.specs.Index.{Indexed, IndexOf, Roads}
+use Rattle.index.specs.Index.{Indexed, IndexOf, IndexedEdges}
 use Rattle.index.proofs.Listing.{cleared-index}
 use Rattle.words.specs.Regions.{indexAt, indexIn}
 use Rattle.index.proofs.Places.{no-word}
@@ -27,13 +27,26 @@ laid-same n a w ys e l h size =
 
 module _ (edges closed : Bytes) (n : ℕ) (ends : someEdgeBroken n edges ≡ false) (rising : numbersBroken (edgeCount edges) closed ≡ false) where
   -- For one node.
-  pub no-index : (w : List ℕ) → Enough n w → n < 2 → Roads edges closed n w
-  no-index w h l = record { ends = ends; rising = rising; indexed = cleared-index n (indexIn n w) (λ x p. no-word n w h l x ∙ omega arith, λ x p. no-word n w h l x) edges closed }
+  pub no-index : (w : List ℕ) → Enough n w → n < 2 → IndexedEdges edges closed n w
+  no-index w h l = record {
+    ends = ends;
+    rising = rising;
+    indexed = cleared-index n (indexIn n w)
+        (λ x p. no-word n w h l x ∙ omega arith, λ x p. no-word n w h l x) edges closed;
+  }
 
   pub laid-index : (a : ℕ) (w ys : List ℕ) → a ≡ indexAt n → 2 ≤ n → Enough n w → length ys ≡ length (midOf a (workWords n - a) w) → IndexOf edges closed n ys
-      → Roads edges closed n (putMid a (workWords n - a) w ys)
+      → IndexedEdges edges closed n (putMid a (workWords n - a) w ys)
       × ((take (indexAt n) (putMid a (workWords n - a) w ys) ≡ take (indexAt n) w) × (KeptFrom (workWords n) w (putMid a (workWords n - a) w ys)))
-  laid-index a w ys e l h q x = (record { ends = ends; rising = rising; indexed = subst (λ (z : List ℕ). IndexOf edges closed n z) (sym (laid-same n a w ys e l h size)) x }, (before, behind))
+  laid-index a w ys e l h q x = (
+    record {
+      ends = ends;
+      rising = rising;
+      indexed = subst (λ (z : List ℕ). IndexOf edges closed n z)
+          (sym (laid-same n a w ys e l h size)) x;
+    },
+    (before, behind),
+  )
     where
       size : length ys ≡ workWords n - a
       size = q ∙ mid-len a (workWords n) w h
@@ -54,12 +67,12 @@ module _ (edges closed : Bytes) (n : ℕ) (w w′ : List ℕ) where
     pub indexed-kept : Indexed edges closed n w → Indexed edges closed n w′
     indexed-kept x = subst (λ (z : List ℕ). IndexOf edges closed n z) (sym (same-index n w w′ e)) x
 
-    pub roads-kept : Roads edges closed n w → Roads edges closed n w′
+    pub roads-kept : IndexedEdges edges closed n w → IndexedEdges edges closed n w′
     roads-kept r = record { ends = r .ends; rising = r .rising; indexed = indexed-kept (r .indexed) }
 
   -- The words from a on stay, or all but m words from a on.
-  pub roads-from : (a : ℕ) → a ≤ indexAt n → KeptFrom a w w′ → Roads edges closed n w → Roads edges closed n w′
+  pub roads-from : (a : ℕ) → a ≤ indexAt n → KeptFrom a w w′ → IndexedEdges edges closed n w → IndexedEdges edges closed n w′
   roads-from a h e r = roads-kept (kept-more a (indexAt n) w w′ h e) r
 
-  pub roads-only : (a m : ℕ) → a + m ≤ indexAt n → OnlyIn a m w w′ → Roads edges closed n w → Roads edges closed n w′
+  pub roads-only : (a m : ℕ) → a + m ≤ indexAt n → OnlyIn a m w w′ → IndexedEdges edges closed n w → IndexedEdges edges closed n w′
   roads-only a m h o r = roads-from (a + m) h (o .back) r

@@ -97,7 +97,8 @@ module _ (edges closed : Bytes) (n s : ℕ) where
           let b : i ≡ r = sym (t ∙ e ∙ ap (λ (z : ℕ). i / z) f ∙ div-one i) in
           subst (λ (z : ℕ). OpenAt edges closed u z) b o
 
-  pub chained-last : (i k : ℕ) (ix : List ℕ) → edgeCount edges ≤ i → k ≤ length ix → Chained edges closed i n s k ix → Chained edges closed (edgeCount edges) n s (length ix) ix
+  pub chained-last : (i k : ℕ) (ix : List ℕ) → edgeCount edges ≤ i → k ≤ length ix → Chained edges closed i n s k ix
+      → Chained edges closed (edgeCount edges) n s (length ix) ix
   chained-last i k ix h r c = record {
     sized = c .sized;
     heads = λ u l g. omega (arith, c .heads u l g);
@@ -128,7 +129,8 @@ clear-words n y k l ys e f h = (front, behind)
     size = ap length f ∙ length-replicate (length (take n l)) y ∙ length-take-le n l h
 
     front : (x : ℕ) → x < n → getD (ys ++ drop n l) x 0 ≡ y
-    front x p = List·getD-append ys (drop n l) 0 x (omega (arith, size)) ∙ ap (λ (z : List ℕ). getD z x 0) f ∙ filled (length (take n l)) x y (omega (arith, length-take-le n l h))
+    front x p = List·getD-append ys (drop n l) 0 x (omega (arith, size)) ∙ ap (λ (z : List ℕ). getD z x 0) f
+        ∙ filled (length (take n l)) x y (omega (arith, length-take-le n l h))
 
     behind : (x : ℕ) → n ≤ x → getD (ys ++ drop n l) x 0 ≡ 0
     behind x p =
@@ -167,5 +169,6 @@ pub cleared-index : (n : ℕ) (ix : List ℕ) → Cleared n 0 ix → (edges clos
 cleared-index n ix c edges closed =
     record { size = 0; small = omega arith; chained = cleared n 0 ix c edges closed (edgeCount edges) (length ix) (λ h. absurd (omega arith)) }
 
-pub chained-index : (edges closed : Bytes) (n s : ℕ) (ix : List ℕ) → s ≤ 16384 → Chained edges closed (edgeCount edges) n s (length ix) ix → IndexOf edges closed n ix
+pub chained-index : (edges closed : Bytes) (n s : ℕ) (ix : List ℕ) → s ≤ 16384 → Chained edges closed (edgeCount edges) n s (length ix) ix
+    → IndexOf edges closed n ix
 chained-index edges closed n s ix h c = record { size = s; small = h; chained = c }

@@ -52,7 +52,7 @@ abbrev pub Indexed : Bytes → Bytes → ℕ → List ℕ → Type 0
 Indexed edges closed n w = IndexOf edges closed n (indexIn n w)
 
 -- What walking by the lent words goes by: edges and closed edges that keep the rules, and their index.
-pub record Roads (edges closed : Bytes) (n : ℕ) (w : List ℕ) : Type 0 where
+pub record IndexedEdges (edges closed : Bytes) (n : ℕ) (w : List ℕ) : Type 0 where
   pub ends : someEdgeBroken n edges ≡ false
   pub rising : numbersBroken (edgeCount edges) closed ≡ false
   pub indexed : Indexed edges closed n w

@@ -2,11 +2,11 @@
 ghost use mathlib.Core.Path.{_≡_};
 ghost use mathlib.Core.Bool.{true, false};
 ghost use Prim.Native.Nat.{ℕ, _+_, _*_, _<_, _≤_};
-ghost use lib.ListN.{length, getD, set, take, drop};
+ghost use lib.ListN.{length, getD, set, take};
 ghost use Rattle.model.specs.Network.{maxNodes, edge, edgeSize, edgeCount, someEdgeBroken, numbersBroken};
 ghost use Rattle.model.specs.Rules.{workWords};
 ghost use Rattle.words.specs.Frames.{Enough, KeptFrom};
-ghost use Rattle.index.specs.Index.{next, block, Lists, Chained, IndexOf, Roads};
+ghost use Rattle.index.specs.Index.{next, block, Lists, Chained, IndexOf, IndexedEdges};
 ghost use Rattle.index.specs.Grown.{Growing, Grown, OnlyAt, AtEnd, IfOpen};
 ghost use Rattle.words.specs.Regions.{indexAt};
 use crate::open::is_open;
@@ -63,7 +63,8 @@ fn list_edge(edges: &[u8], i: usize, q: usize, ix: &mut [u32], n: usize, k: usiz
     requires { ⌜ (edgeSize * i + edgeSize ≤ length (now edges)) × (edge (now edges) i .first < n) × (edge (now edges) i .second < n) ⌝ }
     requires { ⌜ (n ≤ k) × (k + 2 ≤ length (now ix)) × (length (now ix) ≤ 65536) × (q < 65536) ⌝ }
     requires { ⌜ Growing n k (now ix) ⌝ }
-    ensures { λ r. ⌜ Grown n k (now (ix .entry)) r 2 (now (ix .exit)) (AtEnd (now (edges .entry)) i q) × ((x : ℕ) → AtEnd (now (edges .entry)) i q x q → Lists (now (ix .exit)) n (next (now (ix .exit)) x) q) ⌝ }
+    ensures { λ r. ⌜ Grown n k (now (ix .entry)) r 2 (now (ix .exit)) (AtEnd (now (edges .entry)) i q)
+        × ((x : ℕ) → AtEnd (now (edges .entry)) i q x q → Lists (now (ix .exit)) n (next (now (ix .exit)) x) q) ⌝ }
 {
     let first = edge_first(edges, i);
     let second = edge_second(edges, i);
@@ -84,7 +85,8 @@ fn list_open(
     requires { ⌜ (someEdgeBroken n (now edges) ≡ false) × (numbersBroken (edgeCount (now edges)) (now closed) ≡ false) × (i < edgeCount (now edges)) ⌝ }
     requires { ⌜ (n ≤ k) × (k + 2 ≤ length (now ix)) × (length (now ix) ≤ 65536) × (q < 65536) ⌝ }
     requires { ⌜ Growing n k (now ix) ⌝ }
-    ensures { λ r. ⌜ Grown n k (now (ix .entry)) r 2 (now (ix .exit)) (IfOpen (now (edges .entry)) (now (closed .entry)) i q) × ((x : ℕ) → IfOpen (now (edges .entry)) (now (closed .entry)) i q x q → Lists (now (ix .exit)) n (next (now (ix .exit)) x) q) ⌝ }
+    ensures { λ r. ⌜ Grown n k (now (ix .entry)) r 2 (now (ix .exit)) (IfOpen (now (edges .entry)) (now (closed .entry)) i q)
+        × ((x : ℕ) → IfOpen (now (edges .entry)) (now (closed .entry)) i q x q → Lists (now (ix .exit)) n (next (now (ix .exit)) x) q) ⌝ }
 {
     if is_open(closed, edges.len() / EDGE_SIZE, i) {
         return list_edge(edges, i, q, ix, n, k);
@@ -97,7 +99,8 @@ fn list_all(edges: &[u8], closed: &[u8], s: usize, ix: &mut [u32], n: usize) -> 
     requires { ⌜ (someEdgeBroken n (now edges) ≡ false) × (numbersBroken (edgeCount (now edges)) (now closed) ≡ false) ⌝ }
     requires { ⌜ (edgeCount (now edges) ≤ 65536) × (0 < s) × (n ≤ length (now ix)) × (length (now ix) ≤ 65536) ⌝ }
     requires { ⌜ Chained (now edges) (now closed) 0 n s n (now ix) ⌝ }
-    ensures { λ r. ⌜ (r ≡ true → Chained (now (edges .entry)) (now (closed .entry)) (edgeCount (now (edges .entry))) n s (length (now (ix .exit))) (now (ix .exit))) ⌝ }
+    ensures { λ r. ⌜ (r ≡ true → Chained (now (edges .entry)) (now (closed .entry)) (edgeCount (now (edges .entry))) n s (length (now (ix .exit)))
+        (now (ix .exit))) ⌝ }
 {
     let m = edges.len() / EDGE_SIZE;
     let mut k = n;
@@ -166,7 +169,7 @@ fn build(edges: &[u8], closed: &[u8], ix: &mut [u32], n: usize)
 pub fn build_index(edges: &[u8], closed: &[u8], n: usize, work: &mut [u32])
     requires { ⌜ (n ≤ maxNodes) × Enough n (now work) ⌝ }
     requires { ⌜ (someEdgeBroken n (now edges) ≡ false) × (numbersBroken (edgeCount (now edges)) (now closed) ≡ false) ⌝ }
-    ensures roads { λ _. ⌜ Roads (now (edges .entry)) (now (closed .entry)) n (now (work .exit)) ⌝ }
+    ensures roads { λ _. ⌜ IndexedEdges (now (edges .entry)) (now (closed .entry)) n (now (work .exit)) ⌝ }
     ensures before { λ _. ⌜ take (indexAt n) (now (work .exit)) ≡ take (indexAt n) (now (work .entry)) ⌝ }
     ensures behind { λ _. ⌜ KeptFrom (workWords n) (now (work .entry)) (now (work .exit)) ⌝ }
 {

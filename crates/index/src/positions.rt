@@ -1,6 +1,6 @@
 // Where the words of the index stand.
 ghost use mathlib.Core.Path.{_≡_};
-ghost use Prim.Native.Nat.{_+_, _*_, _<_, _≤_};
+ghost use Prim.Native.Nat.{_+_, _<_, _≤_};
 ghost use lib.ListN.{length};
 ghost use Rattle.model.specs.Network.{maxNodes};
 ghost use Rattle.words.specs.Frames.{Enough};

@@ -22,7 +22,11 @@ wrote-byte {old} {at} {x} room = record { ends = refl; spliced = splice-byte old
 -- A part that was lent and came back as the text.
 pub wrote-part : (old text ys : Bytes) (at : ℕ) → ys ≡ text → Wrote old at text (at + length text) (putMid at (at + length text - at) old ys)
 wrote-part old text ys at e =
-    record { ends = refl; spliced = rw (e, post-is at (at + length text) old (omega arith)) (unfold splice in sym (append-assoc (take at old) text (drop (at + length text) old))) }
+    record {
+      ends = refl;
+      spliced = rw (e, post-is at (at + length text) old (omega arith))
+          (unfold splice in sym (append-assoc (take at old) text (drop (at + length text) old)));
+    }
 
 -- Room for two texts is room for the first, and then for the second; and writing both is writing the two as one.
 module _ {old : Bytes} {at : ℕ} (r s : Bytes) (room : Room old at (r ++ s)) where
@@ -41,7 +45,11 @@ module _ {old : Bytes} {at : ℕ} (r s : Bytes) (room : Room old at (r ++ s)) wh
 
 -- A text written at the front.
 pub holds : {old : Bytes} (text : Bytes) {end : ℕ} {new : Bytes} → Room old 0 text → Wrote old 0 text end new → HoldsText new end text
-holds {old} text room w = rw (w .ends, w .spliced, zero-add) (record { front = take-front; within = omega (arith, room .fits, length-splice old 0 text (room .fits)) })
+holds {old} text room w = rw (w .ends, w .spliced, zero-add) (record {
+  front = take-front;
+  within = omega
+      (arith, room .fits, length-splice old 0 text (room .fits));
+})
   where
     take-front : take (length text) (splice 0 text old) ≡ text
     take-front = unfold splice in rw zero-add (take-at text (drop (length text) old) (length text) refl)

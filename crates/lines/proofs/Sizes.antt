@@ -33,7 +33,14 @@ few-kind Local = omega arith
 
 few-answer : (a : Answer) → length (answerText a) ≤ 16
 unfolding answerText
-few-answer (Time seconds kind pairs) = omega (arith, few-decimal seconds, few-kind kind, length-append (decimal seconds ++ blank) (kindText kind), length-append (decimal seconds) blank)
+few-answer (Time seconds kind pairs) = omega (
+  arith,
+  few-decimal seconds,
+  few-kind kind,
+  length-append (decimal seconds ++ blank) (kindText kind),
+  length-append
+      (decimal seconds) blank,
+)
 few-answer (None kind pairs) = omega (arith, few-kind kind, length-append blank (kindText kind))
 few-answer (Refused rule) = omega arith
 

@@ -40,7 +40,8 @@ module _ (o : Bytes) (s : ℕ) where
 
     pub begun-next : {m : ℕ} {new : Bytes} → t < n → Wrote out at (pairLine o s t) m new → Begun old m new (t + 1)
     begun-next h w =
-        let e : rowText o s ≡ (b .done ++ pairLine o s t) ++ linesFrom (t + 1) = b .whole ∙ rw (lines-step t h) (sym (append-assoc (b .done) (pairLine o s t) (linesFrom (t + 1)))) in
+        let e : rowText o s ≡ (b .done ++ pairLine o s t) ++ linesFrom (t + 1) = b .whole
+        ∙ rw (lines-step t h) (sym (append-assoc (b .done) (pairLine o s t) (linesFrom (t + 1)))) in
         record {
           done = b .done ++ pairLine o s t;
           wrote = wrote-both (b .done) (pairLine o s t) (room-first (b .done ++ pairLine o s t) (linesFrom (t + 1)) (rw e at (b .room))) (b .wrote) w;

@@ -53,6 +53,7 @@ module _ (input : Bytes) where
   listing-refused n = rw (ne-eqb _ 0 n)
 
   pub listing-rows : firstBroken (shapeRules (readPart input)) ≡ 0
-      → listing input ≡ header (nodeCount (nodeBody (readPart input))) (transitCount (transitBody (readPart input))) ++ concatMap (rowText (readPart input)) (upTo (nodeCount (nodeBody (readPart input))))
+      → listing input ≡ header (nodeCount (nodeBody (readPart input))) (transitCount (transitBody (readPart input))) ++ concatMap (rowText (readPart input))
+      (upTo (nodeCount (nodeBody (readPart input))))
   unfolding listing listingAfter pairLines rowText
   listing-rows e = rw e

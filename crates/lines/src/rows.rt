@@ -17,6 +17,7 @@ use opened::opening::opened_kind;
 use opened::ways::times_from;
 use reader::oracle::node_count;
 use tables::far::answer_of;
+use words::times::time_of;
 
 // The time between s and t, from the words that a search from s has left.
 fn answer_between(o: &[u8], s: usize, t: usize, work: &[u32]) -> Answer
@@ -26,7 +27,7 @@ fn answer_between(o: &[u8], s: usize, t: usize, work: &[u32]) -> Answer
     let kind = opened_kind(o, s, t, work);
     match kind {
         Kind::Far => far_of(o, s, t),
-        Kind::Local => answer_of(Kind::Local, 0, work[t]),
+        Kind::Local => answer_of(Kind::Local, 0, time_of(work, node_count(o), t)),
     }
 }
 

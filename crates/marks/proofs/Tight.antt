@@ -40,7 +40,8 @@ module _ (w : List ℕ) (n v to cost : ℕ) (i : v < n) (j : to < n) where
 
   pub arc-unmarked : isIn (midOf (queueWords n) (length w - queueWords n) w) to ≡ false → Leads false
   unfolding leading
-  arc-unmarked h = let k : isIn (drop (queueWords n) w) to ≡ false = rw (back-part w (queueWords n)) at h in rw (eq-eqb v v refl, flag-test n (drop (queueWords n) w) to j, k)
+  arc-unmarked h = let k : isIn (drop (queueWords n) w) to ≡ false = rw (back-part w (queueWords n)) at h in rw
+      (eq-eqb v v refl, flag-test n (drop (queueWords n) w) to j, k)
 
   -- x and y are the times of the two nodes.
   pub arc-marked : isIn (midOf (queueWords n) (length w - queueWords n) w) to ≡ true
@@ -89,7 +90,8 @@ module _ (p : Arc → Bool) (edges closed : Bytes) (n : ℕ) (w : List ℕ) (v :
     unled-last h from = sym (refuted (λ e. none-such (any→ p (arcsIn edges closed) e)))
       where
         none-such : (x : Arc) × List·Memᴰ x (arcsIn edges closed) × (p x ≡ true) → ⊥
-        none-such (x, m, t) = true≢false (sym t ∙ u .none x (u .passes .all h x .1 (→filter (leaves v) (arcsIn edges closed) m (eq-eqb (x .from) v (from x t)))))
+        none-such (x, m, t) = true≢false (sym t ∙ u .none x (u .passes .all h x .1
+            (→filter (leaves v) (arcsIn edges closed) m (eq-eqb (x .from) v (from x t)))))
 
 pub leading-from : (times marks : List ℕ) (v : ℕ) (a : Arc) → leading times marks v a ≡ true → a .from ≡ v
 unfolding leading

@@ -39,7 +39,8 @@ module _ (arcs : List Arc) (times want marks : List ℕ) (v : ℕ) where
   unfolding due leading
   →due (wanted g) = rw (lt-ltb 0 (at want v) g)
   →due (onward a m e t h) =
-      rw (→any (leading times marks v) arcs m (and (eq-eqb (a .from) v e) (and (lt-ltb 0 (at marks (a .to)) h) (eq-eqb (at times (a .to)) (at times v + a .cost) t))))
+      rw (→any (leading times marks v) arcs m (and (eq-eqb (a .from) v e)
+      (and (lt-ltb 0 (at marks (a .to)) h) (eq-eqb (at times (a .to)) (at times v + a .cost) t))))
       (or-true (ltb 0 (at want v)))
 
 -- ---- over lists: `rest` of the order is still to come
@@ -52,7 +53,8 @@ module _ (arcs : List Arc) (n : ℕ) (times want order : List ℕ) where
   pass-first : Ordered n times order → Passing arcs n times want order order (replicate n 0)
   pass-first o = record { part = λ v m. m; ahead = o; upto = upto-start arcs times (Flagged want) order n }
 
-  pass-next : Positive arcs → (v : ℕ) (rest marks : List ℕ) → Passing arcs n times want order (v ∷ rest) marks → Passing arcs n times want order rest (turned arcs times want marks v)
+  pass-next : Positive arcs → (v : ℕ) (rest marks : List ℕ) → Passing arcs n times want order (v ∷ rest) marks
+      → Passing arcs n times want order rest (turned arcs times want marks v)
   unfolding turned Falling
   pass-next pos v rest marks p = record {
     part = λ w m. p .part w (List·Memᴰ·tail m);
@@ -64,8 +66,10 @@ module _ (arcs : List Arc) (n : ℕ) (times want order : List ℕ) where
       v-in = p .ahead .inside v (List·Memᴰ·head refl)
 
       pick : (b : Bool) → due arcs times want marks v ≡ b → Upto arcs times (Flagged want) order n rest (cond b (set marks v 1) marks)
-      pick true e = turn-mark arcs times (Flagged want) order n v rest marks v-in (p .ahead .falls) (p .upto) (p .part v (List·Memᴰ·head refl)) (due→ arcs times want marks v e)
-      pick false e = turn-skip arcs times (Flagged want) order n v rest marks v-in (p .ahead .falls) (p .upto) pos (λ r. true≢false (sym (→due arcs times want marks v r) ∙ e))
+      pick true e = turn-mark arcs times (Flagged want) order n v rest marks v-in (p .ahead .falls) (p .upto) (p .part v (List·Memᴰ·head refl))
+          (due→ arcs times want marks v e)
+      pick false e = turn-skip arcs times (Flagged want) order n v rest marks v-in (p .ahead .falls) (p .upto) pos
+          (λ r. true≢false (sym (→due arcs times want marks v r) ∙ e))
 
 -- ---- over the lent words: they were w₀, and are w when the order is passed up to position i
 pub record Standing (arcs : List Arc) (n e : ℕ) (want w₀ : List ℕ) (i : ℕ) (w : List ℕ) : Type 0 where
@@ -93,13 +97,15 @@ module _ (arcs : List Arc) (n e : ℕ) (want w₀ : List ℕ) where
     pub node-in : getD w (n + i) 0 < n
     node-in = g .passing .ahead .inside (getD w (n + i) 0) (rw here (List·Memᴰ·head refl))
 
-    pub next : Positive arcs → (w′ : List ℕ) → length w′ ≡ length w → take (queueWords n) w′ ≡ take (queueWords n) w → marksIn n w′ ≡ turned arcs (timesIn n w) want (marksIn n w) (getD w (n + i) 0)
+    pub next : Positive arcs → (w′ : List ℕ) → length w′ ≡ length w → take (queueWords n) w′ ≡ take (queueWords n) w
+        → marksIn n w′ ≡ turned arcs (timesIn n w) want (marksIn n w) (getD w (n + i) 0)
         → Standing arcs n e want w₀ (i + 1) w′
     next pos w′ k s m = record {
       room = omega arith;
       size = k ∙ g .size;
       kept = s ∙ g .kept;
-      passing = rw (m, times-kept n w₀ w (g .kept)) (pass-next arcs n (timesIn n w₀) want (orderIn n e w₀) pos (getD w (n + i) 0) (orderIn n (i + 1) w₀) (marksIn n w) (rw here at (g .passing)));
+      passing = rw (m, times-kept n w₀ w (g .kept)) (pass-next arcs n (timesIn n w₀) want (orderIn n e w₀) pos (getD w (n + i) 0) (orderIn n (i + 1) w₀)
+          (marksIn n w) (rw here at (g .passing)));
     }
 
   pub last : (i : ℕ) (w w′ : List ℕ) → n ≤ i → take (queueWords n) w₀ ≡ take (queueWords n) w → Standing arcs n e want w₀ i w′

@@ -1,11 +1,10 @@
 // Whether an arc leads on from a node, tight, to a marked one.
 ghost use mathlib.Core.Path.{_≡_};
 ghost use Prim.Native.Nat.{_*_, _<_, _≤_};
-ghost use lib.ListN.{length};
 ghost use Rattle.model.specs.Lists.{any};
 ghost use Rattle.model.specs.Network.{maxNodes};
 ghost use Rattle.arcs.specs.Arcs.{arcsIn};
-ghost use Rattle.index.specs.Index.{Roads};
+ghost use Rattle.index.specs.Index.{IndexedEdges};
 ghost use Rattle.words.specs.Frames.{Enough};
 ghost use Rattle.marks.specs.Due.{leading};
 ghost use Rattle.words.specs.Regions.{timesIn, marksIn};
@@ -33,7 +32,7 @@ fn leads_to(n: usize, work: &[u32], v: usize, to: usize, cost: u64) -> bool
 // Whether some arc leads on from v.
 pub fn leads(edges: &[u8], closed: &[u8], n: usize, work: &[u32], v: usize) -> bool
     requires { ⌜ (n ≤ maxNodes) × Enough n (now work) × (v < n) ⌝ }
-    requires { ⌜ Roads (now edges) (now closed) n (now work) ⌝ }
+    requires { ⌜ IndexedEdges (now edges) (now closed) n (now work) ⌝ }
     ensures { λ r. ⌜ r ≡ any (leading (timesIn n (now (work .entry))) (marksIn n (now (work .entry))) v) (arcsIn (now (edges .entry)) (now (closed .entry))) ⌝ }
 {
     let c = first_edge(edges, closed, n, work, v);

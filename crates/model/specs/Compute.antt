@@ -14,7 +14,8 @@ use Rattle.model.specs.Calls
 use Rattle.model.specs.Listing
 
 unfoldable pub lists-computed : Unit {0}
-unfolding Lists.range Lists.any Lists.all Lists.filter Lists.concatMap Lists.concat Lists.member Lists.indexOf Lists.equal Lists.rising Lists.leastOf Lists.greatestOf Lists.least Lists.greatest Lists.gapless
+unfolding Lists.range Lists.any Lists.all Lists.filter Lists.concatMap Lists.concat Lists.member Lists.indexOf Lists.equal Lists.rising Lists.leastOf
+    Lists.greatestOf Lists.least Lists.greatest Lists.gapless
 lists-computed = tt
 
 unfoldable pub bytes-computed : Unit {0}
@@ -22,15 +23,19 @@ unfolding Bytes.word16 Bytes.word32 Bytes.bytes16 Bytes.bytes32 Bytes.cut Bytes.
 bytes-computed = tt
 
 unfoldable pub contents-computed : Unit {0}
-unfolding Contents.entryAt Contents.entry Contents.bodyPart Contents.body Contents.contentsBroken Contents.ofItsKind Contents.bodiesBroken Contents.entries Contents.file
+unfolding Contents.entryAt Contents.entry Contents.bodyPart Contents.body Contents.contentsBroken Contents.ofItsKind Contents.bodiesBroken Contents.entries
+    Contents.file
 contents-computed = tt
 
 unfoldable pub distance-computed : Unit {0}
-unfolding Distance.sooner Distance.soonest Distance.plus Distance.agree Distance.later Distance.start Distance.relax Distance.round Distance.rounds Distance.dist
+unfolding Distance.sooner Distance.soonest Distance.plus Distance.agree Distance.later Distance.start Distance.relax Distance.round Distance.rounds
+    Distance.dist
 distance-computed = tt
 
 unfoldable pub network-computed : Unit {0}
-unfolding Network.coordinate Network.node Network.edge Network.nodeCount Network.edgeCount Network.nodes Network.edges Network.isOpen Network.openEdges Network.network Network.order Network.arcsOf Network.arcs Network.distance Network.nodesBroken Network.nodeBroken Network.coordinatesBroken Network.edgesBroken Network.edgeBroken Network.someEdgeBroken Network.numbersBroken
+unfolding Network.coordinate Network.node Network.edge Network.nodeCount Network.edgeCount Network.nodes Network.edges Network.isOpen Network.openEdges
+    Network.network Network.order Network.arcsOf Network.arcs Network.distance Network.nodesBroken Network.nodeBroken Network.coordinatesBroken
+    Network.edgesBroken Network.edgeBroken Network.someEdgeBroken Network.numbersBroken
 network-computed = tt
 
 unfoldable pub grid-computed : Unit {0}
@@ -42,25 +47,34 @@ unfolding Access.crossingEnd Access.crosses Access.crossings Access.between Acce
 access-computed = tt
 
 unfoldable pub oracle-computed : Unit {0}
-unfolding Oracle.coded Oracle.valueBytes Oracle.decoded Oracle.value Oracle.valueBroken Oracle.entryBytes Oracle.listBytes Oracle.starts Oracle.accessBytes Oracle.tableBytes Oracle.transitOf Oracle.oracle Oracle.transitCount Oracle.listStart Oracle.listCount Oracle.listPart Oracle.accessAt Oracle.accessEntry Oracle.accessList Oracle.tableEntry Oracle.gridBodyBroken Oracle.entryBroken Oracle.indexes Oracle.listBroken Oracle.accessBroken Oracle.cellBroken Oracle.tableBroken
+unfolding Oracle.coded Oracle.valueBytes Oracle.decoded Oracle.value Oracle.valueBroken Oracle.entryBytes Oracle.listBytes Oracle.starts Oracle.accessBytes
+    Oracle.tableBytes Oracle.transitOf Oracle.oracle Oracle.transitCount Oracle.listStart Oracle.listCount Oracle.listPart Oracle.accessAt Oracle.accessEntry
+    Oracle.accessList Oracle.tableEntry Oracle.gridBodyBroken Oracle.entryBroken Oracle.indexes Oracle.listBroken Oracle.accessBroken Oracle.cellBroken
+    Oracle.tableBroken
 oracle-computed = tt
 
 unfoldable pub query-computed : Unit {0}
-unfolding Query.answer Query.meaning Query.ruleOf Query.distanceIn Query.distanceOf Query.sumBy Query.farDistance Query.farAnswer Query.localAnswer Query.kindBetween Query.answerOf Query.timeAnswer Query.nexts Query.onward Query.wayAfter Query.wayFrom Query.way Query.listPlace Query.listOf
+unfolding Query.answer Query.meaning Query.ruleOf Query.distanceIn Query.distanceOf Query.sumBy Query.farDistance Query.farAnswer Query.localAnswer
+    Query.kindBetween Query.answerOf Query.timeAnswer Query.nexts Query.onward Query.wayAfter Query.wayFrom Query.way Query.listSpan Query.listOf
 query-computed = tt
 
 unfoldable pub rules-computed : Unit {0}
-unfolding Rules.firstBroken Rules.noSuchNode Rules.isLocal Rules.localPair Rules.wordsNeeded Rules.workTooSmall Rules.outputTooSmall Rules.differsFromBuilt Rules.networkRules Rules.acceptRules Rules.shapeRules Rules.accepted Rules.wellShaped Rules.buildRules Rules.auditRules Rules.pairRules Rules.timeRules Rules.farRules Rules.wayRules Rules.listRules
+unfolding Rules.firstBroken Rules.noSuchNode Rules.isLocal Rules.localPair Rules.wordsNeeded Rules.workTooSmall Rules.outputTooSmall Rules.differsFromBuilt
+    Rules.networkRules Rules.acceptRules Rules.shapeRules Rules.accepted Rules.wellShaped Rules.buildRules Rules.auditRules Rules.pairRules Rules.timeRules
+    Rules.farRules Rules.wayRules Rules.listRules
 rules-computed = tt
 
 unfoldable pub calls-computed : Unit {0}
-unfolding Calls.clears Calls.cleared Calls.workAfter Calls.outputAfter Calls.answerAfter Calls.buildRefusal Calls.builtAfter Calls.auditRefusal Calls.timeRefusal Calls.timeResult Calls.farResult Calls.listRefusal Calls.listResult Calls.wayRefusal Calls.routeAfter
+unfolding Calls.clears Calls.cleared Calls.workAfter Calls.outputAfter Calls.answerAfter Calls.buildRefusal Calls.builtAfter Calls.auditRefusal
+    Calls.timeRefusal Calls.timeResult Calls.farResult Calls.listRefusal Calls.listResult Calls.wayRefusal Calls.routeAfter
 calls-computed = tt
 
 unfoldable pub listing-computed : Unit {0}
-unfolding Listing.digits Listing.decimal Listing.kindText Listing.answerText Listing.pairLine Listing.header Listing.pairLines Listing.refusedLine Listing.listingAfter Listing.listing
+unfolding Listing.digits Listing.decimal Listing.kindText Listing.answerText Listing.pairLine Listing.header Listing.pairLines Listing.refusedLine
+    Listing.listingAfter Listing.listing
 listing-computed = tt
 
 unfoldable pub computed : Unit {0}
-unfolding xor lists-computed bytes-computed contents-computed distance-computed network-computed grid-computed access-computed oracle-computed query-computed rules-computed calls-computed listing-computed
+unfolding xor lists-computed bytes-computed contents-computed distance-computed network-computed grid-computed access-computed oracle-computed query-computed
+    rules-computed calls-computed listing-computed
 computed = tt

@@ -116,8 +116,8 @@ way net u t = let d : ℕ → Distance = λ v. distance net v t in wayFrom d (ar
 
 -- ---- the access list: "handed back as that part of the oracle, its count included"
 
-unfoldable pub listPlace : Bytes → ℕ → Part
-listPlace o u = record { start = bodyPart o 5 .start + listPart (accessBody o) u .start; size = listPart (accessBody o) u .size }
+unfoldable pub listSpan : Bytes → ℕ → Part
+listSpan o u = record { start = bodyPart o 5 .start + listPart (accessBody o) u .start; size = listPart (accessBody o) u .size }
 
 unfoldable pub listOf : Bytes → ℕ → Bytes
-listOf o u = cut (listPlace o u) o
+listOf o u = cut (listSpan o u) o

@@ -6,8 +6,9 @@ use mathlib.Core.List.{List, [], _∷_, _++_}
 use lib.ListN.{length}
 use lib.Dec.{eqb, ltb, leb}
 use Rattle.model.specs.Lists.{equal}
-use Rattle.model.specs.Bytes.{Bytes}
-use Rattle.model.specs.Contents.{contentsBroken, bodiesBroken, nodeBody, edgeBody, closedBody, gridBody, transitBody, accessBody, tableBody, networkEdition, networkEntries, oracleEdition, oracleEntries}
+use Rattle.model.specs.Bytes.{Bytes, numberSize}
+use Rattle.model.specs.Contents.{contentsBroken, bodiesBroken, nodeBody, edgeBody, closedBody, gridBody, transitBody, accessBody, tableBody}
+use Rattle.model.specs.Contents.{networkEdition, networkEntries, oracleEdition, oracleEntries}
 use Rattle.model.specs.Network.{network, nodeCount, edgeCount, nodesBroken, coordinatesBroken, edgesBroken, someEdgeBroken, numbersBroken}
 use Rattle.model.specs.Grid.{gridBroken, division}
 use Rattle.model.specs.Oracle.{oracle, transitCount, gridBodyBroken, accessBroken, tableBroken}
@@ -113,7 +114,7 @@ unfoldable pub farRules : Bytes → ℕ → ℕ → List Rule
 farRules o s t = pairRules o s t ++ (rule 13 (localPair o s t) ∷ [])
 
 unfoldable pub wayRules : Bytes → ℕ → ℕ → ℕ → ℕ → List Rule
-wayRules o s t words room = timeRules o s t words ++ (rule 15 (outputTooSmall (2 * length (way (network o) s t)) room) ∷ [])
+wayRules o s t words room = timeRules o s t words ++ (rule 15 (outputTooSmall (numberSize * length (way (network o) s t)) room) ∷ [])
 
 unfoldable pub listRules : Bytes → ℕ → List Rule
 listRules o u = shapeRules o ++ (rule 12 (noSuchNode o u) ∷ [])

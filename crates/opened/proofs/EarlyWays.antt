@@ -51,7 +51,8 @@ module _ (es : List Arc) (d e : ℕ → Distance) (settled : List ℕ) where
     next-same : (u : ℕ) → List·Memᴰ u settled → (a : Arc) → Mem a es → next d u a ≡ next e u a
     next-same u r a m = pick (eqb (a .from) u) refl
       where
-        pick : (b : Bool) → eqb (a .from) u ≡ b → b && agree (plus (finite (a .cost)) (d (a .to))) (d u) ≡ b && agree (plus (finite (a .cost)) (e (a .to))) (e u)
+        pick : (b : Bool) → eqb (a .from) u ≡ b → b && agree (plus (finite (a .cost)) (d (a .to))) (d u) ≡ b && agree (plus (finite (a .cost)) (e (a .to)))
+            (e u)
         pick false q = refl
         pick true q = let f : a .from ≡ u = eqb-true (a .from) u q in rw (← f) (tight-same a m (rw f r))
 
@@ -78,7 +79,8 @@ module _ (es : List Arc) (d e : ℕ → Distance) (settled : List ℕ) where
     after-same zero u r = refl
     after-same (suc left) u r = rw (nexts-same u r) (pick (nexts e es u) (next-settled u) (λ v k. after-same left v k))
       where
-        pick : (l : List ℕ) → ((v : ℕ) → List·Memᴰ u settled → List·Memᴰ v l → List·Memᴰ v settled) → ((v : ℕ) → List·Memᴰ v settled → wayAfter d es left v ≡ wayAfter e es left v)
+        pick : (l : List ℕ) → ((v : ℕ) → List·Memᴰ u settled → List·Memᴰ v l → List·Memᴰ v settled)
+            → ((v : ℕ) → List·Memᴰ v settled → wayAfter d es left v ≡ wayAfter e es left v)
             → onward l (λ v. v ∷ wayAfter d es left v) ≡ onward l (λ v. v ∷ wayAfter e es left v)
         pick [] h go = refl
         pick (v ∷ vs) h go = ap (λ (w : List ℕ). leastOf v vs ∷ w) (go (leastOf v vs) (h (leastOf v vs) r (leastOf-mem v vs)))

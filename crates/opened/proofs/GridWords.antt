@@ -3,7 +3,7 @@ use Prim.Native.Nat.{ℕ, _+_, _≤_, _<_}
 use native.Mathlib.Omega.{arith}
 use mathlib.Core.Path.{_≡_, _∙_}
 use mathlib.Core.List.{List}
-use lib.ListN.{length, getD, set, drop, length-set}
+use lib.ListN.{length, getD, set, length-set}
 use lib.Seq.{getD-set-same, getD-set-other, drop-set-lt}
 use Rattle.grid.specs.Stored.{gridOf}
 use Rattle.grid.specs.declared.Grid.{Grid}
@@ -37,7 +37,8 @@ module _ (w : List ℕ) (a x y z s : ℕ) (h : a + 4 ≤ length w) where
   other l i j v d = getD-set-other l j i v 0 (λ e. omega arith)
 
   word-0 : getD four a 0 ≡ x
-  word-0 = other three a (a + 3) s (omega arith) ∙ (other two a (a + 2) z (omega arith) ∙ (other one a (a + 1) y (omega arith) ∙ getD-set-same w a x 0 (omega arith)))
+  word-0 = other three a (a + 3) s (omega arith) ∙ (other two a (a + 2) z (omega arith)
+      ∙ (other one a (a + 1) y (omega arith) ∙ getD-set-same w a x 0 (omega arith)))
 
   word-1 : getD four (a + 1) 0 ≡ y
   word-1 = other three (a + 1) (a + 3) s (omega arith) ∙ (other two (a + 1) (a + 2) z (omega arith) ∙ getD-set-same one (a + 1) y 0 (omega (arith, size-one)))

@@ -18,13 +18,15 @@ use Rattle.theory.specs.Passed.{all-shaped}
 use Rattle.theory.specs.Sound.{node-bytes}
 use Rattle.algorithms.specs.Stops.{Stopped, lacking, lacking-all, nonzeros-one}
 use Rattle.bitset.specs.Bits.{setWords, flags}
-use Rattle.words.specs.Regions.{regionAt, regionFlags, want, wantIn, indexAt, gridAt, searchWords}
-use Rattle.index.specs.Index.{Roads}
+use Rattle.words.specs.Regions.{regionAt, regionFlags, timesIn, want, wantIn, indexAt, gridAt, searchWords}
+use Rattle.words.specs.Times.{time}
+use Rattle.index.specs.Index.{IndexedEdges}
 use Rattle.index.proofs.Laid.{roads-kept}
 use Rattle.checks.specs.Grids.{oracleGrid}
 use Rattle.checks.proofs.RulesKept.{some-node}
 use Rattle.words.specs.Frames.{Only, KeptFrom}
 use Rattle.words.proofs.Stays.{kept-more}
+use Rattle.words.proofs.TimeLaws.{time-at}
 use Rattle.opened.specs.Opened.{gridIn, Opened}
 
 -- ---- the words of the grid
@@ -39,10 +41,11 @@ module _ (n : ℕ) (w w′ : List ℕ) where
 
   pub grid-before : 0 < n → take (indexAt n) w′ ≡ take (indexAt n) w → gridIn n w′ ≡ gridIn n w
   grid-before p e = same-grid (λ i h.
-      sym (getD-take (indexAt n) w′ (gridAt n + i) 0 (omega arith)) ∙ (ap (λ (l : List ℕ). getD l (gridAt n + i) 0) e ∙ getD-take (indexAt n) w (gridAt n + i) 0 (omega arith)))
+      sym (getD-take (indexAt n) w′ (gridAt n + i) 0 (omega arith)) ∙ (ap (λ (l : List ℕ). getD l (gridAt n + i) 0) e
+      ∙ getD-take (indexAt n) w (gridAt n + i) 0 (omega arith)))
 
 -- The index stands behind the grid.
-pub roads-behind : (eb cb : Bytes) (n : ℕ) (w w′ : List ℕ) → KeptFrom (gridAt n) w w′ → Roads eb cb n w → Roads eb cb n w′
+pub roads-behind : (eb cb : Bytes) (n : ℕ) (w w′ : List ℕ) → KeptFrom (gridAt n) w w′ → IndexedEdges eb cb n w → IndexedEdges eb cb n w′
 roads-behind eb cb n w w′ e r = roads-kept eb cb n w w′ (kept-more (gridAt n) (indexAt n) w w′ (omega arith) e) r
 
 -- ---- an opened oracle
@@ -64,9 +67,10 @@ module _ (o : Bytes) where
   others-rest w w′ p e = kept-more (gridAt n) (workWords n) w w′ (omega arith) e
 
   -- From w₀, by the numbers of the grid, to w₁, and by the index to w₂.
-  module _ (w₀ w₁ w₂ : List ℕ) (p : 0 < n) (long : length w₂ ≡ length w₀) (g : gridIn n w₁ ≡ oracleGrid o) (before : take (indexAt n) w₂ ≡ take (indexAt n) w₁) where
-    pub opened-made : wellShaped o ≡ true → wordsNeeded o ≤ length w₀ → Roads (edgeBody o) (closedBody o) n w₂ → Opened o w₂
-    opened-made shape room roads = record { shape = shape; room = omega (arith, room, long); grid = grid-before n w₁ w₂ p before ∙ g; roads = roads }
+  module _ (w₀ w₁ w₂ : List ℕ) (p : 0 < n) (long : length w₂ ≡ length w₀) (g : gridIn n w₁ ≡ oracleGrid o) (before : take (indexAt n) w₂ ≡ take (indexAt n) w₁)
+    where
+      pub opened-made : wellShaped o ≡ true → wordsNeeded o ≤ length w₀ → IndexedEdges (edgeBody o) (closedBody o) n w₂ → Opened o w₂
+      opened-made shape room roads = record { shape = shape; room = omega (arith, room, long); grid = grid-before n w₁ w₂ p before ∙ g; roads = roads }
 
   pub opened-rest : (w₀ w₁ w₂ : List ℕ) → 0 < n → KeptFrom (gridAt n + 4) w₀ w₁ → KeptFrom (workWords n) w₁ w₂ → KeptFrom (wordsNeeded o) w₀ w₂
   unfolding wordsNeeded
@@ -74,8 +78,9 @@ module _ (o : Bytes) where
 
 -- The same, for the number of nodes and the bodies as the code has them.
 module _ (o : Bytes) (m : ℕ) (e : m ≡ nodeCount (nodeBody o)) (eb cb : Bytes) (p : eb ≡ edgeBody o) (q : cb ≡ closedBody o) (w₀ w₁ w₂ : List ℕ) where
-  pub words-opened : 0 < nodeCount (nodeBody o) → length w₂ ≡ length w₀ → wellShaped o ≡ true → wordsNeeded o ≤ length w₀ → gridIn m w₁ ≡ oracleGrid o → KeptFrom (gridAt m + 4) w₀ w₁
-      → Roads eb cb m w₂ → take (indexAt m) w₂ ≡ take (indexAt m) w₁ → KeptFrom (workWords m) w₁ w₂ → Opened o w₂ × (KeptFrom (wordsNeeded o) w₀ w₂)
+  pub words-opened : 0 < nodeCount (nodeBody o) → length w₂ ≡ length w₀ → wellShaped o ≡ true → wordsNeeded o ≤ length w₀ → gridIn m w₁ ≡ oracleGrid o
+      → KeptFrom (gridAt m + 4) w₀ w₁
+      → IndexedEdges eb cb m w₂ → take (indexAt m) w₂ ≡ take (indexAt m) w₁ → KeptFrom (workWords m) w₁ w₂ → Opened o w₂ × (KeptFrom (wordsNeeded o) w₀ w₂)
   words-opened some long shape room g d roads before back = (
     opened-made o w₀ w₁ w₂ some long (rw e at g) (rw e at before) shape room (rw (e, p, q) at roads),
     opened-rest o w₀ w₁ w₂ some (rw e at d) (rw e at back),
@@ -96,7 +101,7 @@ pub record Lent (o eb cb : Bytes) (m : ℕ) (w : List ℕ) : Type 0 where
   pub below : (u : ℕ) → u < nodeCount (nodeBody o) → u < m
   pub room : workWords m ≤ length w
   pub edge : someEdgeBroken m eb ≡ false
-  pub roads : Roads eb cb m w
+  pub roads : IndexedEdges eb cb m w
 
 pub lent : (o : Bytes) (w : List ℕ) → Opened o w → (eb cb : Bytes) (m : ℕ) → eb ≡ edgeBody o → cb ≡ closedBody o → m ≡ nodeCount (nodeBody o)
     → Lent o eb cb m w
@@ -123,7 +128,8 @@ lacking-one n t =
 at-want : (n : ℕ) → searchWords n ≡ regionAt n want
 at-want n = omega arith
 
-pub want-single : (n t : ℕ) (w₁ w₂ : List ℕ) → regionFlags n want w₁ ≡ replicate n 0 → regionFlags n want w₂ ≡ set (regionFlags n want w₁) t 1 → wantIn n w₂ ≡ set (replicate n 0) t 1
+pub want-single : (n t : ℕ) (w₁ w₂ : List ℕ) → regionFlags n want w₁ ≡ replicate n 0 → regionFlags n want w₂ ≡ set (regionFlags n want w₁) t 1
+    → wantIn n w₂ ≡ set (replicate n 0) t 1
 unfolding wantIn
 want-single n t w₁ w₂ e q = ap (λ (a : ℕ). flags n (drop a w₂)) (at-want n) ∙ (q ∙ ap (λ (l : List ℕ). set l t 1) e)
 
@@ -132,7 +138,8 @@ want-others n w₀ w₁ w₂ p q =
     let e : regionAt n want + setWords n ≡ gridAt n = omega arith in
     rw e at (q .back ∙ p .back)
 
--- The word of the one wanted node.
-pub stopped-word : (arcs : List Arc) (n s t : ℕ) (w order : List ℕ) → t < n → Stopped arcs n s (set (replicate n 0) t 1) (take n w) order → getD w t 0 ≡ coded (dist arcs n s t)
+-- The time of the one wanted node.
+pub stopped-word : (arcs : List Arc) (n s t : ℕ) (w order : List ℕ) → t < n → Stopped arcs n s (set (replicate n 0) t 1) (timesIn n w) order
+    → time n w t ≡ coded (dist arcs n s t)
 stopped-word arcs n s t w order h found =
-    sym (getD-take n w t 0 h) ∙ found .wanted t h (omega (arith, getD-set-same (replicate {A = ℕ} n 0) t 1 0 (omega (arith, length-replicate {A = ℕ} n 0))))
+    sym (time-at n w t h) ∙ found .wanted t h (omega (arith, getD-set-same (replicate {A = ℕ} n 0) t 1 0 (omega (arith, length-replicate {A = ℕ} n 0))))

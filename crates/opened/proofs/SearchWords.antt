@@ -4,8 +4,7 @@ use native.Mathlib.Nat.{zero-add}
 use mathlib.Core.Path.{_≡_, sym, _∙_, ap}
 use mathlib.Core.Bool.{true, false}
 use mathlib.Core.List.{List}
-use lib.ListN.{getD, take}
-use lib.Seq.{getD-take}
+use lib.ListN.{getD}
 use Rattle.model.specs.Bytes.{Bytes}
 use Rattle.model.specs.Contents.{nodeBody, edgeBody, closedBody}
 use Rattle.model.specs.Distance.{dist, finite}
@@ -24,13 +23,16 @@ use Rattle.theory.specs.Walks.{least-stay}
 use Rattle.algorithms.specs.Rounds.{distanceWords}
 use Rattle.arcs.specs.Arcs.{arcsIn, arcs-in}
 use Rattle.arcs.proofs.Bodies.{arcs-within}
+use Rattle.words.specs.Regions.{timesIn}
+use Rattle.words.specs.Times.{time}
+use Rattle.words.proofs.TimeLaws.{time-at}
 use Rattle.opened.specs.TimesFrom.{TimesFrom}
 
--- The word of t that a search from s has left.
-pub found-word : (arcs : List Arc) (n s t : ℕ) (ys : List ℕ) → take n ys ≡ distanceWords arcs n s → t < n → getD ys t 0 ≡ coded (dist arcs n s t)
+-- The time of t that a search from s has left.
+pub found-word : (arcs : List Arc) (n s t : ℕ) (ys : List ℕ) → timesIn n ys ≡ distanceWords arcs n s → t < n → time n ys t ≡ coded (dist arcs n s t)
 unfolding distanceWords
 found-word arcs n s t ys found h =
-    sym (getD-take n ys t 0 h) ∙ (ap (λ (l : List ℕ). getD l t 0) found ∙ (getD-map-range (λ v. coded (dist arcs n s v)) 0 0 n t h ∙ rw zero-add))
+    sym (time-at n ys t h) ∙ (ap (λ (l : List ℕ). getD l t 0) found ∙ (getD-map-range (λ v. coded (dist arcs n s v)) 0 0 n t h ∙ rw zero-add))
 
 -- The distance in the oracle's network, over its bodies.
 pub distance-in : (o : Bytes) (s t : ℕ) → distance (network o) s t ≡ dist (arcsIn (edgeBody o) (closedBody o)) (nodeCount (nodeBody o)) s t
@@ -38,12 +40,14 @@ unfolding distance
 distance-in o s t = rw (arcs-in o, count-nodes o)
 
 -- The same of a search over the oracle's network.
-pub toward-word : (o : Bytes) (s t : ℕ) (work : List ℕ) → TimesFrom o s work → t < nodeCount (nodeBody o) → getD work t 0 ≡ coded (distance (network o) s t)
+pub toward-word : (o : Bytes) (s t : ℕ) (work : List ℕ) → TimesFrom o s work → t < nodeCount (nodeBody o)
+    → time (nodeCount (nodeBody o)) work t ≡ coded (distance (network o) s t)
 toward-word o s t work toward h =
     rw (distance-in o s t) (found-word (arcsIn (edgeBody o) (closedBody o)) (nodeCount (nodeBody o)) s t work (toward .times) h)
 
 -- The local answer, from the word that the search has left.
-pub local-is : (o : Bytes) → Shaped o → (s t r : ℕ) → s < nodeCount (nodeBody o) → r ≡ coded (distance (network o) s t) → answer Local 0 (decoded r) ≡ localAnswer (network o) s t
+pub local-is : (o : Bytes) → Shaped o → (s t r : ℕ) → s < nodeCount (nodeBody o) → r ≡ coded (distance (network o) s t)
+    → answer Local 0 (decoded r) ≡ localAnswer (network o) s t
 unfolding localAnswer
 local-is o shaped s t r h e = rw e (ap (answer Local 0) (decoded-coded (distance (network o) s t) (near o (shaped .sound) s t (rw (count-nodes o) h))))
 

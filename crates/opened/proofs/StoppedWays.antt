@@ -43,7 +43,8 @@ late : (arcs : List Arc) (n t v : ℕ) → v < n → distanceIn (distanceWords a
 unfolding distanceIn distanceWords
 late arcs n t v i = ap decoded (getD-map-range (λ v. coded (dist arcs n t v)) noWalk 0 n v i ∙ rw zero-add)
 
-module _ (arcs : List Arc) (n t : ℕ) (within : Within n arcs) (positive : Positive arcs) (t-in : t < n) (want d order : List ℕ) (found : Stopped arcs n t want d order) where
+module _ (arcs : List Arc) (n t : ℕ) (within : Within n arcs) (positive : Positive arcs) (t-in : t < n) (want d order : List ℕ)
+    (found : Stopped arcs n t want d order) where
   abbrev all : List ℕ
   all = distanceWords arcs n t
 
@@ -58,7 +59,8 @@ module _ (arcs : List Arc) (n t : ℕ) (within : Within n arcs) (positive : Posi
   same v m = exact-same v (found .inside v m) (found .exact v m .0)
 
   loose : (a : Arc) → Mem a arcs → List·Memᴰ (a .from) order → (List·Memᴰ (a .to) order → ⊥)
-      → (agree (plus (finite (a .cost)) (distanceIn d (a .to))) (distanceIn d (a .from)) ≡ false) × (agree (plus (finite (a .cost)) (distanceIn all (a .to))) (distanceIn all (a .from)) ≡ false)
+      → (agree (plus (finite (a .cost)) (distanceIn d (a .to))) (distanceIn d (a .from)) ≡ false)
+      × (agree (plus (finite (a .cost)) (distanceIn all (a .to))) (distanceIn all (a .from)) ≡ false)
   loose a i m out =
       let f = within a i in
       let r = found .rest (a .to) (f .1) out (a .from) m in (
@@ -66,7 +68,8 @@ module _ (arcs : List Arc) (n t : ℕ) (within : Within n arcs) (positive : Posi
         rw (
           late arcs n t (a .to) (f .1),
           late arcs n t (a .from) (f .0),
-        ) (not-tight (a .cost) (coded (dist arcs n t (a .to))) (coded (dist arcs n t (a .from))) (positive a i) (omega (arith, found .exact (a .from) m .0, r .1))),
+        ) (not-tight (a .cost) (coded (dist arcs n t (a .to))) (coded (dist arcs n t (a .from))) (positive a i)
+            (omega (arith, found .exact (a .from) m .0, r .1))),
       )
 
   module _ (s : ℕ) (s-in : s < n) (wanted : 0 < at want s) where

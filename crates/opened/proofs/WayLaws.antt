@@ -57,7 +57,8 @@ module _ (o : Bytes) (shaped : Shaped o) (t : ℕ) (t-in : t < nodeCount (nodeBo
       pick (no h) =
           ap decoded (List·getD-eq-default words noWalk {n = v} (omega (arith, words-size))) ∙
           no-word ∙
-          meets-unique (Walk (arcs (network o)) v t) unreachable (distance (network o) v t) (λ k w. outside (order (network o)) (within o (shaped .sound)) (omega (
+          meets-unique (Walk (arcs (network o)) v t) unreachable (distance (network o) v t)
+          (λ k w. outside (order (network o)) (within o (shaped .sound)) (omega (
             arith,
             count-nodes o,
           )) (omega (arith, count-nodes o)) w) (to o (shaped .sound) t (rw (count-nodes o) t-in) v)

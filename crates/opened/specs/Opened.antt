@@ -3,14 +3,14 @@ use Prim.Native.Nat.{ℕ, _+_, _≤_}
 use mathlib.Core.Path.{_≡_}
 use mathlib.Core.Bool.{true}
 use mathlib.Core.List.{List}
-use lib.ListN.{length, getD, drop}
+use lib.ListN.{length, getD}
 use Rattle.model.specs.Bytes.{Bytes}
 use Rattle.model.specs.Contents.{nodeBody, edgeBody, closedBody}
 use Rattle.model.specs.Network.{nodeCount}
 use Rattle.model.specs.Grid.{Grid, innerRadius, outerRadius}
 use Rattle.model.specs.Rules.{firstBroken, wellShaped, wordsNeeded}
 use Rattle.words.specs.Regions.{gridAt}
-use Rattle.index.specs.Index.{Roads}
+use Rattle.index.specs.Index.{IndexedEdges}
 use Rattle.checks.specs.Grids.{oracleGrid}
 use Rattle.checks.specs.RuleLists.{roomRules}
 use Rattle.words.specs.Frames.{KeptFrom}
@@ -31,7 +31,7 @@ pub record Opened (o : Bytes) (w : List ℕ) : Type 0 where
   pub shape : wellShaped o ≡ true
   pub room : wordsNeeded o ≤ length w
   pub grid : gridIn (nodeCount (nodeBody o)) w ≡ oracleGrid o
-  pub roads : Roads (edgeBody o) (closedBody o) (nodeCount (nodeBody o)) w
+  pub roads : IndexedEdges (edgeBody o) (closedBody o) (nodeCount (nodeBody o)) w
 
 -- Opening: 0 and an opened oracle, or the number of the broken rule and nothing written.
 pub record OpenCall (o : Bytes) (w : List ℕ) (r : ℕ) (w′ : List ℕ) : Type 0 where

@@ -5,7 +5,7 @@ use mathlib.Core.Bool.{cond}
 use mathlib.Core.List.{List}
 use lib.ListN.{length}
 use Rattle.model.specs.Lists.{concatMap}
-use Rattle.model.specs.Bytes.{Bytes, bytes16}
+use Rattle.model.specs.Bytes.{Bytes, bytes16, numberSize}
 use Rattle.model.specs.Network.{network}
 use Rattle.model.specs.Query.{way}
 use Rattle.model.specs.Rules.{outputTooSmall}
@@ -14,7 +14,7 @@ use Rattle.model.specs.declared.Route.{Route}
 
 -- 15 where the output is too short for all nodes of a way, else 0.
 unfoldable pub roomRule : List ℕ → ℕ → ℕ
-roomRule nodes room = cond (outputTooSmall (2 * length nodes) room) 15 0
+roomRule nodes room = cond (outputTooSmall (numberSize * length nodes) room) 15 0
 
 -- What writing them hands back and writes.
 pub record NodesGiven (nodes : List ℕ) (out : Bytes) (r : Route) (out′ : Bytes) : Type 0 where

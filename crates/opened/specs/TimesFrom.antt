@@ -2,17 +2,18 @@
 use Prim.Native.Nat.{ℕ, _≤_}
 use mathlib.Core.Path.{_≡_}
 use mathlib.Core.List.{List}
-use lib.ListN.{length, take}
+use lib.ListN.{length}
 use Rattle.model.specs.Bytes.{Bytes}
 use Rattle.model.specs.Contents.{nodeBody, edgeBody, closedBody}
 use Rattle.model.specs.Network.{nodeCount}
 use Rattle.algorithms.specs.Rounds.{distanceWords}
 use Rattle.arcs.specs.Arcs.{arcsIn}
+use Rattle.words.specs.Regions.{timesIn}
 use Rattle.way.specs.Distances.{wayIn}
 
 -- The first words are the distances from s in the oracle's network.
 pub record TimesFrom (o : Bytes) (s : ℕ) (work : List ℕ) : Type 0 where
-  pub times : take (nodeCount (nodeBody o)) work ≡ distanceWords (arcsIn (edgeBody o) (closedBody o)) (nodeCount (nodeBody o)) s
+  pub times : timesIn (nodeCount (nodeBody o)) work ≡ distanceWords (arcsIn (edgeBody o) (closedBody o)) (nodeCount (nodeBody o)) s
   pub room : nodeCount (nodeBody o) ≤ length work
 
 -- The way from s to t over the bodies of edges and closed edges, by the distances from t: roads run both ways (theory `both-ways`).

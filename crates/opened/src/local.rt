@@ -1,14 +1,14 @@
 // Local answers, by a search in the working words.
 ghost use mathlib.Core.Path.{_≡_};
-ghost use Prim.Native.Nat.{_*_, _<_, _≤_};
-ghost use lib.ListN.{length, set, drop, replicate};
+ghost use Prim.Native.Nat.{_<_, _≤_};
+ghost use lib.ListN.{set, replicate};
 ghost use Rattle.model.specs.Contents.{nodeBody};
 ghost use Rattle.model.specs.Distance.{dist};
 ghost use Rattle.model.specs.Network.{network, distance, maxNodes, nodeCount};
 ghost use Rattle.model.specs.Oracle.{coded};
 ghost use Rattle.algorithms.specs.Stops.{Stopped};
 ghost use Rattle.arcs.specs.Arcs.{arcsIn};
-ghost use Rattle.index.specs.Index.{Roads};
+ghost use Rattle.index.specs.Index.{IndexedEdges};
 ghost use Rattle.words.specs.Frames.{Enough, KeptFrom};
 ghost use Rattle.opened.specs.Opened.{Opened};
 ghost use Rattle.words.specs.Regions.{timesIn, orderIn, wantIn, gridAt};
@@ -20,6 +20,7 @@ use search::wanted::search_wanted;
 use words::regions::WANT;
 use words::regions::clear;
 use words::regions::put;
+use words::times::time_of;
 
 // The wanted set of a search has t alone.
 fn want_only(work: &mut [u32], n: usize, t: usize)
@@ -40,8 +41,9 @@ pub fn search_to(
     t: usize,
     work: &mut [u32],
 ) -> usize
-    requires { ⌜ (n ≤ maxNodes) × (s < n) × (t < n) × Enough n (now work) × Roads (now edges) (now closed) n (now work) ⌝ }
-    ensures found { λ e. ⌜ Stopped (arcsIn (now (edges .entry)) (now (closed .entry))) n s (set (replicate n 0) t 1) (timesIn n (now (work .exit))) (orderIn n e (now (work .exit))) ⌝ }
+    requires { ⌜ (n ≤ maxNodes) × (s < n) × (t < n) × Enough n (now work) × IndexedEdges (now edges) (now closed) n (now work) × (2 ≤ n) ⌝ }
+    ensures found { λ e. ⌜ Stopped (arcsIn (now (edges .entry)) (now (closed .entry))) n s (set (replicate n 0) t 1) (timesIn n (now (work .exit)))
+        (orderIn n e (now (work .exit))) ⌝ }
     ensures others { λ _. ⌜ KeptFrom (gridAt n) (now (work .entry)) (now (work .exit)) ⌝ }
 {
     want_only(work, n, t);
@@ -57,12 +59,12 @@ fn search_seconds(
     t: usize,
     work: &mut [u32],
 ) -> u32
-    requires { ⌜ (n ≤ maxNodes) × (s < n) × (t < n) × Enough n (now work) × Roads (now edges) (now closed) n (now work) ⌝ }
+    requires { ⌜ (n ≤ maxNodes) × (s < n) × (t < n) × Enough n (now work) × IndexedEdges (now edges) (now closed) n (now work) × (2 ≤ n) ⌝ }
     ensures seconds { λ r. ⌜ r ≡ coded (dist (arcsIn (now (edges .entry)) (now (closed .entry))) n s t) ⌝ }
     ensures others { λ _. ⌜ KeptFrom (gridAt n) (now (work .entry)) (now (work .exit)) ⌝ }
 {
     search_to(edges, closed, n, s, t, work);
-    work[t]
+    time_of(work, n, t)
 }
 
 // The distance from s to t in the oracle's network. From a node to itself nothing is searched.

@@ -2,31 +2,32 @@
 ghost use mathlib.Core.Path.{_≡_};
 ghost use mathlib.Core.Bool.{false};
 ghost use mathlib.Core.List.{[], _∷_};
-ghost use Prim.Native.Nat.{_*_, _<_, _≤_};
-ghost use lib.ListN.{length, drop};
+ghost use Prim.Native.Nat.{_<_, _≤_};
 ghost use Rattle.model.specs.Contents.{nodeBody};
 ghost use Rattle.model.specs.Network.{maxNodes, nodeCount, someEdgeBroken};
-ghost use Rattle.index.specs.Index.{Roads};
+ghost use Rattle.index.specs.Index.{IndexedEdges};
 ghost use Rattle.words.specs.Frames.{Enough, KeptFrom};
 ghost use Rattle.opened.specs.Opened.{Opened};
 ghost use Rattle.opened.specs.Room.{NodesGiven};
 ghost use Rattle.opened.specs.TimesFrom.{TimesFrom, wayOver};
+ghost use Rattle.way.specs.Distances.{nodesIn};
 ghost use Rattle.words.specs.Regions.{gridAt};
 use crate::local::search_to;
 use codec::bytes::write16;
 use codec::records::NUMBER_SIZE;
+use emit::copy::copy;
 use model::Route;
 use reader::oracle::CLOSED;
 use reader::oracle::EDGES;
 use reader::oracle::node_count;
 use reader::oracle::oracle_contents;
 use search::front::search_front;
-use way::whole::way_size;
-use way::whole::write_whole;
+use way::after::LONGEST;
+use way::whole::whole_way;
 
 // The times from s stand in the first words afterwards.
 pub fn times_from(o: &[u8], s: usize, work: &mut [u32])
-    requires { ⌜ Opened (now o) (now work) × (s < nodeCount (nodeBody (now o))) ⌝ }
+    requires { ⌜ Opened (now o) (now work) × (s < nodeCount (nodeBody (now o))) × (2 ≤ nodeCount (nodeBody (now o))) ⌝ }
     ensures times { λ _. ⌜ TimesFrom (now (o .entry)) s (now (work .exit)) ⌝ }
     ensures others { λ _. ⌜ KeptFrom (gridAt (nodeCount (nodeBody (now (o .entry))))) (now (work .entry)) (now (work .exit)) ⌝ }
 {
@@ -46,8 +47,33 @@ fn write_way_itself(s: usize, out: &mut [u8]) -> Route
     Route { rule: 0, nodes: 1 }
 }
 
-// Writes the way from s to t at the front of the output; its length is known before any output is written. As edges run both ways,
-// the search is from t; it ends when s is settled. From a node to itself nothing is searched.
+// Writes the way from s at the front of the output, by the times in the first words. It is found before any output is written.
+fn write_way_from(
+    edges: &[u8],
+    closed: &[u8],
+    n: usize,
+    work: &[u32],
+    s: usize,
+    out: &mut [u8],
+) -> Route
+    requires { ⌜ (s < n) × (n ≤ maxNodes) × Enough n (now work) ⌝ }
+    requires { ⌜ IndexedEdges (now edges) (now closed) n (now work) ⌝ }
+    ensures { λ r. ⌜ NodesGiven (nodesIn (now (edges .entry)) (now (closed .entry)) n (now (work .entry)) s) (now (out .entry)) r (now (out .exit)) ⌝ }
+{
+    let mut nodes = [0u8; LONGEST];
+    let size = whole_way(edges, closed, n, work, s, &mut nodes);
+    if out.len() < size {
+        return Route { rule: 15, nodes: 0 };
+    }
+    copy(&nodes[..size], &mut out[..size]);
+    Route {
+        rule: 0,
+        nodes: (size / NUMBER_SIZE) as u32,
+    }
+}
+
+// Writes the way from s to t at the front of the output. As edges run both ways, the search is from t; it ends when s is settled. From a node to itself
+// nothing is searched.
 pub fn write_way_to(
     edges: &[u8],
     closed: &[u8],
@@ -57,7 +83,8 @@ pub fn write_way_to(
     work: &mut [u32],
     out: &mut [u8],
 ) -> Route
-    requires { ⌜ (n ≤ maxNodes) × (s < n) × (t < n) × Enough n (now work) × (someEdgeBroken n (now edges) ≡ false) × Roads (now edges) (now closed) n (now work) ⌝ }
+    requires { ⌜ (n ≤ maxNodes) × (s < n) × (t < n) × Enough n (now work) × (someEdgeBroken n (now edges) ≡ false)
+        × IndexedEdges (now edges) (now closed) n (now work) ⌝ }
     ensures given { λ r. ⌜ NodesGiven (wayOver (now (edges .entry)) (now (closed .entry)) n s t) (now (out .entry)) r (now (out .exit)) ⌝ }
     ensures others { λ _. ⌜ KeptFrom (gridAt n) (now (work .entry)) (now (work .exit)) ⌝ }
 {
@@ -65,10 +92,5 @@ pub fn write_way_to(
         return write_way_itself(s, out);
     }
     search_to(edges, closed, n, t, s, work);
-    let nodes = way_size(edges, closed, n, work, s);
-    if out.len() < NUMBER_SIZE * nodes as usize {
-        return Route { rule: 15, nodes: 0 };
-    }
-    write_whole(edges, closed, n, work, s, out);
-    Route { rule: 0, nodes }
+    write_way_from(edges, closed, n, work, s, out)
 }

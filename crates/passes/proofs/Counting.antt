@@ -1,15 +1,15 @@
 -- A loop over the nodes that stores k for those of a test: their words of region COUNTS. Assumes nothing.
-use Prim.Native.Nat.{ℕ, _+_, _*_, _≤_, _<_}
+use Prim.Native.Nat.{ℕ, _+_, _≤_, _<_}
 use native.Mathlib.Decide.{ℕ-discrete}
 use native.Mathlib.Omega.{arith}
 use mathlib.Core.Path.{_≡_, refl, ap, _∙_}
 use mathlib.Core.Bool.{Bool, true, false, cond}
 use mathlib.Core.List.{List}
 use lib.ListN.{length, getD, set, length-set}
-use lib.Seq.{getD-set-same, getD-set-other, take-set-le, drop-set-lt}
+use lib.Seq.{getD-set-same, getD-set-other}
 use Rattle.words.specs.Regions.{regionAt, counts}
 use Rattle.words.specs.Frames.{OnlyIn, Enough}
-use Rattle.words.proofs.Stays.{only-same, only-then}
+use Rattle.words.proofs.Stays.{only-same, only-then, only-set}
 
 -- ---- one word stored, or none
 module _ (n k : ℕ) (w : List ℕ) (i : ℕ) (h : i < n) (long : Enough n w) where
@@ -21,7 +21,7 @@ module _ (n k : ℕ) (w : List ℕ) (i : ℕ) (h : i < n) (long : Enough n w) wh
   put-size false = refl
 
   put-only : (b : Bool) → OnlyIn (regionAt n counts) n w (put b)
-  put-only true = record { front = take-set-le (regionAt n counts) w (regionAt n counts + i) k (omega arith); back = drop-set-lt (regionAt n counts + n) w (regionAt n counts + i) k (omega arith) }
+  put-only true = only-set _ _ w i k h
   put-only false = only-same _ _ w
 
   put-here : (b : Bool) → getD (put b) (regionAt n counts + i) 0 ≡ cond b k (getD w (regionAt n counts + i) 0)
@@ -51,12 +51,14 @@ module _ (s : ℕ → Bool) (n k : ℕ) (w₀ : List ℕ) where
       size = ap length e ∙ (put-size n k w i h long (s i) ∙ g .size);
       others = only-then _ _ w₀ w w′ (g .others) (rw e (put-only n k w i h long (s i)));
       told = λ v l. told v l (ℕ-discrete v i);
-      untold = λ v l. ap (λ (x : List ℕ). getD x (regionAt n counts + v) 0) e ∙ (put-other n k w i h long (s i) v (λ q. omega arith) ∙ g .untold v (omega arith));
+      untold = λ v l. ap (λ (x : List ℕ). getD x (regionAt n counts + v) 0) e
+          ∙ (put-other n k w i h long (s i) v (λ q. omega arith) ∙ g .untold v (omega arith));
     }
       where
         told : (v : ℕ) → v < i + 1 → Dec (v ≡ i) → getD w′ (regionAt n counts + v) 0 ≡ cond (s v) k (getD w₀ (regionAt n counts + v) 0)
         told v l (yes q) = rw (q, e, put-here n k w i h long (s i), g .untold i (omega arith))
         told v l (no d) = ap (λ (x : List ℕ). getD x (regionAt n counts + v) 0) e ∙ (put-other n k w i h long (s i) v d ∙ g .told v (omega (arith, d)))
 
-    pub last : n ≤ i → ((v : ℕ) → v < n → getD w (regionAt n counts + v) 0 ≡ cond (s v) k (getD w₀ (regionAt n counts + v) 0)) × OnlyIn (regionAt n counts) n w₀ w
+    pub last : n ≤ i → ((v : ℕ) → v < n → getD w (regionAt n counts + v) 0 ≡ cond (s v) k (getD w₀ (regionAt n counts + v) 0))
+        × OnlyIn (regionAt n counts) n w₀ w
     last h = (λ v l. g .told v (omega arith), g .others)

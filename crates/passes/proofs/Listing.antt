@@ -22,13 +22,15 @@ use Rattle.grid.specs.declared.Grid.{Grid}
 use Rattle.grid.proofs.Cells.{cell-at}
 use Rattle.crossing.specs.Sets.{testFlags, memberFlags, ones}
 use Rattle.crossing.specs.SetLaws.{flags-test, test-flag, ones-members, filter-flags}
-use Rattle.crossing.specs.Ground.{cellsIn, openIn}
+use Rattle.crossing.specs.Ground.{cellsIn, openIn, Ground}
 use Rattle.emit.specs.MemberLaws.{members-passing}
 use Rattle.access.specs.Networks.{networkIn, count-cells}
+use Rattle.access.specs.Pairs.{NotAlone}
 use Rattle.words.specs.Regions.{regionAt, region, regionFlags}
 use Rattle.words.proofs.Windows.{in-front, flags-front}
 use Rattle.access.proofs.Flagging as flagging
 use Rattle.passes.specs.Building.{accessOf, membersIn}
+use Rattle.passes.specs.BuildingLaws.{access-two}
 
 -- Tests with the same flags agree below n.
 tests-agree : (p q : ℕ → Bool) (n : ℕ) → testFlags p n ≡ testFlags q n → (v : ℕ) → v < n → p v ≡ q v
@@ -47,7 +49,8 @@ module _ (n k : ℕ) (w : List ℕ) where
   pub flagged-member : (v : ℕ) → Flagged (regionFlags n k w) v ↔ List·Memᴰ v (membersIn n k w)
   unfolding membersOf
   flagged-member v = (
-    λ f. let (h, e) = flagging.member→ n (drop (regionAt n k) w) v f in →filter (isIn (region n k w)) (upTo n) (→upTo n v h) (in-front n (drop (regionAt n k) w) v h ∙ e),
+    λ f. let (h, e) = flagging.member→ n (drop (regionAt n k) w) v f in →filter (isIn (region n k w)) (upTo n) (→upTo n v h)
+        (in-front n (drop (regionAt n k) w) v h ∙ e),
     λ m.
         let (i, e) = filter→ (isIn (region n k w)) (upTo n) m in
         let h : v < n = omega (arith, range→ 0 n v i) in
@@ -61,9 +64,15 @@ module _ (n k : ℕ) (w : List ℕ) where
 
 -- Region k has the access nodes of the cell of u.
 pub access-listed : (b e c : Bytes) (grid : Grid) (n : ℕ) → n ≡ nodeCount b → (u : ℕ) → u < n → (k : ℕ) (w : List ℕ) (cell : model.Cell)
-    → cell ≡ model.cellOf (gridOf grid) (node b u) → regionFlags n k w ≡ memberFlags n (accessNodes (distance (networkIn b e c)) (gridOf grid) (cellsIn grid b) (openIn e c) cell)
+    → cell ≡ model.cellOf (gridOf grid) (node b u) → regionFlags n k w ≡ memberFlags n
+    (accessNodes (distance (networkIn b e c)) (gridOf grid) (cellsIn grid b) (openIn e c) cell)
     → membersIn n k w ≡ accessOf b e c grid u
 unfolding accessOf accessNodes
 access-listed b e c grid n size u h k w cell q f =
     let l = count-cells b n size grid in
     rw (cell-at (gridOf grid) b u (rw (← size) h), ← q, l) (members-listed n k w _ (rw l at f))
+
+-- These are not alone.
+pub access-alone : (b e c : Bytes) (grid : Grid) (n : ℕ) → n ≡ nodeCount b → Ground b e c grid → (u k : ℕ) (w : List ℕ)
+    → membersIn n k w ≡ accessOf b e c grid u → NotAlone n k w
+access-alone b e c grid n size ground u k w q v f = access-two b e c grid n size ground u v (rw q at (flagged-member n k w v .0 f))

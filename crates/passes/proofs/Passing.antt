@@ -48,13 +48,15 @@ module _ (b e c : Bytes) (grid : Grid) (n : ℕ) where
       (mine : membersIn n own x ≡ accessOf b e c grid u) (rest : KeptFrom (regionAt n transit) w x)
       (united : regionFlags n transit y ≡ either (regionFlags n own x) (regionFlags n transit x)) (apart : Only n transit x y)
       (k : ℕ) (count : k ≡ ones (regionFlags n own x))
-      (put : (v : ℕ) → v < n → getD z (regionAt n counts + v) 0 ≡ cond (sameCell cs u v) k (getD y (regionAt n counts + v) 0)) (alone : OnlyIn (regionAt n counts) n y z) where
+      (put : (v : ℕ) → v < n → getD z (regionAt n counts + v) 0 ≡ cond (sameCell cs u v) k (getD y (regionAt n counts + v) 0))
+      (alone : OnlyIn (regionAt n counts) n y z) where
     joined : (a : ℕ) → List·Memᴰ a (membersIn n transit z) ↔ (List·Memᴰ a (accessOf b e c grid u) ⊎ List·Memᴰ a (membersIn n transit w))
     joined a =
         let i = flagged-member n transit z a in
         let j = rw mine at (flagged-member n own x a) in
         let l = flagged-member n transit w a in
-        let f : regionFlags n transit z ≡ either (regionFlags n own x) (regionFlags n transit x) = flags-before _ _ y z alone n transit (omega arith) ∙ united in
+        let f : regionFlags n transit z ≡ either (regionFlags n own x) (regionFlags n transit x) = flags-before _ _ y z alone n transit (omega arith)
+        ∙ united in
         let t : regionFlags n transit x ≡ regionFlags n transit w = ap (flags n) rest in
         let d = either-flagged n (drop (regionAt n own) x) (drop (regionAt n transit) x) a in (
           λ m. ⊎-elim (λ p. inl (j .0 p)) (λ p. inr (l .0 (rw t at p))) (d .0 (rw f at (i .1 m))),

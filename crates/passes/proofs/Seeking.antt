@@ -1,5 +1,5 @@
 -- The nodes of region OWN looked for from region WANT, and the list from what a search for them has found. Assumes nothing.
-use Prim.Native.Nat.{ℕ, _*_, _≤_, _<_}
+use Prim.Native.Nat.{ℕ, _≤_, _<_}
 use native.Mathlib.Nat.{zero-add}
 use native.Mathlib.Omega.{arith}
 use mathlib.Core.Path.{_≡_, refl, sym, ap, _∙_}
@@ -12,6 +12,7 @@ use Rattle.model.specs.Distance.{dist}
 use Rattle.model.specs.Oracle.{coded}
 use Rattle.model.specs.Walk.{Arc}
 use Rattle.theory.specs.RangeLaws.{getD-map-range}
+use Rattle.theory.specs.Members.{getD-mem}
 use Rattle.algorithms.specs.Rounds.{distanceWords}
 use Rattle.algorithms.specs.Stops.{Stopped, lacking}
 use Rattle.bitset.specs.Bits.{setWords, isIn, flags}
@@ -24,6 +25,7 @@ use Rattle.emit.specs.PartLaws.{concat-same, time-same}
 use Rattle.bitset.specs.Members.{membersOf}
 use Rattle.emit.specs.Members.{Among}
 use Rattle.emit.specs.Parts.{timeBytes, indexedBytes, listBytesOf}
+use Rattle.access.specs.Pairs.{NotAlone}
 use Rattle.access.proofs.Flagging as flagging
 use Rattle.access.proofs.Wanted.{want-region, lacking-want}
 use Rattle.passes.specs.Building.{membersIn}
@@ -44,14 +46,15 @@ unfolding memberFlags member
 either-none n s = rw (flags-test n s, ← no-members n) (either-test (isIn s) (λ v. member v []) n ∙ test-flags-same _ _ n (λ v h. or-false (isIn s v)))
 
 -- From the words w, region WANT is cleared in x, and united with region OWN in y.
-pub sought-made : (n : ℕ) → 0 < n → (w x y : List ℕ) → regionFlags n want x ≡ replicate n 0 → Only n want w x
+pub sought-made : (n : ℕ) → 0 < n → (w x y : List ℕ) → NotAlone n own w → regionFlags n want x ≡ replicate n 0 → Only n want w x
     → regionFlags n want y ≡ either (regionFlags n own x) (regionFlags n want x) → Only n want x y → (left : ℕ) → left ≡ ones (regionFlags n own y)
     → (membersIn n own y ≡ membersIn n own w) × Sought n left y × (KeptFrom (regionAt n transit) w y)
-sought-made n h w x y z o u q left k = (
+sought-made n h w x y a z o u q left k = (
   ap (membersOf n) (region-kept n own want x y (λ i. omega arith) q h ∙ region-kept n own want w x (λ i. omega arith) o h),
   record {
     wants = u ∙ (ap (either (regionFlags n own x)) z ∙ (either-none n (drop (regionAt n own) x) ∙ sym (flags-kept n own want x y (λ i. omega arith) q)));
     count = k ∙ count-members n own y;
+    alone = λ v f. a v (rw (flags-kept n own want x y (λ i. omega arith) q ∙ flags-kept n own want w x (λ i. omega arith) o) at f);
   },
   after-kept _ _ x y q (regionAt n transit) (omega arith) ∙ after-kept _ _ w x o (regionAt n transit) (omega arith),
 )
@@ -61,12 +64,22 @@ module _ (n left : ℕ) (w : List ℕ) (g : Sought n left w) where
   pub sought-lacking : lacking (wantIn n w) (replicate n 0) ≤ left
   sought-lacking = omega (arith, lacking-want n w, ap ones (g .wants), count-members n own w, g .count)
 
+  -- Where one is sought, there are two nodes.
+  pub sought-two : 0 < left → 2 ≤ n
+  sought-two h =
+      let m = getD-mem (membersIn n own w) 0 0 (omega (arith, g .count)) in
+      g .alone _ (flagged-member n own w _ .1 m)
+
   -- They are sought still when a search has changed the first words.
   pub sought-later : (w′ : List ℕ) → KeptFrom (searchWords n) w w′ → Sought n left w′
   sought-later w′ e =
       let a = kept-more (searchWords n) (regionAt n want) w w′ (omega arith) e in
       let b = kept-more (searchWords n) (regionAt n own) w w′ (omega arith) e in
-      record { wants = ap (flags n) a ∙ (g .wants ∙ sym (ap (flags n) b)); count = g .count ∙ sym (ap (λ (l : List ℕ). length (membersOf n (take (setWords n) l))) b) }
+      record {
+        wants = ap (flags n) a ∙ (g .wants ∙ sym (ap (flags n) b));
+        count = g .count ∙ sym (ap (λ (l : List ℕ). length (membersOf n (take (setWords n) l))) b);
+        alone = flagging.alone-later n own w w′ (omega arith) e (g .alone);
+      }
 
   -- Where none is sought, any times give the list.
   pub list-of-none : left ≡ 0 → (d d′ transits : List ℕ) → listBytesOf d transits (membersIn n own w) ≡ listBytesOf d′ transits (membersIn n own w)
@@ -90,7 +103,8 @@ module _ (n left : ℕ) (w : List ℕ) (g : Sought n left w) where
         (λ v m. ap (λ (r : Bytes). bytes16 (indexOf v transits) ++ r) (sought-time v m)))
 
   -- The same from the words that the search leaves.
-  pub list-searched : (w′ : List ℕ) → KeptFrom (searchWords n) w w′ → (arcs : List Arc) (s : ℕ) (order : List ℕ) → Stopped arcs n s (wantIn n w) (take n w′) order
+  pub list-searched : (w′ : List ℕ) → KeptFrom (searchWords n) w w′ → (arcs : List Arc) (s : ℕ) (order : List ℕ)
+      → Stopped arcs n s (wantIn n w) (take n w′) order
       → listBytesOf (take n w′) (membersIn n transit w′) (membersIn n own w′) ≡ listBytesOf (distanceWords arcs n s) (membersIn n transit w) (membersIn n own w)
   list-searched w′ e arcs s order f =
       rw (kept transit (omega arith), kept own (omega arith)) (sought-list arcs s (take n w′) order f (membersIn n transit w))

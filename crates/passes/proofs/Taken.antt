@@ -17,13 +17,16 @@ use Rattle.bitset.specs.Members.{membersOf}
 use Rattle.grid.specs.Stored.{gridOf}
 use Rattle.grid.specs.declared.Grid.{Grid}
 use Rattle.crossing.specs.Cells.{firstOfCell}
-use Rattle.crossing.specs.Ground.{cellsIn, openIn}
+use Rattle.crossing.specs.Ground.{cellsIn, openIn, Ground}
 use Rattle.crossing.specs.FirstNodes.{firsts, transit-firsts}
 use Rattle.emit.specs.MemberLaws.{members-passing}
 use Rattle.access.specs.Networks.{networkIn, count-cells}
+use Rattle.access.specs.Pairs.{NotAlone}
 use Rattle.words.specs.Regions.{region}
 use Rattle.passes.specs.Building.{accessOf, transitIn, membersIn}
+use Rattle.passes.specs.BuildingLaws.{access-two}
 use Rattle.passes.specs.Passed.{Needed}
+use Rattle.passes.proofs.Listing.{flagged-member}
 
 module _ (b e c : Bytes) (grid : Grid) where
   abbrev cs : List Cell
@@ -37,7 +40,8 @@ module _ (b e c : Bytes) (grid : Grid) where
 
   -- Region k has the transit nodes.
   pub members-transit : (n : ℕ) → n ≡ nodeCount b → (k : ℕ) (w : List ℕ)
-      → ((a : ℕ) → List·Memᴰ a (membersIn n k w) → List·Memᴰ a (transitIn b e c grid)) → ((a : ℕ) → List·Memᴰ a (transitIn b e c grid) → List·Memᴰ a (membersIn n k w))
+      → ((a : ℕ) → List·Memᴰ a (membersIn n k w) → List·Memᴰ a (transitIn b e c grid))
+      → ((a : ℕ) → List·Memᴰ a (transitIn b e c grid) → List·Memᴰ a (membersIn n k w))
       → membersIn n k w ≡ transitIn b e c grid
   unfolding transitIn transitNodes membersOf
   members-transit n size k w i j =
@@ -58,3 +62,9 @@ module _ (b e c : Bytes) (grid : Grid) where
         let (x, j, q) = map→ at (firsts cs of) i in
         let k = range→ 0 (length cs) x (filter→ (firstOfCell cs) (upTo (length cs)) j .0) in
         record { by = x; below = omega (arith, count-cells b n size grid); listed = member→ a (at x) (rw q at f) }
+
+    -- The transit nodes are not alone.
+    pub transit-alone : Ground b e c grid → (k : ℕ) (w : List ℕ) → membersIn n k w ≡ transitIn b e c grid → NotAlone n k w
+    transit-alone ground k w q v f =
+        let d = transit-needed v (rw q at (flagged-member n k w v .0 f)) in
+        access-two b e c grid n size ground (d .by) v (d .listed)

@@ -15,7 +15,8 @@ use Rattle.bitset.specs.Members.{membersOf}
 
 -- The access nodes of the cell of u, rising.
 unfoldable pub accessOf : Bytes → Bytes → Bytes → Grid → ℕ → List ℕ
-accessOf nodes edges closed grid u = accessNodes (distance (networkIn nodes edges closed)) (gridOf grid) (cellsIn grid nodes) (openIn edges closed) (cellAt (cellsIn grid nodes) u)
+accessOf nodes edges closed grid u = accessNodes (distance (networkIn nodes edges closed)) (gridOf grid) (cellsIn grid nodes) (openIn edges closed)
+    (cellAt (cellsIn grid nodes) u)
 
 -- The transit nodes, rising.
 unfoldable pub transitIn : Bytes → Bytes → Bytes → Grid → List ℕ
@@ -23,7 +24,8 @@ transitIn nodes edges closed grid = transitNodes (nodeCount nodes) (accessLists 
 
 -- The bytes of the list of u.
 unfoldable pub listIn : Bytes → Bytes → Bytes → Grid → ℕ → Bytes
-listIn nodes edges closed grid u = listBytes (distance (networkIn nodes edges closed)) (transitIn nodes edges closed grid) u (accessOf nodes edges closed grid u)
+listIn nodes edges closed grid u = listBytes (distance (networkIn nodes edges closed)) (transitIn nodes edges closed grid) u
+    (accessOf nodes edges closed grid u)
 
 -- The members of region k of the working words, rising.
 abbrev pub membersIn : ℕ → ℕ → List ℕ → List ℕ

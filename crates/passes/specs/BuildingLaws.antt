@@ -9,10 +9,11 @@ use Rattle.model.specs.Lists.{any, concat, concatMap, member, range, upTo}
 use Rattle.model.specs.Bytes.{Bytes}
 use Rattle.model.specs.Network.{Network, nodeCount, arcs, distance}
 use Rattle.model.specs.Grid.{Cell, cellAt}
-use Rattle.model.specs.Access.{accessNodes, accessLists, transitNodes}
+use Rattle.model.specs.Access.{crossings, accessNodes, accessLists, transitNodes}
 use Rattle.model.specs.Oracle.{coded, valueBytes, listBytes, accessBytes, tableBytes, startSize, starts}
 use Rattle.theory.specs.RangeLaws.{length-range}
-use Rattle.theory.specs.Members.{length-filter, filter→, →filter, →any, →member, →upTo, range→, getD-mem}
+use Rattle.theory.specs.Tests.{both}
+use Rattle.theory.specs.Members.{length-filter, filter→, →filter, →any, member→, →member, →upTo, range→, getD-mem}
 use Rattle.theory.specs.Built.{getD-map-in}
 use Rattle.algorithms.specs.Rounds.{distanceWords}
 use Rattle.bitset.specs.Bits.{isIn}
@@ -20,14 +21,15 @@ use Rattle.bitset.specs.Members.{membersOf}
 use Rattle.arcs.specs.Arcs.{arcsIn}
 use Rattle.grid.specs.Stored.{gridOf}
 use Rattle.grid.specs.declared.Grid.{Grid}
-use Rattle.crossing.specs.Ground.{cellsIn}
+use Rattle.crossing.specs.Ground.{cellsIn, openIn, Ground}
 use Rattle.access.specs.Networks.{networkIn, count-order, count-cells}
+use Rattle.access.specs.Pairs.{crossing-two}
 use Rattle.words.specs.Regions.{region, own, transit}
 use Rattle.emit.specs.Members.{Among}
 use Rattle.emit.specs.Parts.{listBytesOf, rowBytes}
 use Rattle.emit.specs.PartLaws.{list-values, row-values}
 use Rattle.passes.specs.Building.{accessOf, transitIn, listIn, membersIn}
-use Rattle.passes.specs.Placed.{whole}
+use Rattle.passes.specs.Stands.{whole}
 
 -- Lists made node by node.
 map-range-same : {A : Type 0} (f g : ℕ → A) (s n : ℕ) → ((i : ℕ) → i < n → f (s + i) ≡ g (s + i)) → map f (range s n) ≡ map g (range s n)
@@ -43,7 +45,8 @@ map-upTo : {A : Type 0} (n : ℕ) (f g : ℕ → A) → ((i : ℕ) → i < n →
 map-upTo n f g h = map-range-same f g 0 n (λ i l. rw zero-add (h i l))
 
 -- Nodes of one cell have the same access nodes.
-pub same-access : (b e c : Bytes) (grid : Grid) (u v : ℕ) → cellAt (cellsIn grid b) u ≡ cellAt (cellsIn grid b) v → accessOf b e c grid u ≡ accessOf b e c grid v
+pub same-access : (b e c : Bytes) (grid : Grid) (u v : ℕ) → cellAt (cellsIn grid b) u ≡ cellAt (cellsIn grid b) v
+    → accessOf b e c grid u ≡ accessOf b e c grid v
 unfolding accessOf
 same-access b e c grid u v q = rw q
 
@@ -61,6 +64,14 @@ module _ (b e c : Bytes) (grid : Grid) (n : ℕ) (size : n ≡ nodeCount b) wher
   unfolding accessOf accessNodes
   access-below u v m = omega (arith, count-cells b n size grid, range→ 0 (length cs) v (filter→ _ (upTo (length cs)) m .0))
 
+  -- And there is another.
+  pub access-two : Ground b e c grid → (u v : ℕ) → List·Memᴰ v (accessOf b e c grid u) → 2 ≤ n
+  unfolding accessOf accessNodes
+  access-two ground u v m =
+      let inner = crossings cs (openIn e c) (gridOf grid .inner) (cellAt cs u) in
+      let i = member→ v inner (both {b = member v inner} (filter→ _ (upTo (length cs)) m .1) .0) in
+      omega (arith, size, crossing-two (nodeCount b) e c (ground .edges-rule) cs (gridOf grid .inner) (cellAt cs u) i)
+
   pub access-few : (u : ℕ) → length (accessOf b e c grid u) ≤ n
   unfolding accessOf accessNodes
   access-few u =
@@ -77,7 +88,8 @@ module _ (b e c : Bytes) (grid : Grid) (n : ℕ) (size : n ≡ nodeCount b) wher
 
   list-of : (u : ℕ) → u < n → getD (accessLists net (gridOf grid)) u [] ≡ accessOf b e c grid u
   unfolding accessLists cellAt accessOf
-  list-of u h = getD-map-in (accessNodes (distance net) (gridOf grid) cs (net .edges)) cs u (record { column = 0; row = 0 }) [] (rw (count-cells b n size grid) h)
+  list-of u h = getD-map-in (accessNodes (distance net) (gridOf grid) cs (net .edges)) cs u (record { column = 0; row = 0 }) []
+      (rw (count-cells b n size grid) h)
 
   pub count-lists : length (accessLists net (gridOf grid)) ≡ n
   unfolding accessLists
@@ -98,15 +110,18 @@ module _ (b e c : Bytes) (grid : Grid) (n : ℕ) (size : n ≡ nodeCount b) wher
   distance-words u = rw (count-order b n size e c)
 
   -- u has the access nodes of the cell of x.
-  pub list-words : (w : List ℕ) (u x : ℕ) → membersIn n transit w ≡ transitIn b e c grid → accessOf b e c grid x ≡ accessOf b e c grid u → membersIn n own w ≡ accessOf b e c grid x
+  pub list-words : (w : List ℕ) (u x : ℕ) → membersIn n transit w ≡ transitIn b e c grid → accessOf b e c grid x ≡ accessOf b e c grid u
+      → membersIn n own w ≡ accessOf b e c grid x
       → listBytesOf (distanceWords (arcsIn e c) n u) (membersIn n transit w) (membersIn n own w) ≡ listIn b e c grid u
   unfolding listIn
-  list-words w u x ts same os = rw (ts, os, same) (list-values (distance net) u n (distanceWords (arcsIn e c) n u) (transitIn b e c grid) (accessOf b e c grid u) (distance-words u) (access-below u))
+  list-words w u x ts same os = rw (ts, os, same) (list-values (distance net) u n (distanceWords (arcsIn e c) n u) (transitIn b e c grid)
+      (accessOf b e c grid u) (distance-words u) (access-below u))
 
   -- ---- the sets in the regions
 
   -- Each access node stands among the transit nodes.
-  pub among : (w : List ℕ) (u : ℕ) → u < n → membersIn n transit w ≡ transitIn b e c grid → membersIn n own w ≡ accessOf b e c grid u → Among n (region n own w) (region n transit w)
+  pub among : (w : List ℕ) (u : ℕ) → u < n → membersIn n transit w ≡ transitIn b e c grid → membersIn n own w ≡ accessOf b e c grid u
+      → Among n (region n own w) (region n transit w)
   unfolding membersOf
   among w u h ts os v l f =
       let m : List·Memᴰ v (accessOf b e c grid u) = subst (List·Memᴰ v) os (→filter (isIn (region n own w)) (upTo n) (→upTo n v l) f) in
@@ -123,7 +138,8 @@ module _ (b e c : Bytes) (grid : Grid) (n : ℕ) (size : n ≡ nodeCount b) wher
       (λ u h. unfold listIn in ap (listBytes (distance net) (transitIn b e c grid) u) (list-of u h))))
 
   -- Rows of the times from each transit node, the columns being the transit nodes.
-  pub table-words : (l : List ℕ) → l ≡ transitIn b e c grid → concatMap (λ u. rowBytes (distanceWords (arcsIn e c) n u) l) l ≡ tableBytes (distance net) (transitIn b e c grid)
+  pub table-words : (l : List ℕ) → l ≡ transitIn b e c grid → concatMap (λ u. rowBytes (distanceWords (arcsIn e c) n u) l) l ≡ tableBytes (distance net)
+      (transitIn b e c grid)
   unfolding tableBytes
   table-words l q =
       let t = transitIn b e c grid in

@@ -1,6 +1,6 @@
 pub mod Building
 pub mod Covered
-pub mod Placed
+pub mod Stands
 pub mod BuildingLaws
 pub mod Passed
 pub mod Sought

@@ -4,7 +4,7 @@ ghost use Prim.Native.Nat.{_<_, _≤_};
 ghost use Rattle.model.specs.Network.{maxNodes, nodeCount};
 ghost use Rattle.algorithms.specs.Rounds.{distanceWords};
 ghost use Rattle.arcs.specs.Arcs.{arcsIn};
-ghost use Rattle.index.specs.Index.{Roads};
+ghost use Rattle.index.specs.Index.{IndexedEdges};
 ghost use Rattle.crossing.specs.Ground.{Ground};
 ghost use Rattle.words.specs.Regions.{regionAt, own, transit, timesIn, searchWords};
 ghost use Rattle.words.specs.Frames.{Enough, KeptFrom};
@@ -31,7 +31,7 @@ pub fn own_access(
     work: &mut [u32],
 )
     requires { ⌜ Ground (now nodes) (now edges) (now closed) grid × (n ≡ nodeCount (now nodes)) × (n ≤ maxNodes) × (u < n) × Enough n (now work) ⌝ }
-    requires { ⌜ Roads (now edges) (now closed) n (now work) ⌝ }
+    requires { ⌜ IndexedEdges (now edges) (now closed) n (now work) ⌝ }
     ensures members { λ _. ⌜ membersIn n own (now (work .exit)) ≡ accessOf (now (nodes .entry)) (now (edges .entry)) (now (closed .entry)) grid u ⌝ }
     ensures others { λ _. ⌜ KeptFrom (regionAt n transit) (now (work .entry)) (now (work .exit)) ⌝ }
 {
@@ -50,7 +50,7 @@ pub fn own_wanted(
     work: &mut [u32],
 ) -> usize
     requires { ⌜ Ground (now nodes) (now edges) (now closed) grid × (n ≡ nodeCount (now nodes)) × (n ≤ maxNodes) × (u < n) × Enough n (now work) ⌝ }
-    requires { ⌜ Roads (now edges) (now closed) n (now work) ⌝ }
+    requires { ⌜ IndexedEdges (now edges) (now closed) n (now work) ⌝ }
     ensures members { λ _. ⌜ membersIn n own (now (work .exit)) ≡ accessOf (now (nodes .entry)) (now (edges .entry)) (now (closed .entry)) grid u ⌝ }
     ensures sought { λ left. ⌜ Sought n left (now (work .exit)) ⌝ }
     ensures others { λ _. ⌜ KeptFrom (regionAt n transit) (now (work .entry)) (now (work .exit)) ⌝ }
@@ -64,8 +64,10 @@ pub fn own_wanted(
 // Searches from v for these `left` access nodes: the times that it leaves give the list of v. A list without access nodes has no times, so
 // nothing is searched for it.
 pub fn search_own(edges: &[u8], closed: &[u8], n: usize, v: usize, left: usize, work: &mut [u32])
-    requires { ⌜ (n ≤ maxNodes) × (v < n) × Enough n (now work) × Sought n left (now work) × Roads (now edges) (now closed) n (now work) ⌝ }
-    ensures list { λ _. ⌜ listBytesOf (timesIn n (now (work .exit))) (membersIn n transit (now (work .exit))) (membersIn n own (now (work .exit))) ≡ listBytesOf (distanceWords (arcsIn (now (edges .entry)) (now (closed .entry))) n v) (membersIn n transit (now (work .entry))) (membersIn n own (now (work .entry))) ⌝ }
+    requires { ⌜ (n ≤ maxNodes) × (v < n) × Enough n (now work) × Sought n left (now work) × IndexedEdges (now edges) (now closed) n (now work) ⌝ }
+    ensures list { λ _. ⌜ listBytesOf (timesIn n (now (work .exit))) (membersIn n transit (now (work .exit))) (membersIn n own (now (work .exit))) ≡ listBytesOf
+        (distanceWords (arcsIn (now (edges .entry)) (now (closed .entry))) n v) (membersIn n transit (now (work .entry))) (membersIn n own (now (work .entry)))
+        ⌝ }
     ensures others { λ _. ⌜ KeptFrom (searchWords n) (now (work .entry)) (now (work .exit)) ⌝ }
 {
     if 0 < left {

@@ -1,10 +1,10 @@
 // The transit nodes, and how many access nodes each node has: a pass over the cells, each by its first node.
 ghost use mathlib.Core.Path.{_≡_};
 ghost use mathlib.Core.Bool.{cond};
-ghost use Prim.Native.Nat.{ℕ, _+_, _*_, _<_, _≤_};
-ghost use lib.ListN.{length, getD, set, drop};
+ghost use Prim.Native.Nat.{ℕ, _+_, _<_, _≤_};
+ghost use lib.ListN.{length, getD, set};
 ghost use Rattle.model.specs.Network.{maxNodes, nodeCount};
-ghost use Rattle.index.specs.Index.{Roads};
+ghost use Rattle.index.specs.Index.{IndexedEdges};
 ghost use Rattle.grid.specs.Stored.{Over};
 ghost use Rattle.crossing.specs.Beside.{CellSquare};
 ghost use Rattle.crossing.specs.Cells.{sameCell};
@@ -39,7 +39,8 @@ fn put_count(
     work: &mut [u32],
 )
     requires { ⌜ CellSquare (now nodes) grid u square × (n ≡ nodeCount (now nodes)) × (n ≤ maxNodes) × (v < n) × (k ≤ n) × Enough n (now work) ⌝ }
-    ensures { λ _. ⌜ now (work .exit) ≡ cond (sameCell (cellsIn grid (now (nodes .entry))) u v) (set (now (work .entry)) (regionAt n counts + v) k) (now (work .entry)) ⌝ }
+    ensures { λ _. ⌜ now (work .exit) ≡ cond (sameCell (cellsIn grid (now (nodes .entry))) u v) (set (now (work .entry)) (regionAt n counts + v) k)
+        (now (work .entry)) ⌝ }
 {
     if beside(nodes, square, v) {
         let a = region_at(n, COUNTS);
@@ -50,7 +51,8 @@ fn put_count(
 // Stores k for each node of the cell of u.
 fn put_counts(nodes: &[u8], grid: Grid, n: usize, u: usize, k: usize, work: &mut [u32])
     requires { ⌜ Over grid (now nodes) × (n ≡ nodeCount (now nodes)) × (n ≤ maxNodes) × (u < n) × (k ≤ n) × Enough n (now work) ⌝ }
-    ensures counted { λ _. ⌜ ((v : ℕ) → v < n → getD (now (work .exit)) (regionAt n counts + v) 0 ≡ cond (sameCell (cellsIn grid (now (nodes .entry))) u v) k (getD (now (work .entry)) (regionAt n counts + v) 0)) ⌝ }
+    ensures counted { λ _. ⌜ ((v : ℕ) → v < n → getD (now (work .exit)) (regionAt n counts + v) 0 ≡ cond (sameCell (cellsIn grid (now (nodes .entry))) u v) k
+        (getD (now (work .entry)) (regionAt n counts + v) 0)) ⌝ }
     ensures others { λ _. ⌜ OnlyIn (regionAt n counts) n (now (work .entry)) (now (work .exit)) ⌝ }
 {
     let square = cell_square(nodes, grid, u);
@@ -72,7 +74,7 @@ fn pass_cell(
     work: &mut [u32],
 )
     requires { ⌜ Ground (now nodes) (now edges) (now closed) grid × (n ≡ nodeCount (now nodes)) × (n ≤ maxNodes) × (u < n) × Enough n (now work) ⌝ }
-    requires { ⌜ CellsPassed (now nodes) (now edges) (now closed) grid n u (now work) × Roads (now edges) (now closed) n (now work) ⌝ }
+    requires { ⌜ CellsPassed (now nodes) (now edges) (now closed) grid n u (now work) × IndexedEdges (now edges) (now closed) n (now work) ⌝ }
     ensures passed { λ _. ⌜ CellsPassed (now (nodes .entry)) (now (edges .entry)) (now (closed .entry)) grid n (u + 1) (now (work .exit)) ⌝ }
     ensures others { λ _. ⌜ KeptFrom (indexAt n) (now (work .entry)) (now (work .exit)) ⌝ }
 {
@@ -94,9 +96,10 @@ pub fn mark_transit(
     work: &mut [u32],
 )
     requires { ⌜ Ground (now nodes) (now edges) (now closed) grid × (n ≡ nodeCount (now nodes)) × (n ≤ maxNodes) × Enough n (now work) × (1 ≤ n) ⌝ }
-    requires { ⌜ Roads (now edges) (now closed) n (now work) ⌝ }
+    requires { ⌜ IndexedEdges (now edges) (now closed) n (now work) ⌝ }
     ensures members { λ _. ⌜ membersIn n transit (now (work .exit)) ≡ transitIn (now (nodes .entry)) (now (edges .entry)) (now (closed .entry)) grid ⌝ }
-    ensures counted { λ _. ⌜ ((v : ℕ) → v < n → getD (now (work .exit)) (regionAt n counts + v) 0 ≡ length (accessOf (now (nodes .entry)) (now (edges .entry)) (now (closed .entry)) grid v)) ⌝ }
+    ensures counted { λ _. ⌜ ((v : ℕ) → v < n → getD (now (work .exit)) (regionAt n counts + v) 0 ≡ length
+        (accessOf (now (nodes .entry)) (now (edges .entry)) (now (closed .entry)) grid v)) ⌝ }
     ensures others { λ _. ⌜ KeptFrom (indexAt n) (now (work .entry)) (now (work .exit)) ⌝ }
 {
     clear(work, n, TRANSIT);

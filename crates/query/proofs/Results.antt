@@ -3,7 +3,7 @@ use Prim.Native.Nat.{ℕ, _*_}
 use mathlib.Core.Path.{_≡_, refl, sym, _∙_}
 use mathlib.Core.Bool.{true, cond}
 use mathlib.Core.List.{List, []}
-use lib.ListN.{length, drop}
+use lib.ListN.{length}
 use lib.Dec.{eqb}
 use borrow.Author.Tests.{ne-eqb}
 use Rattle.model.specs.Bytes.{Bytes}
@@ -66,7 +66,8 @@ module _ (o : Bytes) (s t : ℕ) (work : List ℕ) (r : ℕ) (e : r ≡ firstBro
         → KeptFrom (wordsNeeded o) work mid → work′ ≡ cleared (wordsNeeded o) mid → WayCall o s t work out route work′ out′
     way-given work′ mid route out′ z g d c = record {
       result = rw last (g .result);
-      words = rw last (c ∙ unfold roomRule in last-clears o work mid d 15 (unfold clears in refl) (outputTooSmall (2 * length (way (network o) s t)) (length out)));
+      words = rw last (c ∙ unfold roomRule in last-clears o work mid d 15 (unfold clears in refl)
+          (outputTooSmall (2 * length (way (network o) s t)) (length out)));
       bytes = rw last (g .bytes);
     }
       where

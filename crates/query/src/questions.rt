@@ -1,6 +1,5 @@
 // The questions over an opened oracle: many answers after one check. What each hands back is what the call of its name does.
 ghost use mathlib.Core.Path.{_≡_};
-ghost use lib.ListN.{drop};
 ghost use Rattle.model.specs.Lists.{concatMap};
 ghost use Rattle.model.specs.Bytes.{bytes16};
 ghost use Rattle.model.specs.Network.{network};
@@ -72,7 +71,8 @@ pub fn far(o: &[u8], s: u32, t: u32, work: &[u32]) -> Answer
 pub fn way(o: &[u8], s: u32, t: u32, work: &mut [u32], out: &mut [u8]) -> Route
     requires { ⌜ Opened (now o) (now work) ⌝ }
     ensures result { λ r. ⌜ r ≡ routeAfter (wayRefusal (now (o .entry)) s t (now (work .entry)) (now (out .entry))) (way (network (now (o .entry))) s t) ⌝ }
-    ensures bytes { λ _. ⌜ now (out .exit) ≡ outputAfter (wayRefusal (now (o .entry)) s t (now (work .entry)) (now (out .entry))) (concatMap bytes16 (way (network (now (o .entry))) s t)) (now (out .entry)) ⌝ }
+    ensures bytes { λ _. ⌜ now (out .exit) ≡ outputAfter (wayRefusal (now (o .entry)) s t (now (work .entry)) (now (out .entry)))
+        (concatMap bytes16 (way (network (now (o .entry))) s t)) (now (out .entry)) ⌝ }
     ensures opened { λ _. ⌜ Opened (now (o .entry)) (now (work .exit)) ⌝ }
     ensures rest { λ _. ⌜ KeptFrom (wordsNeeded (now (o .entry))) (now (work .entry)) (now (work .exit)) ⌝ }
 {

@@ -28,10 +28,12 @@ oracleBodyRules n grid transit access table =
 
 -- These are the rules of a file past 1 and 2, and of an oracle past 7.
 pub network-rules : (edition entries : ℕ) (f : Bytes)
-    → networkRules edition entries f ≡ rule 1 (contentsBroken edition entries f) ∷ (rule 2 (bodiesBroken entries f) ∷ networkBodyRules (nodeBody f) (edgeBody f) (closedBody f))
+    → networkRules edition entries f ≡ rule 1 (contentsBroken edition entries f) ∷
+    (rule 2 (bodiesBroken entries f) ∷ networkBodyRules (nodeBody f) (edgeBody f) (closedBody f))
 unfolding networkRules
 network-rules edition entries f = refl
 
-pub shape-rules : (o : Bytes) → shapeRules o ≡ networkRules oracleEdition oracleEntries o ++ oracleBodyRules (nodeCount (nodeBody o)) (gridBody o) (transitBody o) (accessBody o) (tableBody o)
+pub shape-rules : (o : Bytes) → shapeRules o ≡ networkRules oracleEdition oracleEntries o ++ oracleBodyRules (nodeCount (nodeBody o)) (gridBody o)
+    (transitBody o) (accessBody o) (tableBody o)
 unfolding shapeRules
 shape-rules o = refl

@@ -9,7 +9,8 @@ use lib.Dec.{leb, ltb}
 use borrow.Author.Tests.{ltb-true, ltb-false, le-leb, lt-leb}
 use Rattle.model.specs.Lists.{any, upTo}
 use Rattle.model.specs.Bytes.{Bytes, word16, numberSize}
-use Rattle.model.specs.Oracle.{countSize, entrySize, listSize, listStart, listCount, listPart, accessAt, accessEntry, accessList, indexes, valueBroken, entryBroken, listBroken}
+use Rattle.model.specs.Oracle.{countSize, entrySize, listSize, listStart, listCount, listPart, accessAt, accessEntry, accessList, indexes, valueBroken}
+use Rattle.model.specs.Oracle.{entryBroken, listBroken}
 use Rattle.theory.specs.RangeLaws.{rest, rest-all, rest-step, rest-end}
 use Rattle.rules.proofs.Climb.{risingFrom, rising-from}
 

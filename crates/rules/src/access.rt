@@ -63,7 +63,8 @@ fn lists_gapless(n: usize, b: &[u8]) -> bool
 // The entry at `at` has an index below `least` or not below T, or a value out of range.
 fn entry_broken(transit: usize, least: usize, b: &[u8], at: usize) -> bool
     requires { ⌜ at + entrySize ≤ length (now b) ⌝ }
-    ensures { λ r. ⌜ r ≡ ltb (word16 (now (b .entry)) at) least || (leb transit (word16 (now (b .entry)) at) || valueBroken (now (b .entry)) (at + numberSize)) ⌝ }
+    ensures { λ r. ⌜ r ≡ ltb (word16 (now (b .entry)) at) least || (leb transit (word16 (now (b .entry)) at) || valueBroken (now (b .entry)) (at + numberSize))
+        ⌝ }
 {
     let index = read16(b, at) as usize;
     if index < least {

@@ -4,7 +4,7 @@ use native.Mathlib.Omega.{arith}
 use mathlib.Core.List.{List}
 use Rattle.model.specs.Bytes.{Bytes}
 use Rattle.model.specs.Walk.{Arc}
-use Rattle.index.specs.Index.{Roads}
+use Rattle.index.specs.Index.{IndexedEdges}
 use Rattle.index.proofs.Laid as laid
 use Rattle.arcs.proofs.Kept as walk
 use Rattle.words.specs.Regions.{indexAt, searchWords}
@@ -17,7 +17,7 @@ module _ (b closed : Bytes) (n : ℕ) (w w′ : List ℕ) (kept : KeptFrom (sear
   same : KeptFrom (indexAt n) w w′
   same = kept-more (searchWords n) (indexAt n) w w′ (omega arith) kept
 
-  pub roads-kept : Roads b closed n w → Roads b closed n w′
+  pub roads-kept : IndexedEdges b closed n w → IndexedEdges b closed n w′
   roads-kept = laid.roads-kept b closed n w w′ same
 
   pub passes-kept : (u : ℕ) (done : List Arc) (a : ArcAt) → PassedArcs b closed n w u done a → PassedArcs b closed n w′ u done a

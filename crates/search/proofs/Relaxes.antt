@@ -10,7 +10,7 @@ use Rattle.model.specs.Walk.{Arc}
 use Rattle.algorithms.specs.Dijkstra.{at, relax, relax-all, relax-all-le, relax-all-same, relax-append}
 use Rattle.arcs.specs.Arcs.{arcsIn, leaving}
 use Rattle.heap.specs.Queue.{lowered}
-use Rattle.index.specs.Index.{Roads}
+use Rattle.index.specs.Index.{IndexedEdges}
 use Rattle.words.specs.Frames.{KeptFrom}
 use Rattle.search.specs.Holds.{Holds, Relaxed, SettledWithin}
 use Rattle.search.proofs.Cursors.{passes-kept, roads-kept}
@@ -34,11 +34,12 @@ pub record RelaxedArcs (b closed : Bytes) (n e u d : ℕ) (w₀ : List ℕ) (a :
   pub passes : PassedArcs b closed n w u done a
   pub relaxed : Relaxed n e (relax-all d done (timesIn n (frontIn n w₀))) (frontIn n w₀) (frontIn n w) k
   pub within : SettledWithin n d (frontIn n w)
-  pub roads : Roads b closed n w
+  pub roads : IndexedEdges b closed n w
   pub others : KeptFrom (searchWords n) w₀ w
 
 module _ (b closed : Bytes) (n e u d : ℕ) (w₀ : List ℕ) where
-  pub passed-first : (k : ℕ) (a : ArcAt) → Holds n k e (frontIn n w₀) → SettledWithin n d (frontIn n w₀) → Roads b closed n w₀ → PassedArcs b closed n w₀ u [] a
+  pub passed-first : (k : ℕ) (a : ArcAt) → Holds n k e (frontIn n w₀) → SettledWithin n d (frontIn n w₀) → IndexedEdges b closed n w₀
+      → PassedArcs b closed n w₀ u [] a
       → RelaxedArcs b closed n e u d w₀ a w₀ k
   unfolding relax-all
   passed-first k a h s r p = record {
@@ -51,7 +52,8 @@ module _ (b closed : Bytes) (n e u d : ℕ) (w₀ : List ℕ) where
   }
 
   -- An arc is relaxed: ys come back for the first 3 n words of w.
-  module _ (a : ArcAt) (k : ℕ) (w ys : List ℕ) (g : RelaxedArcs b closed n e u d w₀ a w k) (long : searchWords n ≤ length w) (same : length ys ≡ length (take (searchWords n) w)) where
+  module _ (a : ArcAt) (k : ℕ) (w ys : List ℕ) (g : RelaxedArcs b closed n e u d w₀ a w k) (long : searchWords n ≤ length w)
+      (same : length ys ≡ length (take (searchWords n) w)) where
     abbrev whole : List ℕ
     whole = ys ++ drop (searchWords n) w
 
@@ -61,7 +63,7 @@ module _ (b closed : Bytes) (n e u d : ℕ) (w₀ : List ℕ) where
     pub turn-passes : PassedArcs b closed n whole u (g .done) a
     turn-passes = passes-kept b closed n w whole kept u (g .done) a (g .passes)
 
-    pub turn-roads : Roads b closed n whole
+    pub turn-roads : IndexedEdges b closed n whole
     turn-roads = roads-kept b closed n w whole kept (g .roads)
 
     module _ (r : ℕ) (t : Relaxed n e (lowered (timesIn n (frontIn n w)) (a .to) (d + a .cost)) (frontIn n w) ys r) where
@@ -76,9 +78,21 @@ module _ (b closed : Bytes) (n e u d : ℕ) (w₀ : List ℕ) where
       passed-next a′ s = record {
         done = g .done ++ arcHere u a ∷ [];
         passes = s .passes (g .done) turn-passes;
-        relaxed = rw (front-is w ys (searchWords n) long same) (record { holds = t .holds; times = more; order = t .order ∙ g .relaxed .order; settled = t .settled ∙ g .relaxed .settled });
+        relaxed = rw (front-is w ys (searchWords n) long same) (record {
+          holds = t .holds;
+          times = more;
+          order = t .order
+              ∙ g .relaxed .order;
+          settled = t .settled ∙ g .relaxed .settled;
+        });
         within = rw (front-is w ys (searchWords n) long same)
-            (λ v l z. omega (arith, ap (λ (x : List ℕ). at x v) one, relax-all-le d (arcHere u a ∷ []) (timesIn n (frontIn n w)) v, g .within v l (rw (t .settled) at z)));
+            (λ v l z. omega (
+              arith,
+              ap (λ (x : List ℕ). at x v) one,
+              relax-all-le d (arcHere u a ∷ []) (timesIn n (frontIn n w)) v,
+              g .within v l
+                  (rw (t .settled) at z),
+            ));
         roads = turn-roads;
         others = kept ∙ g .others;
       }

@@ -24,7 +24,8 @@ use Rattle.search.specs.Order.{Distinct, settleOrder}
 -- ---- a round: u is settled, from w to w₁
 module _ (n k e u : ℕ) (w w₁ : List ℕ) (t : Settles n k e w w₁ u) where
   pub settled-within : SettledFirst n w → SettledWithin n (at (timesIn n w₁) u) w₁
-  settled-within f v i s = rw (t .times) (⊎-elim (λ (q : v ≡ u). omega (arith, ap (at (timesIn n w)) q)) (λ h. f u (t .near .inside) (t .near .fresh) v i h) (was v (rw (t .settled) at s)))
+  settled-within f v i s = rw (t .times) (⊎-elim (λ (q : v ≡ u). omega (arith, ap (at (timesIn n w)) q)) (λ h. f u (t .near .inside) (t .near .fresh) v i h)
+      (was v (rw (t .settled) at s)))
     where
       was : (x : ℕ) → 0 < at (set (settledIn n w) u 1) x → (x ≡ u) ⊎ (0 < at (settledIn n w) x)
       was = at-set (λ x f. 0 < f → (x ≡ u) ⊎ (0 < at (settledIn n w) x)) (settledIn n w) u 1 (λ h. inl refl) (λ x h. inr h)
@@ -68,7 +69,8 @@ module _ (b closed : Bytes) (n s : ℕ) (few : n ≤ maxNodes) (s-in : s < n) (h
     next w′ r t = record {
       holds = t .holds;
       state = rw (t .times, t .settled, t .order)
-          (state-turn arcs n s (arcs-within n b h closed) s-in (timesIn n w) (settledIn n w) (settleOrder n e w) (g .state) (t .node) (t .near) (leaving (t .node) arcs) (leaving-out (t .node) arcs));
+          (state-turn arcs n s (arcs-within n b h closed) s-in (timesIn n w) (settledIn n w) (settleOrder n e w) (g .state) (t .node) (t .near)
+          (leaving (t .node) arcs) (leaving-out (t .node) arcs));
       once = rw (t .order) (λ m. omega (arith, g .state .kept .settled (t .node) m .1, t .near .fresh), g .once);
     }
 
@@ -81,7 +83,8 @@ module _ (b closed : Bytes) (n s : ℕ) (few : n ≤ maxNodes) (s-in : s < n) (h
         → Found arcs n s (timesIn n w′) (orderIn n e w′) × (e ≤ n) × Distinct (orderIn n e w′)
     last z w′ p q =
         rw (p, q) (
-          state-found arcs n s (arcs-within n b h closed) s-in (timesIn n w) (settledIn n w) (settleOrder n e w) (g .state) maxSeconds (arcs-cost n b h closed) (omega arith) (all-settled z),
+          state-found arcs n s (arcs-within n b h closed) s-in (timesIn n w) (settledIn n w) (settleOrder n e w) (g .state) maxSeconds (arcs-cost n b h closed)
+              (omega arith) (all-settled z),
           g .holds .queue .room,
           g .once,
         )

@@ -61,7 +61,8 @@ pub record Wanting (arcs : List Arc) (n s k e left : ℕ) (want w : List ℕ) : 
   pub few : lacking want (settledIn n w) ≤ left
 
 -- No node is settled. The words w are those that were lent, w₁ those in which the search has begun.
-pub wanting-begun : (arcs : List Arc) (n s k left : ℕ) (w w₁ : List ℕ) → KeptFrom (searchWords n) w w₁ → Standing arcs n s k n (frontIn n w₁) → settledIn n (frontIn n w₁) ≡ replicate n 0
+pub wanting-begun : (arcs : List Arc) (n s k left : ℕ) (w w₁ : List ℕ) → KeptFrom (searchWords n) w w₁ → Standing arcs n s k n (frontIn n w₁)
+    → settledIn n (frontIn n w₁) ≡ replicate n 0
     → lacking (wantIn n w) (replicate n 0) ≤ left → Wanting arcs n s k n left (wantIn n w₁) (frontIn n w₁)
 unfolding wantIn
 wanting-begun arcs n s k left w w₁ p g q h = record { standing = g; few = rw (q, p) h }
@@ -99,7 +100,8 @@ module _ (b closed : Bytes) (n s : ℕ) (small : n ≤ maxNodes) (s-in : s < n) 
             (last b closed n s small s-in h k e w (g .standing) y w′ p q .0) want
         pick (inr y) =
             rw (p, q)
-            (state-stopped arcs n s (arcs-within n b h closed) s-in (arcs-positive n b h closed) want (timesIn n w) done (settleOrder n e w) (g .standing .state)
+            (state-stopped arcs n s (arcs-within n b h closed) s-in (arcs-positive n b h closed) want (timesIn n w) done (settleOrder n e w)
+            (g .standing .state)
             (λ v i l. lacking-none want done (omega (arith, g .few)) v (omega (arith, g .standing .state .inv .flags)) l))
 
   -- A round in the lent words, from w to w′. The wanted set stands behind the words of the search, where nothing is written.
@@ -120,10 +122,13 @@ module _ (b closed : Bytes) (n s : ℕ) (small : n ≤ maxNodes) (s-in : s < n) 
 
     pub turn : (left′ : ℕ) → left′ ≡ left - at (wantIn n w′) (low (getD w′ (n + (e - 1)) 0)) → Wanting arcs n s r (e - 1) left′ (wantIn n w₀) (frontIn n w′)
     turn left′ q =
-        wanting-next k e left (wantIn n w₀) (frontIn n w) g (frontIn n w′) r t left′ (want-most n w₀ (t .node) (t .near .inside)) (rw (node-read, same-want) at q)
+        wanting-next k e left (wantIn n w₀) (frontIn n w) g (frontIn n w′) r t left′ (want-most n w₀ (t .node) (t .near .inside))
+        (rw (node-read, same-want) at q)
 
   -- The end, where the search began in w₁ and has come to w.
-  pub stop-wanted : (k e left : ℕ) (w₀ w₁ : List ℕ) → KeptFrom (searchWords n) w₀ w₁ → (w : List ℕ) → Wanting arcs n s k e left (wantIn n w₁) w → (k ≡ 0) ⊎ (left ≡ 0)
-      → (w′ : List ℕ) → timesIn n w′ ≡ timesIn n w → orderIn n e w′ ≡ settleOrder n e w → Stopped arcs n s (wantIn n w₀) (timesIn n w′) (orderIn n e w′) × (e ≤ n)
+  pub stop-wanted : (k e left : ℕ) (w₀ w₁ : List ℕ) → KeptFrom (searchWords n) w₀ w₁ → (w : List ℕ) → Wanting arcs n s k e left (wantIn n w₁) w
+      → (k ≡ 0) ⊎ (left ≡ 0)
+      → (w′ : List ℕ) → timesIn n w′ ≡ timesIn n w → orderIn n e w′ ≡ settleOrder n e w → Stopped arcs n s (wantIn n w₀) (timesIn n w′) (orderIn n e w′)
+      × (e ≤ n)
   unfolding wantIn
   stop-wanted k e left w₀ w₁ p w g = rw (← p) (stop k e left (flags n (drop (searchWords n) w₁)) w g)

@@ -1,11 +1,9 @@
 // Dijkstra's method (document 002, 2.1) from one node, in the first of the lent words: to every node.
-ghost use mathlib.Core.Path.{_≡_};
-ghost use Prim.Native.Nat.{_*_, _<_, _≤_};
-ghost use lib.ListN.{length, drop};
+ghost use Prim.Native.Nat.{_<_, _≤_};
 ghost use Rattle.model.specs.Network.{maxNodes};
 ghost use Rattle.algorithms.specs.Rounds.{Found};
 ghost use Rattle.arcs.specs.Arcs.{arcsIn};
-ghost use Rattle.index.specs.Index.{Roads};
+ghost use Rattle.index.specs.Index.{IndexedEdges};
 ghost use Rattle.words.specs.Regions.{timesIn, orderIn, searchWords};
 ghost use Rattle.words.specs.Frames.{Enough, KeptFrom};
 ghost use Rattle.search.specs.Order.{Distinct};
@@ -13,12 +11,14 @@ use crate::rounds::begin;
 use crate::rounds::finish;
 use crate::rounds::round;
 
-// Searches from s. In the first 3 n words then stand the times of all n nodes, and from position e of the order on the nodes that are reached, each once and
-// the farthest first. The others stay. Left open: which of equally far nodes stands first, and what the other words of the 3 n are.
+// Searches from s, among two nodes or more: one alone has no edge, and nothing is searched there. In the first 3 n words then stand the times of all
+// n nodes, and from position e of the order on the nodes that are reached, each once and the farthest first. The others stay. Left open: which of equally
+// far nodes stands first, and what the other words of the 3 n are.
 pub fn search_front(edges: &[u8], closed: &[u8], n: usize, s: usize, work: &mut [u32]) -> usize
-    requires { ⌜ (n ≤ maxNodes) × (s < n) × Enough n (now work) ⌝ }
-    requires { ⌜ Roads (now edges) (now closed) n (now work) ⌝ }
-    ensures found { λ e. ⌜ Found (arcsIn (now (edges .entry)) (now (closed .entry))) n s (timesIn n (now (work .exit))) (orderIn n e (now (work .exit))) × (e ≤ n) × Distinct (orderIn n e (now (work .exit))) ⌝ }
+    requires { ⌜ (n ≤ maxNodes) × (s < n) × Enough n (now work) × (2 ≤ n) ⌝ }
+    requires { ⌜ IndexedEdges (now edges) (now closed) n (now work) ⌝ }
+    ensures found { λ e. ⌜ Found (arcsIn (now (edges .entry)) (now (closed .entry))) n s (timesIn n (now (work .exit))) (orderIn n e (now (work .exit)))
+        × (e ≤ n) × Distinct (orderIn n e (now (work .exit))) ⌝ }
     ensures others { λ _. ⌜ KeptFrom (searchWords n) (now (work .entry)) (now (work .exit)) ⌝ }
 {
     let mut k = begin(work, n, s);

@@ -1,10 +1,8 @@
 // Relaxing the arcs out of a node.
-ghost use mathlib.Core.Path.{_≡_};
-ghost use Prim.Native.Nat.{_*_, _<_, _≤_};
-ghost use lib.ListN.{length, drop};
+ghost use Prim.Native.Nat.{_*_, _<_};
 ghost use Rattle.algorithms.specs.Dijkstra.{at, relax-all};
 ghost use Rattle.arcs.specs.Arcs.{arcsIn, leaving};
-ghost use Rattle.index.specs.Index.{Roads};
+ghost use Rattle.index.specs.Index.{IndexedEdges};
 ghost use Rattle.words.specs.Frames.{Enough, KeptFrom};
 ghost use Rattle.search.specs.Holds.{Holds, Relaxed, SettledWithin};
 ghost use Rattle.words.specs.Regions.{frontIn, timesIn, searchWords};
@@ -26,8 +24,10 @@ pub fn relax(
     u: usize,
 ) -> usize
     requires { ⌜ Holds n k e (frontIn n (now work)) × (u < n) × SettledWithin n (at (timesIn n (frontIn n (now work))) u) (frontIn n (now work)) ⌝ }
-    requires { ⌜ Roads (now edges) (now closed) n (now work) × Enough n (now work) ⌝ }
-    ensures relaxed { λ r. ⌜ Relaxed n e (relax-all (at (timesIn n (frontIn n (now (work .entry)))) u) (leaving u (arcsIn (now (edges .entry)) (now (closed .entry)))) (timesIn n (frontIn n (now (work .entry))))) (frontIn n (now (work .entry))) (frontIn n (now (work .exit))) r ⌝ }
+    requires { ⌜ IndexedEdges (now edges) (now closed) n (now work) × Enough n (now work) ⌝ }
+    ensures relaxed { λ r. ⌜ Relaxed n e (relax-all (at (timesIn n (frontIn n (now (work .entry)))) u)
+        (leaving u (arcsIn (now (edges .entry)) (now (closed .entry)))) (timesIn n (frontIn n (now (work .entry))))) (frontIn n (now (work .entry)))
+        (frontIn n (now (work .exit))) r ⌝ }
     ensures others { λ _. ⌜ KeptFrom (searchWords n) (now (work .entry)) (now (work .exit)) ⌝ }
 {
     let d = time_of(work, n, u) as u64;

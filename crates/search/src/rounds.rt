@@ -1,11 +1,11 @@
 // The beginning, a round and the end of a search, in the first of more words than it needs.
 ghost use mathlib.Core.Path.{_≡_};
 ghost use Prim.Native.Nat.{_*_, _<_, _≤_};
-ghost use lib.ListN.{length, set, drop, replicate};
+ghost use lib.ListN.{length, set, replicate};
 ghost use Rattle.model.specs.Network.{maxNodes};
 ghost use Rattle.model.specs.Oracle.{noWalk};
 ghost use Rattle.arcs.specs.Arcs.{arcsIn};
-ghost use Rattle.index.specs.Index.{Roads};
+ghost use Rattle.index.specs.Index.{IndexedEdges};
 ghost use Rattle.words.specs.Frames.{Enough, KeptFrom};
 ghost use Rattle.search.specs.Holds.{Holds, SettledFirst};
 ghost use Rattle.search.specs.Round.{Round};
@@ -32,7 +32,7 @@ pub fn begin(work: &mut [u32], n: usize, s: usize) -> usize
 // Settles a nearest of the k nodes held, and relaxes the arcs out of it. The number of nodes held then.
 pub fn round(edges: &[u8], closed: &[u8], n: usize, k: usize, e: usize, work: &mut [u32]) -> usize
     requires { ⌜ Holds n k e (frontIn n (now work)) × (0 < k) × SettledFirst n (frontIn n (now work)) ⌝ }
-    requires { ⌜ Roads (now edges) (now closed) n (now work) × Enough n (now work) ⌝ }
+    requires { ⌜ IndexedEdges (now edges) (now closed) n (now work) × Enough n (now work) ⌝ }
     ensures round { λ r. ⌜ Round (arcsIn (now (edges .entry)) (now (closed .entry))) n e (frontIn n (now (work .entry))) (frontIn n (now (work .exit))) r ⌝ }
     ensures others { λ _. ⌜ KeptFrom (searchWords n) (now (work .entry)) (now (work .exit)) ⌝ }
 {

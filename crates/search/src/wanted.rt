@@ -1,13 +1,13 @@
 // Dijkstra's method (document 002, 2.1) from one node, up to the wanted nodes.
 ghost use mathlib.Core.Path.{_≡_};
 ghost use Prim.Native.Nat.{_+_, _-_, _*_, _<_, _≤_};
-ghost use lib.ListN.{length, getD, drop, replicate};
+ghost use lib.ListN.{getD, replicate};
 ghost use Rattle.model.specs.Network.{maxNodes};
 ghost use Rattle.algorithms.specs.Dijkstra.{at};
 ghost use Rattle.algorithms.specs.Stops.{Stopped, lacking};
 ghost use Rattle.arcs.specs.Arcs.{arcsIn};
 ghost use Rattle.heap.specs.Words.{low};
-ghost use Rattle.index.specs.Index.{Roads};
+ghost use Rattle.index.specs.Index.{IndexedEdges};
 ghost use Rattle.words.specs.Regions.{timesIn, orderIn, wantIn, searchWords};
 ghost use Rattle.words.specs.Frames.{Enough, KeptFrom};
 use crate::rounds::begin;
@@ -30,9 +30,10 @@ fn left_then(work: &[u32], n: usize, e: usize, left: usize) -> usize
     left
 }
 
-// Searches from s until every wanted node is settled, of which there are at most `left`, or no reached node is left. The wanted nodes are a set whose bits stand
-// from 3 n on. In the first 3 n words then stand the times of the settled nodes and of the wanted ones, and from position e of the order on the settled
-// nodes, the farthest first. The others stay. Left open: which of equally far nodes stands first, and what the other words of the 3 n are.
+// Searches from s, among two nodes or more, until every wanted node is settled, of which there are at most `left`, or no reached node is left. The wanted
+// nodes are a set whose bits stand from 3 n on. In the first 3 n words then stand the times of the settled nodes and of the wanted ones, and from position e
+// of the order on the settled nodes, the farthest first. The others stay. Left open: which of equally far nodes stands first, and what the other words of
+// the 3 n are.
 pub fn search_wanted(
     edges: &[u8],
     closed: &[u8],
@@ -41,9 +42,10 @@ pub fn search_wanted(
     left: usize,
     work: &mut [u32],
 ) -> usize
-    requires { ⌜ (n ≤ maxNodes) × (s < n) × Enough n (now work) × (lacking (wantIn n (now work)) (replicate n 0) ≤ left) ⌝ }
-    requires { ⌜ Roads (now edges) (now closed) n (now work) ⌝ }
-    ensures found { λ e. ⌜ Stopped (arcsIn (now (edges .entry)) (now (closed .entry))) n s (wantIn n (now (work .entry))) (timesIn n (now (work .exit))) (orderIn n e (now (work .exit))) × (e ≤ n) ⌝ }
+    requires { ⌜ (n ≤ maxNodes) × (s < n) × Enough n (now work) × (lacking (wantIn n (now work)) (replicate n 0) ≤ left) × (2 ≤ n) ⌝ }
+    requires { ⌜ IndexedEdges (now edges) (now closed) n (now work) ⌝ }
+    ensures found { λ e. ⌜ Stopped (arcsIn (now (edges .entry)) (now (closed .entry))) n s (wantIn n (now (work .entry))) (timesIn n (now (work .exit)))
+        (orderIn n e (now (work .exit))) × (e ≤ n) ⌝ }
     ensures others { λ _. ⌜ KeptFrom (searchWords n) (now (work .entry)) (now (work .exit)) ⌝ }
 {
     let mut k = begin(work, n, s);

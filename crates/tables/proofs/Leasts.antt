@@ -35,9 +35,11 @@ module _ (f : AccessEntry → Distance) (b : Bytes) (u n : ℕ) where
   unfolding accessList sooner
   least-all e = rw (no-walk noWalk refl, e, ← rest-all (listCount b u))
 
-  pub least-next : (i least x next : ℕ) → i < n → decoded x ≡ f (accessEntry b u i) → decoded next ≡ sooner (decoded least) (decoded x) → leastLeft f b u n least i ≡ leastLeft f b u n next (i + 1)
+  pub least-next : (i least x next : ℕ) → i < n → decoded x ≡ f (accessEntry b u i) → decoded next ≡ sooner (decoded least) (decoded x)
+      → leastLeft f b u n least i ≡ leastLeft f b u n next (i + 1)
   unfolding soonest
-  least-next i least x next h e l = rw (rest-step i n h, l, e) (sym (sooner-assoc (decoded least) (f (accessEntry b u i)) (soonest f (map (accessEntry b u) (rest (i + 1) n)))))
+  least-next i least x next h e l = rw (rest-step i n h, l, e) (sym (sooner-assoc (decoded least) (f (accessEntry b u i))
+      (soonest f (map (accessEntry b u) (rest (i + 1) n)))))
 
   pub least-end : (i least : ℕ) → n ≤ i → leastLeft f b u n least i ≡ decoded least
   unfolding soonest

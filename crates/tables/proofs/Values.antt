@@ -38,7 +38,8 @@ module _ (a b c : ℕ) where
   by-third e = no-walk noWalk refl ∙ rw (no-walk c e, plus-none (decoded b), plus-none (decoded a))
 
   -- All parts are times: their sum is below 'no walk'.
-  pub by-none : (a ≡ noWalk → ⊥) → (b ≡ noWalk → ⊥) → (c ≡ noWalk → ⊥) → InRange a → InRange b → InRange c → decoded (a + b + c) ≡ plus (decoded a) (plus (decoded b) (decoded c))
+  pub by-none : (a ≡ noWalk → ⊥) → (b ≡ noWalk → ⊥) → (c ≡ noWalk → ⊥) → InRange a → InRange b → InRange c
+      → decoded (a + b + c) ≡ plus (decoded a) (plus (decoded b) (decoded c))
   unfolding plus
   by-none p q r ra rb rc =
       let e : a + b + c ≡ a + (b + c) = omega arith in

@@ -10,7 +10,8 @@ use lib.Dec.{eqb, ltb, leb}
 use borrow.Author.Tests.{eqb-true, ne-eqb, ltb-true, ltb-false, leb-false}
 use Rattle.model.specs.Lists.{Part, gapless, any, range, rising, upTo}
 use Rattle.model.specs.Bytes.{Bytes, numberSize}
-use Rattle.model.specs.Oracle.{startSize, entrySize, listSize, valueSize, noWalk, maxValue, decoded, value, valueBroken, tableEntry, listStart, listCount, listPart, accessAt, accessEntry, indexes, entryBroken, listBroken, accessBroken, cellBroken, tableBroken}
+use Rattle.model.specs.Oracle.{startSize, entrySize, listSize, valueSize, noWalk, maxValue, decoded, value, valueBroken, tableEntry, listStart, listCount}
+use Rattle.model.specs.Oracle.{listPart, accessAt, accessEntry, indexes, entryBroken, listBroken, accessBroken, cellBroken, tableBroken}
 use Rattle.theory.specs.Tests.{both}
 use Rattle.theory.specs.RangeLaws.{length-range, getD-map-range}
 use Rattle.theory.specs.Members.{none-any, →upTo}
@@ -72,7 +73,8 @@ module _ (T : ℕ) (b : Bytes) (u : ℕ) (has : HasList T b u) where
   pub start-within : startSize * u + startSize ≤ length b
   unfolding listPart
   start-within =
-      let from : startSize * has .nodes ≤ listStart b u = rw its-part at (gapless-from (startSize * has .nodes) (length b) parts u (listPart b 0) (rule-10 .0) in-parts) in
+      let from : startSize * has .nodes ≤ listStart b u = rw its-part at (gapless-from (startSize * has .nodes) (length b) parts u (listPart b 0) (rule-10 .0)
+      in-parts) in
       omega (arith, list-within, has .below)
 
   its-entries : (rising (indexes b u) ≡ true) × (any (entryBroken T b u) (upTo (listCount b u)) ≡ false)

@@ -11,7 +11,7 @@ use Rattle.model.specs.Bytes.{Bytes, cut}
 use Rattle.model.specs.Contents.{bodyPart, body, nodeBody, transitBody, accessBody, tableBody}
 use Rattle.model.specs.Network.{nodeCount}
 use Rattle.model.specs.Oracle.{transitCount, listPart, tableBroken}
-use Rattle.model.specs.Query.{farAnswer, listPlace, listOf}
+use Rattle.model.specs.Query.{farAnswer, listSpan, listOf}
 use Rattle.theory.specs.Passed.{Shaped}
 use Rattle.tables.specs.Premises.{HasList, farFrom}
 use Rattle.tables.specs.Entries.{list-within}
@@ -46,7 +46,7 @@ module _ (o : Bytes) (shaped : Shaped o) where
 
     -- The list as a part of the oracle is the list as a part of the access body.
     pub list-of : listOf o u ≡ cut (listPart (accessBody o) u) (accessBody o)
-    unfolding listOf listPlace body
+    unfolding listOf listSpan body
     list-of = sym (cut-cut (listPart (accessBody o) u) (bodyPart o 5) o (unfold listPart in list-within _ _ _ has-list))
 
 -- The far answer of an oracle is that from its access body and its table.

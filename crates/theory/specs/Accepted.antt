@@ -13,7 +13,7 @@ use Rattle.model.specs.Bytes.{Bytes, word16, bytes16, numberSize}
 use Rattle.model.specs.Contents.{nodeBody, edgeBody, closedBody, oracleEdition, entryAt}
 use Rattle.model.specs.Network.{network, order, distance, nodeSize, edgeSize, maxNodes, maxEdges}
 use Rattle.model.specs.Grid.{gridOver, gridBroken, maxGrid, division, divisionBytes, divisionSize}
-use Rattle.model.specs.Oracle.{oracle, tableBytes, valueBytes, listBytes, entryBytes, accessBytes, starts, valueSize, startSize, listSize}
+use Rattle.model.specs.Oracle.{oracle, tableBytes, listBytes, accessBytes, starts, valueSize, startSize, listSize}
 use Rattle.model.specs.declared.Division.{Division}
 use Rattle.theory.specs.RangeLaws.{length-range}
 use Rattle.theory.specs.ReadLaws.{length-numbers, length-table, length-list, length-starts}
@@ -27,7 +27,14 @@ use Rattle.theory.specs.Sound.{ends, few, near, node-bytes, edge-bytes, 
 concat-most : (c : ℕ) (ls : List Bytes) → ((l : Bytes) → List·Memᴰ l ls → length l ≤ c) → length (concat ls) ≤ c * length ls
 unfolding concat
 concat-most c [] h = omega arith
-concat-most c (l ∷ ls) h = omega (arith, length-append l (concat ls), mul-suc c (length ls), h l (List·Memᴰ·head refl), concat-most c ls (λ x m. h x (List·Memᴰ·tail m)))
+concat-most c (l ∷ ls) h = omega (
+  arith,
+  length-append l (concat ls),
+  mul-suc c (length ls),
+  h l (List·Memᴰ·head refl),
+  concat-most c ls
+      (λ x m. h x (List·Memᴰ·tail m)),
+)
 
 -- The most that each body of a built oracle has, and all of them.
 abbrev mostAccess : ℕ
@@ -39,11 +46,23 @@ mostTable = valueSize * maxNodes * maxNodes
 abbrev mostBytes : ℕ
 mostBytes = nodeSize * maxNodes + edgeSize * maxEdges + numberSize * maxEdges + divisionSize + numberSize * maxNodes + mostAccess + mostTable
 
-seven-most : (a b c d e f g : Bytes) → length a ≤ nodeSize * maxNodes → length b ≤ edgeSize * maxEdges → length c ≤ numberSize * maxEdges → length d ≤ divisionSize
+seven-most : (a b c d e f g : Bytes) → length a ≤ nodeSize * maxNodes → length b ≤ edgeSize * maxEdges → length c ≤ numberSize * maxEdges
+    → length d ≤ divisionSize
     → length e ≤ numberSize * maxNodes → length f ≤ mostAccess → length g ≤ mostTable → length (concat (a ∷ b ∷ c ∷ d ∷ e ∷ f ∷ g ∷ [])) ≤ mostBytes
 unfolding concat
 seven-most a b c d e f g ha hb hc hd he hf hg =
-    omega (arith, length-append a (b ++ (c ++ (d ++ (e ++ (f ++ (g ++ [])))))), length-append b (c ++ (d ++ (e ++ (f ++ (g ++ []))))), length-append c (d ++ (e ++ (f ++ (g ++ [])))), length-append d (e ++ (f ++ (g ++ []))), length-append e (f ++ (g ++ [])), length-append f (g ++ []), length-append g [])
+    omega (
+      arith,
+      length-append a (b ++ (c ++ (d ++ (e ++ (f ++ (g ++ [])))))),
+      length-append b (c ++ (d ++ (e ++ (f ++ (g ++ []))))),
+      length-append c
+          (d ++ (e ++ (f ++ (g ++ [])))),
+      length-append d (e ++ (f ++ (g ++ []))),
+      length-append e (f ++ (g ++ [])),
+      length-append f (g ++ []),
+      length-append g
+          [],
+    )
 
 module _ (f : Bytes) (dv : Division) (sound : Sound f) (keeps : gridBroken (dv .g) ≡ false) where
   fits : dv .g ≤ maxGrid
@@ -76,9 +95,17 @@ module _ (f : Bytes) (dv : Division) (sound : Sound f) (keeps : gridBroken (dv .
       let ls : List Bytes = map (λ u. listBytes (distance (network f)) (transit-of f dv) u (getD (lists-of f dv) u [])) (upTo (length (lists-of f dv))) in
       let count : length ls ≡ length (lists-of f dv) = length-map (upTo (length (lists-of f dv))) _ ∙ length-range 0 (length (lists-of f dv)) in
       let most = concat-most (listSize maxNodes) ls (λ l m. each (map→ _ (upTo (length (lists-of f dv))) m)) in
-      omega (arith, length-append (starts (startSize * length (lists-of f dv)) ls) (concat ls), length-starts (startSize * length (lists-of f dv)) ls, few f sound, count-lists f dv)
+      omega (
+        arith,
+        length-append (starts (startSize * length (lists-of f dv)) ls) (concat ls),
+        length-starts (startSize * length (lists-of f dv)) ls,
+        few f
+            sound,
+        count-lists f dv,
+      )
     where
-      each : {l : Bytes} → (u : ℕ) × List·Memᴰ u (upTo (length (lists-of f dv))) × (l ≡ listBytes (distance (network f)) (transit-of f dv) u (getD (lists-of f dv) u [])) → length l ≤ listSize maxNodes
+      each : {l : Bytes} → (u : ℕ) × List·Memᴰ u (upTo (length (lists-of f dv)))
+          × (l ≡ listBytes (distance (network f)) (transit-of f dv) u (getD (lists-of f dv) u [])) → length l ≤ listSize maxNodes
       each r =
           let h : r .0 < order (network f) = omega (arith, range→ 0 (length (lists-of f dv)) (r .0) (r .1), count-lists f dv) in
           rw (r .2) (list-most (r .0) (getD (lists-of f dv) (r .0) []) (rw (list-of f dv (r .0) h) (omega (arith, few-access f dv (r .0), few f sound))))
@@ -92,7 +119,9 @@ module _ (f : Bytes) (dv : Division) (sound : Sound f) (keeps : gridBroken (dv .
       let access = accessBytes d t (lists-of f dv) in
       let table = tableBytes d t in
       let whole = length-file oracleEdition (nodeBody f ∷ edgeBody f ∷ closedBody f ∷ divisionBytes dv ∷ concatMap bytes16 t ∷ access ∷ table ∷ []) in
-      let seven : length (concat (nodeBody f ∷ edgeBody f ∷ closedBody f ∷ divisionBytes dv ∷ concatMap bytes16 t ∷ access ∷ table ∷ [])) ≤ mostBytes = seven-most (nodeBody f) (edgeBody f) (closedBody f) (divisionBytes dv) (concatMap bytes16 t) access table (node-bytes f sound .2) (edge-bytes f sound .1) (closed-bytes f sound) (omega arith) transit-bytes access-size table-size in
+      let seven : length (concat (nodeBody f ∷ edgeBody f ∷ closedBody f ∷ divisionBytes dv ∷ concatMap bytes16 t ∷ access ∷ table ∷ [])) ≤ mostBytes =
+      seven-most (nodeBody f) (edgeBody f) (closedBody f) (divisionBytes dv) (concatMap bytes16 t) access table (node-bytes f sound .2)
+      (edge-bytes f sound .1) (closed-bytes f sound) (omega arith) transit-bytes access-size table-size in
       omega arith
 
   reads : division (divisionBytes dv) ≡ dv

@@ -58,7 +58,8 @@ module _ (net : Network) (ends : (e : Edge) → List·Memᴰ e (net .edges) → 
   between-walks p q a hp ha = (
     λ h. let s = adds (distance net p a) (distance net a q) (distance net p q) h in
         record { i = s .i; j = s .j; before = least-of hp (s .first); after = least-of ha (s .second); whole = least-of hp (s .whole) },
-    λ o. unfold agree plus in rw (distance-least net ends hp (o .before), distance-least net ends ha (o .after), distance-least net ends hp (o .whole)) (true-eqb {m = o .i + o .j} refl),
+    λ o. unfold agree plus in rw (distance-least net ends hp (o .before), distance-least net ends ha (o .after), distance-least net ends hp (o .whole))
+        (true-eqb {m = o .i + o .j} refl),
   )
 
   -- A crossing node is a node.
@@ -85,7 +86,11 @@ module _ (net : Network) (ends : (e : Edge) → List·Memᴰ e (net .edges) → 
     -- The access nodes of any cell, with nodes or without.
     pub access-exact : List·Memᴰ a (accessNodes (distance net) grid cs (net .edges) c) ↔ AccessNode net grid cs c a
     unfolding accessNodes
-    access-exact = (λ m. found (filter→ test (upTo (length cs)) m .1), λ n. →filter test (upTo (length cs)) (→upTo (length cs) a (rw size (crossing-node cs (grid .inner) c (n .inner)))) (passes n))
+    access-exact = (
+      λ m. found (filter→ test (upTo (length cs)) m .1),
+      λ n.
+          →filter test (upTo (length cs)) (→upTo (length cs) a (rw size (crossing-node cs (grid .inner) c (n .inner)))) (passes n),
+    )
       where
         found : test a ≡ true → AccessNode net grid cs c a
         found h =
@@ -93,7 +98,15 @@ module _ (net : Network) (ends : (e : Edge) → List·Memᴰ e (net .edges) → 
             let m = member→ a inside (b .0) in
             let p = any→ (λ p. any (λ q. between (distance net) p q a) qs) ps (b .1) in
             let q = any→ (λ q. between (distance net) (p .0) q a) qs (p .2) in
-            record { inner = m; p = p .0; q = q .0; start = p .1; end = q .1; on = between-walks (p .0) (q .0) a (crossing-node cs 0 c (p .1)) (crossing-node cs (grid .inner) c m) .0 (q .2) }
+            record {
+              inner = m;
+              p = p .0;
+              q = q .0;
+              start = p .1;
+              end = q .1;
+              on = between-walks (p .0) (q .0) a (crossing-node cs 0 c (p .1))
+                  (crossing-node cs (grid .inner) c m) .0 (q .2);
+            }
 
         passes : AccessNode net grid cs c a → test a ≡ true
         passes n =

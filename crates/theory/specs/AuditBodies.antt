@@ -12,7 +12,8 @@ use lib.Dec.{eqb}
 use borrow.Author.Tests.{eqb-true}
 use Rattle.model.specs.Lists.{range, concatMap, upTo}
 use Rattle.model.specs.Bytes.{Bytes, byte, word16, bytes16, cut}
-use Rattle.model.specs.Contents.{oracleEdition, oracleEntries, body, bodyPart, gridBody, transitBody, accessBody, tableBody, file, nodeBody, edgeBody, closedBody}
+use Rattle.model.specs.Contents.{oracleEdition, oracleEntries, body, bodyPart, gridBody, transitBody, accessBody, tableBody, file, nodeBody, edgeBody}
+use Rattle.model.specs.Contents.{closedBody}
 use Rattle.model.specs.Network.{network, order, distance}
 use Rattle.model.specs.Grid.{gridOver, gridBroken, division, divisionSize, divisionBytes}
 use Rattle.model.specs.Access.{accessLists, transitNodes}
@@ -30,8 +31,10 @@ unfolding body cut
 part-bytes f small k i = pick (decLt i (bodyPart f k .size))
   where
     pick : Dec (i < bodyPart f k .size) → byte (take (bodyPart f k .size) (drop (bodyPart f k .start) f)) i < 256
-    pick (yes h) = rw (getD-take (bodyPart f k .size) (drop (bodyPart f k .start) f) i 0 h, getD-drop (bodyPart f k .start) f i 0) (small (bodyPart f k .start + i))
-    pick (no h) = rw (List·getD-eq-default (take (bodyPart f k .size) (drop (bodyPart f k .start) f)) 0 {n = i} (omega (arith, length-take (bodyPart f k .size) (drop (bodyPart f k .start) f)))) (omega arith)
+    pick (yes h) = rw (getD-take (bodyPart f k .size) (drop (bodyPart f k .start) f) i 0 h, getD-drop (bodyPart f k .start) f i 0)
+        (small (bodyPart f k .start + i))
+    pick (no h) = rw (List·getD-eq-default (take (bodyPart f k .size) (drop (bodyPart f k .start) f)) 0 {n = i}
+        (omega (arith, length-take (bodyPart f k .size) (drop (bodyPart f k .start) f)))) (omega arith)
 
 -- Two bytes are those of the number that they are.
 two : (b : Bytes) → length b ≡ divisionSize → AreBytes b → b ≡ divisionBytes (division b)
@@ -88,9 +91,11 @@ module _ (o : Bytes) (shaped : wellShaped o ≡ true) where
   module _ (small : AreBytes o) where
     grid-bytes : gridBody o ≡ divisionBytes dv
     unfolding gridBodyBroken
-    grid-bytes = two (gridBody o) (eqb-true (length (gridBody o)) divisionSize (not-false (or-false (not (eqb (length (gridBody o)) divisionSize)) (gridBroken (dv .g)) (p .grid) .0))) (part-bytes o small 3)
+    grid-bytes = two (gridBody o) (eqb-true (length (gridBody o)) divisionSize
+        (not-false (or-false (not (eqb (length (gridBody o)) divisionSize)) (gridBroken (dv .g)) (p .grid) .0))) (part-bytes o small 3)
 
-    parts : transitBody o ≡ builtTransit → accessBody o ≡ builtAccess → tableBody o ≡ builtTable → file oracleEdition (map (body o) (upTo oracleEntries)) ≡ oracle o dv
+    parts : transitBody o ≡ builtTransit → accessBody o ≡ builtAccess → tableBody o ≡ builtTable
+        → file oracleEdition (map (body o) (upTo oracleEntries)) ≡ oracle o dv
     unfolding oracle range
     parts t a x = λ i. file oracleEdition (nodeBody o ∷ edgeBody o ∷ closedBody o ∷ grid-bytes i ∷ t i ∷ a i ∷ x i ∷ [])
 

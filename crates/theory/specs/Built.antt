@@ -80,7 +80,8 @@ module _ (f : Bytes) (dv : Division) where
 
   pub list-of : (u : ℕ) → u < order (network f) → getD (lists-of f dv) u [] ≡ access-of f dv u
   unfolding accessLists cellAt
-  list-of u h = getD-map-in (accessNodes (distance (network f)) (grid-of f dv) (cells-of f dv) (network f .edges)) (cells-of f dv) u (record { column = 0; row = 0 }) [] (rw count-cells h)
+  list-of u h = getD-map-in (accessNodes (distance (network f)) (grid-of f dv) (cells-of f dv) (network f .edges)) (cells-of f dv) u
+      (record { column = 0; row = 0 }) [] (rw count-cells h)
 
   pub few-transit : length (transit-of f dv) ≤ order (network f)
   unfolding transitNodes
@@ -126,18 +127,27 @@ module _ (f : Bytes) (dv : Division) (good : Good f dv) where
   pub in-transit : (u : ℕ) → u < N → {a : ℕ} → List·Memᴰ a (access-of f dv u) → List·Memᴰ a (transit-of f dv)
   unfolding transitNodes
   in-transit u h {a} m =
-      →filter (λ a. any (member a) (lists-of f dv)) (upTo N) (→upTo N a (access-node (network f) (good .ends) (cells-of f dv) (count-cells f dv) (grid-of f dv) (cellAt (cells-of f dv) u) m))
+      →filter (λ a. any (member a) (lists-of f dv)) (upTo N) (→upTo N a (access-node (network f) (good .ends) (cells-of f dv) (count-cells f dv) (grid-of f dv)
+      (cellAt (cells-of f dv) u) m))
       (→any (member a) (lists-of f dv) (getD-mem (lists-of f dv) u [] (rw (count-lists f dv) h)) (rw (list-of f dv u h) (→member a (access-of f dv u) m)))
 
   pub access-small : length (accessBytes d (transit-of f dv) (lists-of f dv)) < 4294967296
-  access-small = let small : length (file oracleEdition bodies) < 4294967296 = unfold oracle in good .small in omega (arith, length-file oracleEdition bodies, concat-bound 5 bodies (omega arith))
+  access-small = let small : length (file oracleEdition bodies) < 4294967296 = unfold oracle in good .small in omega
+      (arith, length-file oracleEdition bodies, concat-bound 5 bodies (omega arith))
 
   pub list-built : (u : ℕ) → u < N → accessList (accessBody o) u ≡ map (entryOf d (transit-of f dv) u) (access-of f dv u)
   list-built u h =
       ap (λ (b : Bytes). accessList b u) (bodies-of 5 (omega arith)) ∙
       (list-read d (transit-of f dv) (lists-of f dv) u (rw (count-lists f dv) h) access-small
       (rw (list-of f dv u h) (omega (arith, few-access f dv u, good .few)))
-      (λ i q. omega (arith, index-of (getD (getD (lists-of f dv) u []) i 0) (transit-of f dv) (in-transit u h (subst (λ (l : List ℕ). List·Memᴰ (getD (getD (lists-of f dv) u []) i 0) l) (list-of f dv u h) (getD-mem (getD (lists-of f dv) u []) i 0 q))) .0, (few-transit f dv), good .few))
+      (λ i q. omega (
+        arith,
+        index-of (getD (getD (lists-of f dv) u []) i 0) (transit-of f dv)
+            (in-transit u h (subst (λ (l : List ℕ). List·Memᴰ (getD (getD (lists-of f dv) u []) i 0) l) (list-of f dv u h)
+            (getD-mem (getD (lists-of f dv) u []) i 0 q))) .0,
+        (few-transit f dv),
+        good .few,
+      ))
       (λ i q. good .near u _ h) ∙
       ap (map (entryOf d (transit-of f dv) u)) (list-of f dv u h))
 
@@ -149,18 +159,27 @@ module _ (f : Bytes) (dv : Division) (good : Good f dv) where
 
   -- the sum over two entries is the sum of distances: the second list has d(t, b), which is d(b, t) as roads run both ways
   sum-built : (s t : ℕ) → s < N → t < N → (a b : ℕ) → List·Memᴰ a (access-of f dv s) → List·Memᴰ b (access-of f dv t) →
-      sumBy (tableBytes d (transit-of f dv)) (length (transit-of f dv)) (entryOf d (transit-of f dv) s a) (entryOf d (transit-of f dv) t b) ≡ plus (d s a) (plus (d a b) (d b t))
+      sumBy (tableBytes d (transit-of f dv)) (length (transit-of f dv)) (entryOf d (transit-of f dv) s a) (entryOf d (transit-of f dv) t b) ≡ plus (d s a)
+      (plus (d a b) (d b t))
   unfolding sumBy
   sum-built s t hs ht a b ma mb =
       let ia = index-of a (transit-of f dv) (in-transit s hs ma) in
       let ib = index-of b (transit-of f dv) (in-transit t ht mb) in
       let na : a < N = access-node (network f) (good .ends) (cells-of f dv) (count-cells f dv) (grid-of f dv) (cellAt (cells-of f dv) s) ma in
       let nb : b < N = access-node (network f) (good .ends) (cells-of f dv) (count-cells f dv) (grid-of f dv) (cellAt (cells-of f dv) t) mb in
-      let small : Small (d (getD (transit-of f dv) (indexOf a (transit-of f dv)) 0) (getD (transit-of f dv) (indexOf b (transit-of f dv)) 0)) = rw (ia .1, ib .1) (good .near a b na) in
-      rw (table-read d (transit-of f dv) (indexOf a (transit-of f dv)) (indexOf b (transit-of f dv)) (ia .0) (ib .0) small, ia .1, ib .1, both-ways (network f) (good .ends) t b ht nb)
+      let small : Small (d (getD (transit-of f dv) (indexOf a (transit-of f dv)) 0) (getD (transit-of f dv) (indexOf b (transit-of f dv)) 0)) = rw
+      (ia .1, ib .1) (good .near a b na) in
+      rw (
+        table-read d (transit-of f dv) (indexOf a (transit-of f dv)) (indexOf b (transit-of f dv)) (ia .0) (ib .0) small,
+        ia .1,
+        ib .1,
+        both-ways (network f)
+            (good .ends) t b ht nb,
+      )
 
   pub far-sum : (s t : ℕ) → s < N → t < N →
-      farDistance (tableBody o) (transitCount (transitBody o)) (accessList (accessBody o) s) (accessList (accessBody o) t) ≡ over (d s) d (λ b. d b t) (access-of f dv s) (access-of f dv t)
+      farDistance (tableBody o) (transitCount (transitBody o)) (accessList (accessBody o) s) (accessList (accessBody o) t) ≡ over (d s) d (λ b. d b t)
+      (access-of f dv s) (access-of f dv t)
   unfolding farDistance over
   far-sum s t hs ht =
       rw (bodies-of 6 (omega arith), count-transit, list-built s hs, list-built t ht)
@@ -168,19 +187,32 @@ module _ (f : Bytes) (dv : Division) (good : Good f dv) where
       soonest-same _ _ (access-of f dv s) (λ a ma. soonest-map _ (entryOf d (transit-of f dv) t) (access-of f dv t) ∙
       soonest-same _ _ (access-of f dv t) (λ b mb. sum-built s t hs ht a b ma mb)))
 
-  pub far-distance : (s t : ℕ) → s < N → t < N → Apart (col (network f) (good .ends) (cells-of f dv) (count-cells f dv)) (row (network f) (good .ends) (cells-of f dv) (count-cells f dv)) (grid-of f dv .outer) s t →
+  pub far-distance : (s t : ℕ) → s < N → t < N → Apart (col (network f) (good .ends) (cells-of f dv) (count-cells f dv))
+      (row (network f) (good .ends) (cells-of f dv) (count-cells f dv)) (grid-of f dv .outer) s t →
       farDistance (tableBody o) (transitCount (transitBody o)) (accessList (accessBody o) s) (accessList (accessBody o) t) ≡ d s t
-  far-distance s t hs ht apart = far-sum s t hs ht ∙ far-model (network f) (good .ends) (cells-of f dv) (count-cells f dv) (grid-of f dv) (good .wide) s t hs ht apart
+  far-distance s t hs ht apart = far-sum s t hs ht ∙ far-model (network f) (good .ends) (cells-of f dv) (count-cells f dv) (grid-of f dv) (good .wide) s t hs ht
+      apart
 
   -- ---- the time
 
-  apart : (s t : ℕ) → kindOf (grid-of f dv) (cellAt (cells-of f dv) s) (cellAt (cells-of f dv) t) ≡ Far → Apart (col (network f) (good .ends) (cells-of f dv) (count-cells f dv)) (row (network f) (good .ends) (cells-of f dv) (count-cells f dv)) (grid-of f dv .outer) s t
+  apart : (s t : ℕ) → kindOf (grid-of f dv) (cellAt (cells-of f dv) s) (cellAt (cells-of f dv) t) ≡ Far
+      → Apart (col (network f) (good .ends) (cells-of f dv) (count-cells f dv)) (row (network f) (good .ends) (cells-of f dv) (count-cells f dv))
+      (grid-of f dv .outer) s t
   apart s t e = far-gap (grid-of f dv) (cellAt (cells-of f dv) s) (cellAt (cells-of f dv) t) .0 e
 
-  pub time-far : (s t : ℕ) → s < N → t < N → kindBetween o s t ≡ Far → timeAnswer o s t ≡ answer Far (length (access-of f dv s) * length (access-of f dv t)) (d s t)
+  pub time-far : (s t : ℕ) → s < N → t < N → kindBetween o s t ≡ Far → timeAnswer o s t ≡ answer Far (length (access-of f dv s) * length (access-of f dv t))
+      (d s t)
   unfolding timeAnswer farAnswer answerOf
   time-far s t hs ht k =
-      rw (k, far-distance s t hs ht (apart s t (sym (same-kind s t) ∙ k)), list-built s hs, list-built t ht, length-map (access-of f dv s) (entryOf d (transit-of f dv) s), length-map (access-of f dv t) (entryOf d (transit-of f dv) t))
+      rw (
+        k,
+        far-distance s t hs ht (apart s t (sym (same-kind s t) ∙ k)),
+        list-built s hs,
+        list-built t ht,
+        length-map (access-of f dv s)
+            (entryOf d (transit-of f dv) s),
+        length-map (access-of f dv t) (entryOf d (transit-of f dv) t),
+      )
 
   pub time-local : (s t : ℕ) → kindBetween o s t ≡ Local → timeAnswer o s t ≡ answer Local 0 (d s t)
   unfolding timeAnswer localAnswer answerOf

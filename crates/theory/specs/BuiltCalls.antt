@@ -9,7 +9,8 @@ use Rattle.model.specs.Bytes.{Bytes}
 use Rattle.model.specs.Contents.{nodeBody}
 use Rattle.model.specs.Network.{network, nodeCount}
 use Rattle.model.specs.Query.{kindBetween, way}
-use Rattle.model.specs.Rules.{firstBroken, networkRules, shapeRules, pairRules, timeRules, farRules, wayRules, listRules, noSuchNode, localPair, isLocal, workTooSmall, wordsNeeded, outputTooSmall, wellShaped}
+use Rattle.model.specs.Rules.{firstBroken, networkRules, shapeRules, pairRules, timeRules, farRules, wayRules, listRules, noSuchNode, localPair, isLocal}
+use Rattle.model.specs.Rules.{workTooSmall, wordsNeeded, outputTooSmall, wellShaped}
 use Rattle.model.specs.Calls.{timeRefusal, listRefusal, wayRefusal}
 use Rattle.model.specs.declared.Kind.the-variants.{Far}
 use Rattle.theory.specs.Firsts.{counted, one-kept}
@@ -55,4 +56,5 @@ module _ (o : Bytes) (shaped : wellShaped o ≡ true) where
     pub way-kept : (work : List ℕ) (out : Bytes) → wordsNeeded o ≤ length work → 2 * length (way (network o) s t) ≤ length out → wayRefusal o s t work out ≡ 0
     unfolding wayRefusal wayRules outputTooSmall
     way-kept work out h k =
-        sym (one-kept (timeRules o s t (length work)) 15 (time-counted o s t (length work)) (unfold timeRefusal in time-kept work h) (le-ltb (length out) (2 * length (way (network o) s t)) k))
+        sym (one-kept (timeRules o s t (length work)) 15 (time-counted o s t (length work)) (unfold timeRefusal in time-kept work h)
+        (le-ltb (length out) (2 * length (way (network o) s t)) k))

@@ -117,7 +117,8 @@ unfolding round
 round-keeps [] ts n v h = h
 round-keeps (a ∷ bs) ts n v h = round-keeps bs (relax a ts) n v (relax-keeps a ts n v h)
 
-round-hits : (bs : List Arc) (ts : List Distance) (a : Arc) (n : ℕ) → Mem a bs → a .to < length ts → AtMost (at ts (a .from)) n → AtMost (at (round bs ts) (a .to)) (n + a .cost)
+round-hits : (bs : List Arc) (ts : List Distance) (a : Arc) (n : ℕ) → Mem a bs → a .to < length ts → AtMost (at ts (a .from)) n
+    → AtMost (at (round bs ts) (a .to)) (n + a .cost)
 unfolding round
 round-hits [] ts a n i b h = absurd (List·Memᴰ·not-nil i)
 round-hits (c ∷ bs) ts a n i b h = pick (round-hits bs (relax c ts) a n) (List·Memᴰ·cases-cons i)
@@ -141,7 +142,8 @@ unfolding start
 length-start N u = simp (length-set, length-replicate)
 
 -- After as many rounds as a walk has arcs, its end is reached within its total.
-pub rounds-hits : {arcs : List Arc} {v t n : ℕ} (w : Walk arcs v t n) (k : ℕ) (ts : List Distance) (x : ℕ) → hops w ≤ k → Within (length ts) arcs → AtMost (at ts v) x → AtMost (at (rounds k arcs ts) t) (x + n)
+pub rounds-hits : {arcs : List Arc} {v t n : ℕ} (w : Walk arcs v t n) (k : ℕ) (ts : List Distance) (x : ℕ) → hops w ≤ k → Within (length ts) arcs
+    → AtMost (at ts v) x → AtMost (at (rounds k arcs ts) t) (x + n)
 unfolding rounds hops
 rounds-hits {arcs} stay k ts x s b h = rw add-zero (rounds-keeps k arcs ts x _ h)
 rounds-hits (go a i w) zero ts x s b h = absurd (not-suc-le-zero s)

@@ -15,7 +15,8 @@ unfolding leastOf
 leastOf-mem v [] = List·Memᴰ·head refl
 leastOf-mem v (x ∷ xs) = step (either v x) (List·Memᴰ·cases-cons (leastOf-mem (min v x) xs))
   where
-    step : (min v x ≡ v) ⊎ (min v x ≡ x) → (leastOf (min v x) xs ≡ min v x) ⊎ List·Memᴰ (leastOf (min v x) xs) xs → List·Memᴰ (leastOf (min v x) xs) (v ∷ (x ∷ xs))
+    step : (min v x ≡ v) ⊎ (min v x ≡ x) → (leastOf (min v x) xs ≡ min v x) ⊎ List·Memᴰ (leastOf (min v x) xs) xs
+        → List·Memᴰ (leastOf (min v x) xs) (v ∷ (x ∷ xs))
     step (inl e) (inl q) = List·Memᴰ·head (q ∙ e)
     step (inr e) (inl q) = List·Memᴰ·tail (List·Memᴰ·head (q ∙ e))
     step c (inr m) = List·Memᴰ·tail (List·Memᴰ·tail m)
@@ -25,7 +26,8 @@ unfolding leastOf
 leastOf-le v [] (List·Memᴰ·head e) = omega arith
 leastOf-le v [] (List·Memᴰ·tail m) = absurd (List·Memᴰ·not-nil m)
 leastOf-le v (y ∷ ys) (List·Memᴰ·head e) = omega (arith, leastOf-le (min v y) ys (List·Memᴰ·head refl))
-leastOf-le v (y ∷ ys) {x} (List·Memᴰ·tail m) = step (List·Memᴰ·cases-cons m) (leastOf-le (min v y) ys (List·Memᴰ·head refl)) (λ k. leastOf-le (min v y) ys (List·Memᴰ·tail k))
+leastOf-le v (y ∷ ys) {x} (List·Memᴰ·tail m) = step (List·Memᴰ·cases-cons m) (leastOf-le (min v y) ys (List·Memᴰ·head refl))
+    (λ k. leastOf-le (min v y) ys (List·Memᴰ·tail k))
   where
     step : (x ≡ y) ⊎ List·Memᴰ x ys → leastOf (min v y) ys ≤ min v y → (List·Memᴰ x ys → leastOf (min v y) ys ≤ x) → leastOf (min v y) ys ≤ x
     step (inl e) h rest = omega arith
@@ -36,7 +38,8 @@ unfolding greatestOf
 greatestOf-ge v [] (List·Memᴰ·head e) = omega arith
 greatestOf-ge v [] (List·Memᴰ·tail m) = absurd (List·Memᴰ·not-nil m)
 greatestOf-ge v (y ∷ ys) (List·Memᴰ·head e) = omega (arith, greatestOf-ge (max v y) ys (List·Memᴰ·head refl))
-greatestOf-ge v (y ∷ ys) {x} (List·Memᴰ·tail m) = step (List·Memᴰ·cases-cons m) (greatestOf-ge (max v y) ys (List·Memᴰ·head refl)) (λ k. greatestOf-ge (max v y) ys (List·Memᴰ·tail k))
+greatestOf-ge v (y ∷ ys) {x} (List·Memᴰ·tail m) = step (List·Memᴰ·cases-cons m) (greatestOf-ge (max v y) ys (List·Memᴰ·head refl))
+    (λ k. greatestOf-ge (max v y) ys (List·Memᴰ·tail k))
   where
     step : (x ≡ y) ⊎ List·Memᴰ x ys → max v y ≤ greatestOf (max v y) ys → (List·Memᴰ x ys → x ≤ greatestOf (max v y) ys) → x ≤ greatestOf (max v y) ys
     step (inl e) h rest = omega arith

@@ -78,5 +78,6 @@ module _ (col row : ℕ → ℕ) where
       (arcs : List Arc) (pick : Arc → ℕ) → ((a : Arc) → (pick a ≡ a .from) ⊎ (pick a ≡ a .to)) →
       (r R s t : ℕ) {n : ℕ} → 2 * r ≤ R → Apart col row R s t →
       Least arcs s t n ↔
-      LeastOf (Via arcs pick (square col row 0 s) (square col row r s) (square col row R s) (square col row 0 t) (square col row r t) (square col row R t) s t) n
+      LeastOf (Via arcs pick (square col row 0 s) (square col row r s) (square col row R s) (square col row 0 t) (square col row r t) (square col row R t) s t)
+      n
   grid-far arcs pick ends r R s t wide a = far-least arcs pick ends (nest r R s t wide a) (nest r R t s wide (swap R s t a)) (disjoint r R s t wide a)

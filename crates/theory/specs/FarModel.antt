@@ -55,7 +55,8 @@ module _ (net : Network) (ends : (e : Edge) → List·Memᴰ e (net .edges) → 
   inside a m = let r = edge-of m in step (r .0) (ends (r .0) (r .1)) (List·Memᴰ·cases-cons (r .2))
     where
       step : (e : Edge) → (e .first < order net) × (e .second < order net)
-          → (a ≡ record { from = e .first; to = e .second; cost = e .seconds }) ⊎ List·Memᴰ a (record { from = e .second; to = e .first; cost = e .seconds } ∷ [])
+          → (a ≡ record { from = e .first; to = e .second; cost = e .seconds }) ⊎ List·Memᴰ a
+          (record { from = e .second; to = e .first; cost = e .seconds } ∷ [])
           → (a .from < order net) × (a .to < order net)
       step e h (inl q) = (rw (ap (λ x. x .from) q) (h .0), rw (ap (λ x. x .to) q) (h .1))
       step e h (inr m) = let q = List·Memᴰ·eq-of-singleton m in (rw (ap (λ x. x .from) q) (h .1), rw (ap (λ x. x .to) q) (h .0))
@@ -65,7 +66,8 @@ module _ (net : Network) (ends : (e : Edge) → List·Memᴰ e (net .edges) → 
   symmetric a m = let r = edge-of m in step (r .0) (r .1) (List·Memᴰ·cases-cons (r .2))
     where
       step : (e : Edge) → List·Memᴰ e (net .edges)
-          → (a ≡ record { from = e .first; to = e .second; cost = e .seconds }) ⊎ List·Memᴰ a (record { from = e .second; to = e .first; cost = e .seconds } ∷ [])
+          → (a ≡ record { from = e .first; to = e .second; cost = e .seconds }) ⊎ List·Memᴰ a
+          (record { from = e .second; to = e .first; cost = e .seconds } ∷ [])
           → List·Memᴰ (reverse a) (arcs net)
       step e k (inl q) = →concatMap arcsOf (net .edges) k (List·Memᴰ·tail (List·Memᴰ·head (ap reverse q)))
       step e k (inr m) = →concatMap arcsOf (net .edges) k (List·Memᴰ·head (ap reverse (List·Memᴰ·eq-of-singleton m)))
@@ -104,7 +106,8 @@ module _ (net : Network) (ends : (e : Edge) → List·Memᴰ e (net .edges) → 
     sq r c = square col row r c
 
     -- an edge with one end inside gives its crossing end
-    crossing-edge : (r c : ℕ) (e : Edge) → List·Memᴰ e (net .edges) → xor (sq r c (e .first)) (sq r c (e .second)) ≡ true → List·Memᴰ (crossingEnd e) (crossings cs (net .edges) r (cellAt cs c))
+    crossing-edge : (r c : ℕ) (e : Edge) → List·Memᴰ e (net .edges) → xor (sq r c (e .first)) (sq r c (e .second)) ≡ true
+        → List·Memᴰ (crossingEnd e) (crossings cs (net .edges) r (cellAt cs c))
     unfolding crossings crosses square within
     crossing-edge r c e m h = →map crossingEnd _ (→filter (crosses cs r (cellAt cs c)) (net .edges) m h)
 
@@ -112,11 +115,13 @@ module _ (net : Network) (ends : (e : Edge) → List·Memᴰ e (net .edges) → 
     unfolding arcsOf
     crossing-in r c {x} k = let w = edge-of (k .listed) in step (w .0) (w .1) (List·Memᴰ·cases-cons (w .2))
       where
-        end : (e : Edge) → List·Memᴰ e (net .edges) → x ≡ crossingEnd e → xor (sq r c (e .first)) (sq r c (e .second)) ≡ true → List·Memᴰ x (crossings cs (net .edges) r (cellAt cs c)) × (x < order net)
+        end : (e : Edge) → List·Memᴰ e (net .edges) → x ≡ crossingEnd e → xor (sq r c (e .first)) (sq r c (e .second)) ≡ true
+            → List·Memᴰ x (crossings cs (net .edges) r (cellAt cs c)) × (x < order net)
         end e m q h = (Memᴰ·cast q (crossing-edge r c e m h), unfold crossingEnd in omega (arith, q, ends e m))
 
         step : (e : Edge) → List·Memᴰ e (net .edges)
-            → (k .arc ≡ record { from = e .first; to = e .second; cost = e .seconds }) ⊎ List·Memᴰ (k .arc) (record { from = e .second; to = e .first; cost = e .seconds } ∷ [])
+            → (k .arc ≡ record { from = e .first; to = e .second; cost = e .seconds }) ⊎ List·Memᴰ (k .arc)
+            (record { from = e .second; to = e .first; cost = e .seconds } ∷ [])
             → List·Memᴰ x (crossings cs (net .edges) r (cellAt cs c)) × (x < order net)
         step e m (inl q) =
             let apart : sq r c (e .first) ≢ sq r c (e .second) = λ z. k .across (ap (λ a. sq r c (a .from)) q ∙ (z ∙ sym (ap (λ a. sq r c (a .to)) q))) in
@@ -126,7 +131,8 @@ module _ (net : Network) (ends : (e : Edge) → List·Memᴰ e (net .edges) → 
             let apart : sq r c (e .second) ≢ sq r c (e .first) = λ z. k .across (ap (λ a. sq r c (a .from)) q ∙ (z ∙ sym (ap (λ a. sq r c (a .to)) q))) in
             end e m (k .picked ∙ (ap pick q ∙ unfold crossingEnd in min-comm (e .second) (e .first))) (differ-back _ _ apart)
 
-    between-true : (p q x : ℕ) {i j : ℕ} → distance net p x ≡ finite i → distance net x q ≡ finite j → distance net p q ≡ finite (i + j) → between (distance net) p q x ≡ true
+    between-true : (p q x : ℕ) {i j : ℕ} → distance net p x ≡ finite i → distance net x q ≡ finite j → distance net p q ≡ finite (i + j)
+        → between (distance net) p q x ≡ true
     unfolding between agree plus
     between-true p q x {i = i} {j = j} a b c = rw (a, b, c) (true-eqb {m = i + j} refl)
 
@@ -162,7 +168,8 @@ module _ (net : Network) (ends : (e : Edge) → List·Memᴰ e (net .edges) → 
       leaving-in c {x} h =
           let a = crossing-in (grid .inner) c (h .crossing) .1 in
           let p = crossing-in 0 c (h .start) .1 in
-          listed c (h .start) (h .crossing) (h .end) (between-true (h .p) (h .q) x (distance-least p (h .before)) (distance-least a (h .after)) (distance-least p (h .whole)))
+          listed c (h .start) (h .crossing) (h .end) (between-true (h .p) (h .q) x (distance-least p (h .before)) (distance-least a (h .after))
+          (distance-least p (h .whole)))
 
       -- and so is one for entering it, for roads run both ways
       entering-in : (c : ℕ) {x : ℕ} → Through (arcs net) pick (sq (grid .outer) c) (sq (grid .inner) c) (sq 0 c) x → List·Memᴰ x (access c)
@@ -172,7 +179,8 @@ module _ (net : Network) (ends : (e : Edge) → List·Memᴰ e (net .edges) → 
           let q = crossing-in 0 c (h .end) .1 in
           listed c (h .end) (h .crossing) (h .start)
           (between-true (h .q) (h .p) x
-          (both-ways (h .q) x q a ∙ distance-least a (h .after)) (both-ways x (h .p) a p ∙ distance-least p (h .before)) (both-ways (h .q) (h .p) q p ∙ distance-least p (rw add-comm (h .whole))))
+          (both-ways (h .q) x q a ∙ distance-least a (h .after)) (both-ways x (h .p) a p ∙ distance-least p (h .before))
+          (both-ways (h .q) (h .p) q p ∙ distance-least p (rw add-comm (h .whole))))
 
       -- the access nodes are nodes
       pub access-node : (c : Cell) {x : ℕ} → List·Memᴰ x (accessNodes (distance net) grid cs (net .edges) c) → x < order net

@@ -55,6 +55,7 @@ module _ (arcs : List Arc) (pick : Arc → ℕ) (ends : (a : Arc) → (pick a �
       some : (n : ℕ) → Least arcs s t n → Some n
       some n l =
           let v = far arcs pick ends Cs Is Os Ct It Ot s t n ns nt apart l in
-          let mid : Sum (Walk arcs (v .a) (v .b)) (Walk arcs (v .b) t) (v .y + v .z) = record { i = v .y; j = v .z; left = v .middle .has; right = v .last .has; total = refl } in
+          let mid : Sum (Walk arcs (v .a) (v .b)) (Walk arcs (v .b) t) (v .y + v .z) = record
+          { i = v .y; j = v .z; left = v .middle .has; right = v .last .has; total = refl } in
           let pair : Pair (v .a) (v .b) n = record { i = v .x; j = v .y + v .z; left = v .first .has; right = mid; total = omega (arith, v .sum) } in
           record { x = v .a; listed = in-A (v .a) (v .leaving); has = record { x = v .b; listed = in-B (v .b) (v .entering); has = pair } }

@@ -8,7 +8,7 @@ use lib.ListN.{length, getD, take, drop, length-append}
 use lib.Seq.{getD-append-add, drop-append-add, take-append-seam}
 use Rattle.model.specs.Lists.{concat}
 use Rattle.model.specs.Bytes.{Bytes, word16, word32, bytes16, bytes32, cut, splice}
-use Rattle.model.specs.Contents.{entry, entryAt, bodyPart, body, entries, file}
+use Rattle.model.specs.Contents.{entry, entryAt, bodyPart, body, entries, file, headSize, contentsEntrySize}
 
 -- ---- numbers
 
@@ -45,33 +45,37 @@ startOf at bs j = at + length (concat (take j bs))
 unfoldable pub nine : (k : ℕ) (a s : ℕ) → Bytes
 nine k a s = suc k ∷ (bytes32 a ++ bytes32 s)
 
-pub entries-step : (k at : ℕ) (b : Bytes) (bs : List Bytes) (l : Bytes) → entries k at (b ∷ bs) ++ l ≡ nine k at (length b) ++ (entries (suc k) (at + length b) bs ++ l)
+pub entries-step : (k at : ℕ) (b : Bytes) (bs : List Bytes) (l : Bytes) → entries k at (b ∷ bs) ++ l ≡ nine k at (length b) ++
+    (entries (suc k) (at + length b) bs ++ l)
 unfolding entries nine bytes32 bytes16
 entries-step k at b bs l = refl
 
-nine-skip : (k a s j m : ℕ) → 9 * suc j + m ≡ length (nine k a s) + (9 * j + m)
+nine-skip : (k a s j m : ℕ) → contentsEntrySize * suc j + m ≡ length (nine k a s) + (contentsEntrySize * j + m)
 unfolding nine bytes32 bytes16
 nine-skip k a s j m = omega arith
 
-skip : (k at j m : ℕ) (b : Bytes) (bs : List Bytes) (l : Bytes) → word32 (entries k at (b ∷ bs) ++ l) (9 * suc j + m) ≡ word32 (entries (suc k) (at + length b) bs ++ l) (9 * j + m)
-skip k at j m b bs l = rw (entries-step k at b bs l, nine-skip k at (length b) j m) (word32-append (nine k at (length b)) _ (9 * j + m))
+skip : (k at j m : ℕ) (b : Bytes) (bs : List Bytes) (l : Bytes) → word32 (entries k at (b ∷ bs) ++ l) (contentsEntrySize * suc j + m) ≡ word32
+    (entries (suc k) (at + length b) bs ++ l) (contentsEntrySize * j + m)
+skip k at j m b bs l = rw (entries-step k at b bs l, nine-skip k at (length b) j m) (word32-append (nine k at (length b)) _ (contentsEntrySize * j + m))
 
 pub start-step : (at j : ℕ) (b : Bytes) (bs : List Bytes) → startOf (at + length b) bs j ≡ startOf at (b ∷ bs) (suc j)
 unfolding concat
 start-step at j b bs = omega (arith, length-append b (concat (take j bs)))
 
-entry-offset : (k at j : ℕ) (bs : List Bytes) (l : Bytes) → j < length bs → startOf at bs j < 4294967296 → word32 (entries k at bs ++ l) (9 * j + 1) ≡ startOf at bs j
+entry-offset : (k at j : ℕ) (bs : List Bytes) (l : Bytes) → j < length bs → startOf at bs j < 4294967296
+    → word32 (entries k at bs ++ l) (contentsEntrySize * j + 1) ≡ startOf at bs j
 entry-offset k at j [] l h s = absurd (omega arith)
 entry-offset k at zero (b ∷ bs) l h s = unfold entries bytes32 bytes16 word32 word16 concat in omega arith
 entry-offset k at (suc j) (b ∷ bs) l h s =
     skip k at j 1 b bs l ∙ entry-offset (suc k) (at + length b) j bs l (omega arith) (omega (arith, start-step at j b bs)) ∙ start-step at j b bs
 
-entry-size : (k at j : ℕ) (bs : List Bytes) (l : Bytes) → j < length bs → length (getD bs j []) < 4294967296 → word32 (entries k at bs ++ l) (9 * j + 5) ≡ length (getD bs j [])
+entry-size : (k at j : ℕ) (bs : List Bytes) (l : Bytes) → j < length bs → length (getD bs j []) < 4294967296
+    → word32 (entries k at bs ++ l) (contentsEntrySize * j + 5) ≡ length (getD bs j [])
 entry-size k at j [] l h s = absurd (omega arith)
 entry-size k at zero (b ∷ bs) l h s = unfold entries bytes32 bytes16 word32 word16 in omega arith
 entry-size k at (suc j) (b ∷ bs) l h s = skip k at j 5 b bs l ∙ entry-size (suc k) (at + length b) j bs l (omega arith) s
 
-length-entries : (k at : ℕ) (bs : List Bytes) → length (entries k at bs) ≡ 9 * length bs
+length-entries : (k at : ℕ) (bs : List Bytes) → length (entries k at bs) ≡ contentsEntrySize * length bs
 unfolding entries bytes32 bytes16
 length-entries k at [] = refl
 length-entries k at (b ∷ bs) = omega (arith, length-entries (suc k) (at + length b) bs)
@@ -82,7 +86,8 @@ pub drop-concat : (j : ℕ) (bs : List Bytes) → j < length bs → drop (length
 unfolding concat
 drop-concat j [] h = absurd (omega arith)
 drop-concat zero (b ∷ bs) h = refl
-drop-concat (suc j) (b ∷ bs) h = rw (length-append b (concat (take j bs)), drop-append-add b (concat bs) (length (concat (take j bs)))) (drop-concat j bs (omega arith))
+drop-concat (suc j) (b ∷ bs) h = rw (length-append b (concat (take j bs)), drop-append-add b (concat bs) (length (concat (take j bs))))
+    (drop-concat j bs (omega arith))
 
 pub concat-bound : (j : ℕ) (bs : List Bytes) → j < length bs → length (concat (take j bs)) + length (getD bs j []) ≤ length (concat bs)
 unfolding concat
@@ -92,7 +97,7 @@ concat-bound (suc j) (b ∷ bs) h = omega (arith, concat-bound j bs (omega arith
 
 pub length-file : (edition : ℕ) (bs : List Bytes) → length (file edition bs) ≡ entryAt (length bs) + length (concat bs)
 unfolding file entryAt
-length-file edition bs = omega (arith, length-append (entries 0 (2 + 9 * length bs) bs) (concat bs), length-entries 0 (2 + 9 * length bs) bs)
+length-file edition bs = omega (arith, length-append (entries 0 (headSize (length bs)) bs) (concat bs), length-entries 0 (headSize (length bs)) bs)
 
 module _ (edition : ℕ) (bs : List Bytes) (j : ℕ) (h : j < length bs) (small : length (file edition bs) < 4294967296) where
   bound : startOf (entryAt (length bs)) bs j + length (getD bs j []) < 4294967296
@@ -102,21 +107,23 @@ module _ (edition : ℕ) (bs : List Bytes) (j : ℕ) (h : j < length bs) (small 
   pub file-offset : entry (file edition bs) j .offset ≡ startOf (entryAt (length bs)) bs j
   unfolding entry file
   file-offset =
-      let e : entryAt j + 1 ≡ 2 + (9 * j + 1) = unfold entryAt in omega arith in
-      rw e (word32-append (edition ∷ (length bs ∷ [])) (entries 0 (entryAt (length bs)) bs ++ concat bs) (9 * j + 1) ∙ entry-offset 0 (entryAt (length bs)) j bs (concat bs) h (omega (arith, bound)))
+      let e : entryAt j + 1 ≡ 2 + (contentsEntrySize * j + 1) = unfold entryAt in omega arith in
+      rw e (word32-append (edition ∷ (length bs ∷ [])) (entries 0 (entryAt (length bs)) bs ++ concat bs) (contentsEntrySize * j + 1)
+      ∙ entry-offset 0 (entryAt (length bs)) j bs (concat bs) h (omega (arith, bound)))
 
   pub file-size : entry (file edition bs) j .size ≡ length (getD bs j [])
   unfolding entry file
   file-size =
-      let e : entryAt j + 5 ≡ 2 + (9 * j + 5) = unfold entryAt in omega arith in
-      rw e (word32-append (edition ∷ (length bs ∷ [])) (entries 0 (entryAt (length bs)) bs ++ concat bs) (9 * j + 5) ∙ entry-size 0 (entryAt (length bs)) j bs (concat bs) h (omega (arith, bound)))
+      let e : entryAt j + 5 ≡ 2 + (contentsEntrySize * j + 5) = unfold entryAt in omega arith in
+      rw e (word32-append (edition ∷ (length bs ∷ [])) (entries 0 (entryAt (length bs)) bs ++ concat bs) (contentsEntrySize * j + 5)
+      ∙ entry-size 0 (entryAt (length bs)) j bs (concat bs) h (omega (arith, bound)))
 
   head : Bytes
   head = edition ∷ (length bs ∷ entries 0 (entryAt (length bs)) bs)
 
   length-head : entryAt (length bs) ≡ length head
   unfolding head entryAt
-  length-head = omega (arith, length-entries 0 (2 + 9 * length bs) bs)
+  length-head = omega (arith, length-entries 0 (headSize (length bs)) bs)
 
   from-body : drop (startOf (entryAt (length bs)) bs j) (file edition bs) ≡ getD bs j [] ++ concat (drop (suc j) bs)
   unfolding file head

@@ -25,7 +25,8 @@ unfolding counted firstBroken
 first-append [] ys c h = refl
 first-append (r ∷ xs) ys c h = step (r .broken) (both {b = ltb 0 (r .number)} c) h (λ k e. first-append xs ys k e)
   where
-    step : (b : Bool) → (ltb 0 (r .number) ≡ true) × (counted xs ≡ true) → cond b (r .number) (firstBroken xs) ≡ 0 → (counted xs ≡ true → firstBroken xs ≡ 0 → firstBroken (xs ++ ys) ≡ firstBroken ys)
+    step : (b : Bool) → (ltb 0 (r .number) ≡ true) × (counted xs ≡ true) → cond b (r .number) (firstBroken xs) ≡ 0
+        → (counted xs ≡ true → firstBroken xs ≡ 0 → firstBroken (xs ++ ys) ≡ firstBroken ys)
         → cond b (r .number) (firstBroken (xs ++ ys)) ≡ firstBroken ys
     step true k e rest = let z : 0 < r .number = ltb-true 0 (r .number) (k .0) in absurd (omega arith)
     step false k e rest = rest (k .1) e
@@ -36,7 +37,8 @@ unfolding firstBroken
 first-stays [] ys h = absurd (h refl)
 first-stays (r ∷ xs) ys h = step (r .broken) h (λ k. first-stays xs ys k)
   where
-    step : (b : Bool) → (cond b (r .number) (firstBroken xs) ≡ 0 → ⊥) → ((firstBroken xs ≡ 0 → ⊥) → firstBroken (xs ++ ys) ≡ firstBroken xs) → cond b (r .number) (firstBroken (xs ++ ys)) ≡ cond b (r .number) (firstBroken xs)
+    step : (b : Bool) → (cond b (r .number) (firstBroken xs) ≡ 0 → ⊥) → ((firstBroken xs ≡ 0 → ⊥) → firstBroken (xs ++ ys) ≡ firstBroken xs)
+        → cond b (r .number) (firstBroken (xs ++ ys)) ≡ cond b (r .number) (firstBroken xs)
     step true h rest = refl
     step false h rest = rest h
 

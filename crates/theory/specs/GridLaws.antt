@@ -27,13 +27,15 @@ module _ (dv : Division) (nodes : List Node) (p : 0 < dv .g) (v : Node) (m : Lis
   unfolding cellOf cellIndex gridOver
   column-below =
       let x = →map (λ (v : Node). v .x) nodes m in
-      index-below (v .x - gridOver dv nodes .left) (dv .g) (gridOver dv nodes .spread) (omega (arith, least-le (map (λ v. v .x) nodes) x, greatest-ge (map (λ v. v .x) nodes) x)) p
+      index-below (v .x - gridOver dv nodes .left) (dv .g) (gridOver dv nodes .spread)
+      (omega (arith, least-le (map (λ v. v .x) nodes) x, greatest-ge (map (λ v. v .x) nodes) x)) p
 
   pub row-below : cellOf (gridOver dv nodes) v .row < dv .g
   unfolding cellOf cellIndex gridOver
   row-below =
       let y = →map (λ (v : Node). v .y) nodes m in
-      index-below (v .y - gridOver dv nodes .bottom) (dv .g) (gridOver dv nodes .spread) (omega (arith, least-le (map (λ v. v .y) nodes) y, greatest-ge (map (λ v. v .y) nodes) y)) p
+      index-below (v .y - gridOver dv nodes .bottom) (dv .g) (gridOver dv nodes .spread)
+      (omega (arith, least-le (map (λ v. v .y) nodes) y, greatest-ge (map (λ v. v .y) nodes) y)) p
 
 -- ---- far and local
 abbrev IsFar : Kind → Type 0

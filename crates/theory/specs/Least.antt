@@ -87,7 +87,8 @@ pub record Among {A : Type 0} (l : List A) (P : A → ℕ → Type 0) (n : ℕ) 
   pub listed : List·Memᴰ x l
   pub has : P x n
 
-pub meets-soonest : {A : Type 0} (P : A → ℕ → Type 0) (f : A → Distance) (l : List A) → ((x : A) → List·Memᴰ x l → IsLeast (P x) (f x)) → IsLeast (Among l P) (soonest f l)
+pub meets-soonest : {A : Type 0} (P : A → ℕ → Type 0) (f : A → Distance) (l : List A) → ((x : A) → List·Memᴰ x l → IsLeast (P x) (f x))
+    → IsLeast (Among l P) (soonest f l)
 unfolding soonest
 meets-soonest P f [] h = λ n a. List·Memᴰ·not-nil (a .listed)
 meets-soonest P f (x ∷ l) h =

@@ -22,6 +22,7 @@ words-read l h =
     each : (i : ℕ) → i < length l → word16 (concatMap bytes16 l) (numberSize * (0 + i)) ≡ getD l i 0
     each i q =
         let e : numberSize * (0 + i) ≡ numberSize * i + 0 = omega arith in
-        rw e (read.word16-drop (concatMap bytes16 l) (numberSize * i) 0 ∙ rw (read.drop-concatMap bytes16 numberSize (λ n. unfold bytes16 in refl) i l 0 q) (word16-read (getD l i 0) _ (h i q)))
+        rw e (read.word16-drop (concatMap bytes16 l) (numberSize * i) 0 ∙ rw (read.drop-concatMap bytes16 numberSize (λ n. unfold bytes16 in refl) i l 0 q)
+        (word16-read (getD l i 0) _ (h i q)))
 
 -- ---- the rules

@@ -6,7 +6,8 @@ use mathlib.Core.Bool.{Bool, true, false, not, _||_, true≢false}
 use mathlib.Core.List.{List, [], _∷_, _++_}
 use borrow.Author.Tests.{eqb-true}
 use Rattle.model.specs.Bytes.{Bytes}
-use Rattle.model.specs.Contents.{nodeBody, edgeBody, closedBody, networkEdition, networkEntries, oracleEdition, contentsBroken, bodiesBroken, gridBody, transitBody, accessBody, tableBody, oracleEntries}
+use Rattle.model.specs.Contents.{nodeBody, edgeBody, closedBody, networkEdition, networkEntries, oracleEdition, contentsBroken, bodiesBroken, gridBody}
+use Rattle.model.specs.Contents.{transitBody, accessBody, tableBody, oracleEntries}
 use Rattle.model.specs.Network.{nodeCount, edgeCount, nodesBroken, someEdgeBroken, edgesBroken, numbersBroken, coordinatesBroken}
 use Rattle.model.specs.Grid.{gridBroken}
 use Rattle.model.specs.Oracle.{gridBodyBroken, accessBroken, tableBroken, transitCount}

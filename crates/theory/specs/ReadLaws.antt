@@ -12,7 +12,8 @@ use borrow.Author.Tests.{ne-eqb, eqb-true}
 use Rattle.model.specs.Lists.{concat, concatMap, indexOf, range, upTo}
 use Rattle.model.specs.Bytes.{Bytes, word16, word32, bytes16, bytes32, numberSize}
 use Rattle.model.specs.Distance.{Distance, unreachable, finite}
-use Rattle.model.specs.Oracle.{noWalk, coded, valueSize, valueBytes, decoded, value, tableBytes, tableEntry, startSize, starts, countSize, entrySize, listSize, entryBytes, listBytes, accessBytes, listStart, listCount, AccessEntry, accessAt, accessEntry, accessList}
+use Rattle.model.specs.Oracle.{noWalk, coded, valueSize, valueBytes, decoded, value, tableBytes, tableEntry, startSize, starts, countSize, entrySize}
+use Rattle.model.specs.Oracle.{listSize, entryBytes, listBytes, accessBytes, listStart, listCount, AccessEntry, accessAt, accessEntry, accessList}
 use Rattle.theory.specs.FileLaws.{word16-append, word32-append, word16-read, word32-read, drop-concat, startOf, start-step, concat-bound}
 use Rattle.theory.specs.RangeLaws.{length-range, getD-map-range}
 
@@ -99,10 +100,16 @@ value-read (finite n) l s = rw (word32-read n l (omega arith)) (simp (ne-eqb n n
 -- ---- records of one size, each with a distance at its start
 
 -- What stands at record i of a list of distances, behind which there may be more.
-pub value-at : {A : Type 0} (f : A → Distance) (l : List A) (rest : Bytes) (i : ℕ) (a : A) → i < length l → Small (f (getD l i a)) → value (concatMap (λ x. valueBytes (f x)) l ++ rest) (valueSize * i) ≡ f (getD l i a)
+pub value-at : {A : Type 0} (f : A → Distance) (l : List A) (rest : Bytes) (i : ℕ) (a : A) → i < length l → Small (f (getD l i a))
+    → value (concatMap (λ x. valueBytes (f x)) l ++ rest) (valueSize * i) ≡ f (getD l i a)
 value-at {A} f l rest i a h s =
     let e : valueSize * i ≡ valueSize * i + 0 = omega arith in
-    rw e (value-drop (whole ++ rest) (valueSize * i) 0 ∙ rw (drop-append-le (valueSize * i) whole rest fits, drop-concatMap (λ x. valueBytes (f x)) valueSize size i l a h, append-assoc (valueBytes (f (getD l i a))) (concatMap (λ x. valueBytes (f x)) (drop (suc i) l)) rest) (value-read (f (getD l i a)) _ s))
+    rw e (value-drop (whole ++ rest) (valueSize * i) 0 ∙ rw (
+      drop-append-le (valueSize * i) whole rest fits,
+      drop-concatMap (λ x. valueBytes (f x)) valueSize
+          size i l a h,
+      append-assoc (valueBytes (f (getD l i a))) (concatMap (λ x. valueBytes (f x)) (drop (suc i) l)) rest,
+    ) (value-read (f (getD l i a)) _ s))
   where
     size : (x : A) → length (valueBytes (f x)) ≡ valueSize
     size x = length-value (f x)
@@ -128,8 +135,10 @@ unfolding tableEntry tableBytes
 table-read d transit i j p q s =
     let row : ℕ → Bytes = λ a. concatMap (λ b. valueBytes (d a b)) transit in
     let size : (a : ℕ) → length (row a) ≡ valueSize * length transit = λ a. length-row (d a) transit in
-    let e : valueSize * (i * length transit + j) ≡ valueSize * length transit * i + valueSize * j = mul-add valueSize (i * length transit) j ∙ ap (λ (k : ℕ). k + valueSize * j) (ap (λ (k : ℕ). valueSize * k) (mul-comm i (length transit)) ∙ sym (mul-assoc valueSize (length transit) i)) in
-    rw e (value-drop (concatMap row transit) (valueSize * length transit * i) (valueSize * j) ∙ rw (drop-concatMap row (valueSize * length transit) size i transit 0 p) (value-at (d (getD transit i 0)) transit _ j 0 q s))
+    let e : valueSize * (i * length transit + j) ≡ valueSize * length transit * i + valueSize * j = mul-add valueSize (i * length transit) j
+    ∙ ap (λ (k : ℕ). k + valueSize * j) (ap (λ (k : ℕ). valueSize * k) (mul-comm i (length transit)) ∙ sym (mul-assoc valueSize (length transit) i)) in
+    rw e (value-drop (concatMap row transit) (valueSize * length transit * i) (valueSize * j)
+    ∙ rw (drop-concatMap row (valueSize * length transit) size i transit 0 p) (value-at (d (getD transit i 0)) transit _ j 0 q s))
 
 -- ---- the access body
 
@@ -144,8 +153,10 @@ start-read at j [] rest h s = absurd (omega arith)
 start-read at zero (l ∷ ls) rest h s = unfold starts bytes32 bytes16 word32 word16 concat in omega arith
 start-read at (suc j) (l ∷ ls) rest h s =
     let e : startSize * suc j ≡ length (bytes32 at) + startSize * j = unfold bytes32 bytes16 in omega arith in
-    let a : starts at (l ∷ ls) ++ rest ≡ bytes32 at ++ (starts (at + length l) ls ++ rest) = unfold starts in append-assoc (bytes32 at) (starts (at + length l) ls) rest in
-    rw (e, a) (word32-append (bytes32 at) (starts (at + length l) ls ++ rest) (startSize * j) ∙ start-read (at + length l) j ls rest (omega arith) (omega (arith, start-step at j l ls)) ∙ start-step at j l ls)
+    let a : starts at (l ∷ ls) ++ rest ≡ bytes32 at ++ (starts (at + length l) ls ++ rest) = unfold starts in append-assoc (bytes32 at)
+    (starts (at + length l) ls) rest in
+    rw (e, a) (word32-append (bytes32 at) (starts (at + length l) ls ++ rest) (startSize * j)
+    ∙ start-read (at + length l) j ls rest (omega arith) (omega (arith, start-step at j l ls)) ∙ start-step at j l ls)
 
 -- Records of an index and a distance.
 abbrev pub recordBytes : {A : Type 0} → (A → ℕ) → (A → Distance) → A → Bytes
@@ -156,11 +167,18 @@ module _ {A : Type 0} (index : A → ℕ) (dist : A → Distance) (l : List A) (
   unfolding bytes16
   record-size x = omega (arith, length-value (dist x))
 
-  from-record : drop (entrySize * i) (concatMap (recordBytes index dist) l ++ rest) ≡ bytes16 (index (getD l i a)) ++ (valueBytes (dist (getD l i a)) ++ (concatMap (recordBytes index dist) (drop (suc i) l) ++ rest))
+  from-record : drop (entrySize * i) (concatMap (recordBytes index dist) l ++ rest) ≡ bytes16 (index (getD l i a)) ++
+      (valueBytes (dist (getD l i a)) ++ (concatMap (recordBytes index dist) (drop (suc i) l) ++ rest))
   from-record =
-      let fits : entrySize * i ≤ length (concatMap (recordBytes index dist) l) = omega (arith, length-concatMap (recordBytes index dist) entrySize record-size l) in
-      rw (drop-append-le (entrySize * i) (concatMap (recordBytes index dist) l) rest fits, drop-concatMap (recordBytes index dist) entrySize record-size i l a h)
-      (unfold bytes16 in append-assoc (bytes16 (index (getD l i a)) ++ valueBytes (dist (getD l i a))) (concatMap (recordBytes index dist) (drop (suc i) l)) rest ∙ append-assoc (bytes16 (index (getD l i a))) (valueBytes (dist (getD l i a))) (concatMap (recordBytes index dist) (drop (suc i) l) ++ rest))
+      let fits : entrySize * i ≤ length (concatMap (recordBytes index dist) l) = omega
+      (arith, length-concatMap (recordBytes index dist) entrySize record-size l) in
+      rw (
+        drop-append-le (entrySize * i) (concatMap (recordBytes index dist) l) rest fits,
+        drop-concatMap (recordBytes index dist) entrySize record-size i l a
+            h,
+      )
+      (unfold bytes16 in append-assoc (bytes16 (index (getD l i a)) ++ valueBytes (dist (getD l i a))) (concatMap (recordBytes index dist) (drop (suc i) l))
+      rest ∙ append-assoc (bytes16 (index (getD l i a))) (valueBytes (dist (getD l i a))) (concatMap (recordBytes index dist) (drop (suc i) l) ++ rest))
 
   pub record-index : index (getD l i a) < 65536 → word16 (concatMap (recordBytes index dist) l ++ rest) (entrySize * i) ≡ index (getD l i a)
   record-index s =
@@ -169,7 +187,8 @@ module _ {A : Type 0} (index : A → ℕ) (dist : A → Distance) (l : List A) (
 
   pub record-distance : Small (dist (getD l i a)) → value (concatMap (recordBytes index dist) l ++ rest) (entrySize * i + numberSize) ≡ dist (getD l i a)
   unfolding bytes16
-  record-distance s = value-drop (concatMap (recordBytes index dist) l ++ rest) (entrySize * i) numberSize ∙ rw from-record (value-append (bytes16 (index (getD l i a))) _ 0 ∙ value-read (dist (getD l i a)) _ s)
+  record-distance s = value-drop (concatMap (recordBytes index dist) l ++ rest) (entrySize * i) numberSize
+      ∙ rw from-record (value-append (bytes16 (index (getD l i a))) _ 0 ∙ value-read (dist (getD l i a)) _ s)
 
 pub length-list : (d : ℕ → ℕ → Distance) (transit : List ℕ) (u : ℕ) (access : List ℕ) → length (listBytes d transit u access) ≡ listSize (length access)
 unfolding listBytes bytes16
@@ -178,7 +197,8 @@ length-list d transit u access =
     omega (arith, length-concatMap (λ a. entryBytes transit a (d u a)) entrySize size access)
 
 -- A list made by index is the list made by element.
-pub map-range : {A B : Type 0} (f : ℕ → A) (g : B → A) (b : B) (s : ℕ) (l : List B) → ((i : ℕ) → i < length l → f (s + i) ≡ g (getD l i b)) → map f (range s (length l)) ≡ map g l
+pub map-range : {A B : Type 0} (f : ℕ → A) (g : B → A) (b : B) (s : ℕ) (l : List B) → ((i : ℕ) → i < length l → f (s + i) ≡ g (getD l i b))
+    → map f (range s (length l)) ≡ map g l
 unfolding range
 map-range f g b s [] h = refl
 map-range {A} f g b s (x ∷ xs) h =
@@ -216,7 +236,8 @@ module _ (d : ℕ → ℕ → Distance) (transit : List ℕ) (lists : List (List
 
     pub list-start : listStart all-bytes u ≡ startOf (startSize * length lists) ls u
     unfolding listStart accessBytes
-    list-start = start-read (startSize * length lists) u ls (concat ls) in-ls (omega (arith, small, length-append (starts (startSize * length lists) ls) (concat ls), length-front, concat-bound u ls in-ls))
+    list-start = start-read (startSize * length lists) u ls (concat ls) in-ls
+        (omega (arith, small, length-append (starts (startSize * length lists) ls) (concat ls), length-front, concat-bound u ls in-ls))
 
     pub from-list : drop (listStart all-bytes u) all-bytes ≡ listBytes d transit u its ++ concat (drop (suc u) ls)
     unfolding accessBytes
@@ -240,7 +261,8 @@ module _ (d : ℕ → ℕ → Distance) (transit : List ℕ) (lists : List (List
         let e : listStart all-bytes u ≡ listStart all-bytes u + 0 = omega arith in
         ap (word16 all-bytes) e ∙ (word16-drop all-bytes (listStart all-bytes u) 0 ∙ rw from-count (word16-read (length its) behind s))
 
-    pub entry-read : (i : ℕ) → i < length its → indexOf (getD its i 0) transit < 65536 → Small (d u (getD its i 0)) → accessEntry all-bytes u i ≡ entryOf d transit u (getD its i 0)
+    pub entry-read : (i : ℕ) → i < length its → indexOf (getD its i 0) transit < 65536 → Small (d u (getD its i 0))
+        → accessEntry all-bytes u i ≡ entryOf d transit u (getD its i 0)
     unfolding accessEntry accessAt
     entry-read i q s t = λ k. record { index = ix k; distance = dx k }
       where
@@ -251,7 +273,8 @@ module _ (d : ℕ → ℕ → Distance) (transit : List ℕ) (lists : List (List
         ix =
             ap (word16 all-bytes) e ∙
             (word16-drop all-bytes (listStart all-bytes u) (countSize + entrySize * i) ∙
-            rw from-count (unfold bytes16 in word16-append (bytes16 (length its)) behind (entrySize * i) ∙ record-index (λ a. indexOf a transit) (d u) its _ i 0 q s))
+            rw from-count (unfold bytes16 in word16-append (bytes16 (length its)) behind (entrySize * i)
+            ∙ record-index (λ a. indexOf a transit) (d u) its _ i 0 q s))
 
         e2 : listStart all-bytes u + countSize + entrySize * i + numberSize ≡ listStart all-bytes u + (countSize + (entrySize * i + numberSize))
         e2 = omega arith
@@ -260,10 +283,13 @@ module _ (d : ℕ → ℕ → Distance) (transit : List ℕ) (lists : List (List
         dx =
             ap (value all-bytes) e2 ∙
             (value-drop all-bytes (listStart all-bytes u) (countSize + (entrySize * i + numberSize)) ∙
-            rw from-count (unfold bytes16 in value-append (bytes16 (length its)) behind (entrySize * i + numberSize) ∙ record-distance (λ a. indexOf a transit) (d u) its _ i 0 q t))
+            rw from-count (unfold bytes16 in value-append (bytes16 (length its)) behind (entrySize * i + numberSize)
+            ∙ record-distance (λ a. indexOf a transit) (d u) its _ i 0 q t))
 
     -- the whole list
-    pub list-read : length its < 65536 → ((i : ℕ) → i < length its → indexOf (getD its i 0) transit < 65536) → ((i : ℕ) → i < length its → Small (d u (getD its i 0)))
+    pub list-read : length its < 65536 → ((i : ℕ) → i < length its → indexOf (getD its i 0) transit < 65536)
+        → ((i : ℕ) → i < length its → Small (d u (getD its i 0)))
         → accessList all-bytes u ≡ map (entryOf d transit u) its
     unfolding accessList
-    list-read c s t = rw (list-count c) (map-range (accessEntry all-bytes u) (entryOf d transit u) 0 0 its (λ i q. rw zero-add (entry-read i q (s i q) (t i q))))
+    list-read c s t = rw (list-count c) (map-range (accessEntry all-bytes u) (entryOf d transit u) 0 0 its
+        (λ i q. rw zero-add (entry-read i q (s i q) (t i q))))

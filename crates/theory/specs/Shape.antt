@@ -12,7 +12,7 @@ use lib.Dec.{eqb, ltb}
 use borrow.Author.Tests.{lt-ltb, le-ltb, eq-eqb, ltb-true, eqb-true}
 use Rattle.model.specs.Lists.{Part, gapless, any, all, filter, rising, upTo, range, indexOf, concat}
 use Rattle.model.specs.Bytes.{Bytes, byte, word32, bytes16, bytes32}
-use Rattle.model.specs.Contents.{entry, entryAt, entries, file, bodyPart, contentsBroken, ofItsKind, bodiesBroken}
+use Rattle.model.specs.Contents.{entry, entryAt, entries, file, bodyPart, contentsBroken, ofItsKind, bodiesBroken, headSize, contentsEntrySize}
 use Rattle.model.specs.Distance.{Distance, unreachable, finite}
 use Rattle.model.specs.Oracle.{noWalk, maxValue, decoded, value, valueBroken}
 use Rattle.theory.specs.FileLaws.{nine, entries-step, startOf, start-step, file-offset, file-size, length-file}
@@ -30,18 +30,20 @@ gapless-parts at s p (b ∷ bs) hs hz =
     let start : p s .start ≡ at = rw add-zero at (hs 0 (omega arith)) ∙ omega arith in
     let size : p s .size ≡ length b = rw add-zero at (hz 0 (omega arith)) in
     let shift : (j : ℕ) → suc s + j ≡ s + suc j = λ j. omega arith in
-    let rest = gapless-parts (at + length b) (suc s) p bs (λ j h. ap (λ k. p k .start) (shift j) ∙ (hs (suc j) (omega arith) ∙ sym (start-step at j b bs))) (λ j h. ap (λ k. p k .size) (shift j) ∙ hz (suc j) (omega arith)) in
+    let rest = gapless-parts (at + length b) (suc s) p bs (λ j h. ap (λ k. p k .start) (shift j) ∙ (hs (suc j) (omega arith) ∙ sym (start-step at j b bs)))
+    (λ j h. ap (λ k. p k .size) (shift j) ∙ hz (suc j) (omega arith)) in
     let e : at + length b + length (concat bs) ≡ at + length (b ++ concat bs) = omega (arith, length-append b (concat bs)) in
     and (eq-eqb _ _ start) (rw size (subst (λ (m : ℕ). gapless (at + length b) (map p (range (suc s) (length bs))) m ≡ true) e rest))
 
 -- ---- kinds
-kind-read : (k at j : ℕ) (bs : List Bytes) (l : Bytes) → j < length bs → byte (entries k at bs ++ l) (9 * j) ≡ suc (k + j)
+kind-read : (k at j : ℕ) (bs : List Bytes) (l : Bytes) → j < length bs → byte (entries k at bs ++ l) (contentsEntrySize * j) ≡ suc (k + j)
 kind-read k at j [] l h = absurd (omega arith)
 kind-read k at zero (b ∷ bs) l h = unfold entries in omega arith
 kind-read k at (suc j) (b ∷ bs) l h =
-    let e : 9 * suc j ≡ length (nine k at (length b)) + 9 * j = unfold nine bytes32 bytes16 in omega arith in
+    let e : contentsEntrySize * suc j ≡ length (nine k at (length b)) + contentsEntrySize * j = unfold nine bytes32 bytes16 in omega arith in
     let f : suc (suc k + j) ≡ suc (k + suc j) = omega arith in
-    rw (entries-step k at b bs l, e) (getD-append-add (nine k at (length b)) (entries (suc k) (at + length b) bs ++ l) (9 * j) 0 ∙ (kind-read (suc k) (at + length b) j bs l (omega arith) ∙ f))
+    rw (entries-step k at b bs l, e) (getD-append-add (nine k at (length b)) (entries (suc k) (at + length b) bs ++ l) (contentsEntrySize * j) 0
+    ∙ (kind-read (suc k) (at + length b) j bs l (omega arith) ∙ f))
 
 -- ---- a value that decodes to a distance within bounds is in range
 abbrev pub Bounded : Distance → Type 0
@@ -104,9 +106,11 @@ rising-filter p (x ∷ l) h = step (p x) (rising-filter p l (rising-tail x l h))
 index-less : (t : List ℕ) → rising t ≡ true → (x y : ℕ) → List·Memᴰ x t → List·Memᴰ y t → x < y → indexOf x t < indexOf y t
 unfolding indexOf
 index-less [] r x y mx my h = absurd (List·Memᴰ·not-nil mx)
-index-less (z ∷ t) r x y mx my h = step (eqb x z) (eqb y z) refl refl (List·Memᴰ·cases-cons mx) (List·Memᴰ·cases-cons my) (λ a b. index-less t (rising-tail z t r) x y a b h)
+index-less (z ∷ t) r x y mx my h = step (eqb x z) (eqb y z) refl refl (List·Memᴰ·cases-cons mx) (List·Memᴰ·cases-cons my)
+    (λ a b. index-less t (rising-tail z t r) x y a b h)
   where
-    step : (p q : Bool) → eqb x z ≡ p → eqb y z ≡ q → (x ≡ z) ⊎ List·Memᴰ x t → (y ≡ z) ⊎ List·Memᴰ y t → (List·Memᴰ x t → List·Memᴰ y t → indexOf x t < indexOf y t)
+    step : (p q : Bool) → eqb x z ≡ p → eqb y z ≡ q → (x ≡ z) ⊎ List·Memᴰ x t → (y ≡ z) ⊎ List·Memᴰ y t
+        → (List·Memᴰ x t → List·Memᴰ y t → indexOf x t < indexOf y t)
         → cond p 0 (suc (indexOf x t)) < cond q 0 (suc (indexOf y t))
     step true true a b c d rest = let e : x ≡ z = eqb-true x z a in let f : y ≡ z = eqb-true y z b in absurd (omega arith)
     step true false a b c d rest = omega arith
@@ -142,9 +146,10 @@ module _ (edition : ℕ) (bs : List Bytes) (small : length (file edition bs) < 4
   contents-fine =
       let long : entryAt (length bs) ≤ length (file edition bs) = omega (arith, length-file edition bs) in
       let two : 2 ≤ length (file edition bs) = unfold file in omega arith in
-      rw (le-ltb (length (file edition bs)) 2 two, le-ltb (length (file edition bs)) (entryAt (length bs)) long) (unfold file in rw (eq-eqb edition edition refl, eq-eqb (length bs) (length bs) refl))
+      rw (le-ltb (length (file edition bs)) 2 two, le-ltb (length (file edition bs)) (entryAt (length bs)) long)
+      (unfold file in rw (eq-eqb edition edition refl, eq-eqb (length bs) (length bs) refl))
 
-  entry-at : (k : ℕ) → entryAt k ≡ 2 + 9 * k
+  entry-at : (k : ℕ) → entryAt k ≡ headSize k
   unfolding entryAt
   entry-at k = refl
 
@@ -153,7 +158,8 @@ module _ (edition : ℕ) (bs : List Bytes) (small : length (file edition bs) < 4
   kind-byte k h =
       let f : suc (0 + k) ≡ k + 1 = omega arith in
       ap (byte (file edition bs)) (entry-at k) ∙
-      (getD-append-add (edition ∷ (length bs ∷ [])) (entries 0 (entryAt (length bs)) bs ++ concat bs) (9 * k) 0 ∙ (kind-read 0 (entryAt (length bs)) k bs (concat bs) h ∙ f))
+      (getD-append-add (edition ∷ (length bs ∷ [])) (entries 0 (entryAt (length bs)) bs ++ concat bs) (contentsEntrySize * k) 0
+      ∙ (kind-read 0 (entryAt (length bs)) k bs (concat bs) h ∙ f))
 
   kind-fine : (k : ℕ) → k < length bs → ofItsKind (file edition bs) k ≡ true
   unfolding ofItsKind entry
@@ -163,5 +169,6 @@ module _ (edition : ℕ) (bs : List Bytes) (small : length (file edition bs) < 4
   unfolding bodiesBroken
   bodies-fine =
       let kinds = all-of (ofItsKind (file edition bs)) (upTo (length bs)) (λ k m. kind-fine k (omega (arith, range→ 0 (length bs) k m))) in
-      let parts = gapless-parts (entryAt (length bs)) 0 (bodyPart (file edition bs)) bs (λ j h. unfold bodyPart in rw zero-add (file-offset edition bs j h small)) (λ j h. unfold bodyPart in rw zero-add (file-size edition bs j h small)) in
+      let parts = gapless-parts (entryAt (length bs)) 0 (bodyPart (file edition bs)) bs
+      (λ j h. unfold bodyPart in rw zero-add (file-offset edition bs j h small)) (λ j h. unfold bodyPart in rw zero-add (file-size edition bs j h small)) in
       rw (kinds, length-file edition bs, parts)

@@ -19,7 +19,7 @@ keep (yes e) s = s
 keep {x} (no n) s = x ∷ s
 
 -- The nodes of `s` that are not `p`.
-remove : ℕ → List ℕ → List ℕ
+pub remove : ℕ → List ℕ → List ℕ
 remove p [] = []
 remove p (x ∷ s) = keep (ℕ-discrete x p) (remove p s)
 
@@ -32,7 +32,7 @@ remove-le p (x ∷ s) = pick (ℕ-discrete x p) (remove-le p s)
     pick (yes e) h = omega arith
     pick (no n) h = omega arith
 
-remove-lt : (p : ℕ) (s : List ℕ) → List·Memᴰ p s → length (remove p s) < length s
+pub remove-lt : (p : ℕ) (s : List ℕ) → List·Memᴰ p s → length (remove p s) < length s
 unfolding remove keep
 remove-lt p [] i = absurd (List·Memᴰ·not-nil i)
 remove-lt p (x ∷ s) i = pick (ℕ-discrete x p) (List·Memᴰ·cases-cons i) (remove-lt p s)
@@ -42,7 +42,7 @@ remove-lt p (x ∷ s) i = pick (ℕ-discrete x p) (List·Memᴰ·cases-cons i) (
     pick (no n) (inl e) h = absurd (n (sym e))
     pick (no n) (inr j) h = omega (arith, h j)
 
-remove-mem : (p v : ℕ) (s : List ℕ) → List·Memᴰ v s → v ≢ p → List·Memᴰ v (remove p s)
+pub remove-mem : (p v : ℕ) (s : List ℕ) → List·Memᴰ v s → v ≢ p → List·Memᴰ v (remove p s)
 unfolding remove keep
 remove-mem p v [] i n = absurd (List·Memᴰ·not-nil i)
 remove-mem p v (x ∷ s) i n = pick (ℕ-discrete x p) (List·Memᴰ·cases-cons i) (λ j. remove-mem p v s j n)
@@ -104,9 +104,11 @@ shorten-tour : {arcs : List Arc} {u t n : ℕ} (k : ℕ) (s : List ℕ) → leng
 shorten-tour zero s h (here i) = absurd (omega (arith, remove-lt _ s i))
 shorten-tour zero s h (step a i j w) = absurd (omega (arith, remove-lt _ s j))
 shorten-tour (suc k) s h (here i) = done refl
-shorten-tour {arcs} (suc k) s h (step {t = t} {n = n} a i j w) = pick (λ v m. shorten-tour {u = v} {n = m} k (remove (a .from) s) (omega (arith, remove-lt _ s j))) (cut (a .from) w)
+shorten-tour {arcs} (suc k) s h (step {t = t} {n = n} a i j w) = pick (λ v m. shorten-tour {u = v} {n = m} k (remove (a .from) s)
+    (omega (arith, remove-lt _ s j))) (cut (a .from) w)
   where
-    pick : ((v m : ℕ) → Tour arcs (remove (a .from) s) v t m → Short arcs k v t m) → Cut arcs s (a .from) (a .to) t n → Short arcs (suc k) (a .from) t (a .cost + n)
+    pick : ((v m : ℕ) → Tour arcs (remove (a .from) s) v t m → Short arcs k v t m) → Cut arcs s (a .from) (a .to) t n
+        → Short arcs (suc k) (a .from) t (a .cost + n)
     pick rec (avoids w′) = more a i (omega arith) (rec (a .to) n w′)
     pick rec (ends e) = done e
     pick rec (leaves b m l e w′ le) = rw (← e) (more b l (omega arith) (rec (b .to) m w′))

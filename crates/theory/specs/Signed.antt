@@ -24,7 +24,8 @@ module _ (u : ℕ) (word : u < 4_294_967_296) where
   unfolding coordinate signed
   in-range = pick (ltb u 2_147_483_648) refl
     where
-      pick : (b : Bool) → ltb u 2_147_483_648 ≡ b → ((u + maxMetres) % 4_294_967_296 ≤ maxMetres + maxMetres) ↔ InRange (cond b (pos u) (negsuc (4_294_967_295 - u)))
+      pick : (b : Bool) → ltb u 2_147_483_648 ≡ b → ((u + maxMetres) % 4_294_967_296 ≤ maxMetres + maxMetres) ↔ InRange
+          (cond b (pos u) (negsuc (4_294_967_295 - u)))
       pick true e = let l = ltb-true u 2_147_483_648 e in (λ h. omega arith, λ h. omega arith)
       pick false e = let l = ltb-false u 2_147_483_648 e in (λ h. omega arith, λ h. omega arith)
 

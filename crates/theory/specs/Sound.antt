@@ -15,7 +15,8 @@ use Rattle.model.specs.Walk.{Arc, Mem}
 use Rattle.theory.specs.Walks.{Costs, Within, Positive}
 use Rattle.model.specs.Distance.{Distance, unreachable, finite}
 use Rattle.theory.specs.Exact.{dist-bound}
-use Rattle.model.specs.Network.{Edge, network, nodes, edges, edge, openEdges, order, nodeCount, edgeCount, arcs, arcsOf, distance, nodesBroken, edgeBroken, someEdgeBroken, edgesBroken, numbersBroken, maxNodes, maxEdges, maxSeconds, minSeconds, nodeSize, edgeSize}
+use Rattle.model.specs.Network.{Edge, network, nodes, edges, edge, openEdges, order, nodeCount, edgeCount, arcs, arcsOf, distance, nodesBroken, edgeBroken}
+use Rattle.model.specs.Network.{someEdgeBroken, edgesBroken, numbersBroken, maxNodes, maxEdges, maxSeconds, minSeconds, nodeSize, edgeSize}
 use Rattle.theory.specs.RangeLaws.{length-range}
 use Rattle.theory.specs.ReadLaws.{Small}
 use Rattle.theory.specs.Tests.{both}
@@ -85,7 +86,8 @@ open-fine n b closed ok e m =
 
 -- ---- arcs
 -- What holds of each edge's ends and seconds, in either order of the ends, holds of each arc.
-pub arc-of : (P : ℕ → ℕ → ℕ → Type 0) (es : List Edge) → ((e : Edge) → List·Memᴰ e es → P (e .first) (e .second) (e .seconds)) → ((e : Edge) → List·Memᴰ e es → P (e .second) (e .first) (e .seconds))
+pub arc-of : (P : ℕ → ℕ → ℕ → Type 0) (es : List Edge) → ((e : Edge) → List·Memᴰ e es → P (e .first) (e .second) (e .seconds))
+    → ((e : Edge) → List·Memᴰ e es → P (e .second) (e .first) (e .seconds))
     → (a : Arc) → Mem a (concatMap arcsOf es) → P (a .from) (a .to) (a .cost)
 unfolding arcsOf
 arc-of P es there back a m = let r = concatMap→ arcsOf es m in step (r .0) (r .1) (List·Memᴰ·cases-cons (r .2))
@@ -166,6 +168,8 @@ module _ (f : Bytes) (ok : Sound f) where
   pub closed-bytes : length (closedBody f) ≤ numberSize * maxEdges
   unfolding numbersBroken
   closed-bytes =
-      let even = or-false (not (eqb (length (closedBody f) % numberSize) 0) || not (rising (words16 (closedBody f)))) (any (leb (edgeCount (edgeBody f))) (words16 (closedBody f))) (ok .closed) .0 in
-      let e : length (closedBody f) % numberSize ≡ 0 = eqb-true _ _ (not-false (or-false (not (eqb (length (closedBody f) % numberSize) 0)) (not (rising (words16 (closedBody f)))) even .0)) in
+      let even = or-false (not (eqb (length (closedBody f) % numberSize) 0) || not (rising (words16 (closedBody f))))
+      (any (leb (edgeCount (edgeBody f))) (words16 (closedBody f))) (ok .closed) .0 in
+      let e : length (closedBody f) % numberSize ≡ 0 = eqb-true _ _ (not-false
+      (or-false (not (eqb (length (closedBody f) % numberSize) 0)) (not (rising (words16 (closedBody f)))) even .0)) in
       omega (arith, few-numbers (edgeCount (edgeBody f)) (closedBody f) (ok .closed), edge-bytes .0)

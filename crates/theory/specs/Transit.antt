@@ -88,7 +88,8 @@ module _ (net : Network) (ends : (e : Edge) → List·Memᴰ e (net .edges) → 
       let v = map→ (cellOf grid) (net .nodes) m in
       Memᴰ·cast (v .2) (in-grid (dv .g) (cellOf grid (v .0)) (column-below dv (net .nodes) p (v .0) (v .1)) (row-below dv (net .nodes) p (v .0) (v .1)))
 
-  listed : (xs ys : List Cell) → ((c : Cell) (a : ℕ) → List·Memᴰ c xs → List·Memᴰ a (accessOf c) → List·Memᴰ c ys) → (a : ℕ) → any (member a) (map accessOf xs) ≡ true → any (member a) (map accessOf ys) ≡ true
+  listed : (xs ys : List Cell) → ((c : Cell) (a : ℕ) → List·Memᴰ c xs → List·Memᴰ a (accessOf c) → List·Memᴰ c ys) → (a : ℕ)
+      → any (member a) (map accessOf xs) ≡ true → any (member a) (map accessOf ys) ≡ true
   listed xs ys k a h =
       let l = any→ (member a) (map accessOf xs) h in
       let c = map→ accessOf xs (l .1) in
@@ -97,4 +98,5 @@ module _ (net : Network) (ends : (e : Edge) → List·Memᴰ e (net .edges) → 
 
   pub transit-all : transitNodes (order net) (map accessOf (allCells (dv .g))) ≡ transitNodes (order net) (accessLists net grid)
   unfolding transitNodes accessLists
-  transit-all = filter-same _ _ (upTo (order net)) (λ a. same-test (listed (allCells (dv .g)) cs (λ c a m n. has-node c a n) a) (listed cs (allCells (dv .g)) (λ c a m n. node-in-grid c m) a))
+  transit-all = filter-same _ _ (upTo (order net)) (λ a. same-test (listed (allCells (dv .g)) cs (λ c a m n. has-node c a n) a)
+      (listed cs (allCells (dv .g)) (λ c a m n. node-in-grid c m) a))

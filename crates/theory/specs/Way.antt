@@ -115,13 +115,25 @@ module _ (d : ℕ → Distance) where
       let g = filter→ (test u) arcs (r .1) in
       let b = both {b = eqb (r .0 .from) u} (g .1) in
       let f = fits→ (d u) (d (r .0 .to)) (r .0 .cost) (b .1) in
-      record { arc = r .0; listed = g .0; starts = eqb-true (b .0); ends = sym (r .2); n = f .n; k = f .k; here = f .here; there = ap d (r .2) ∙ f .there; sum = f .sum }
+      record {
+        arc = r .0;
+        listed = g .0;
+        starts = eqb-true (b .0);
+        ends = sym (r .2);
+        n = f .n;
+        k = f .k;
+        here = f .here;
+        there = ap d (r .2)
+            ∙ f .there;
+        sum = f .sum;
+      }
 
   →nexts : (arcs : List Arc) (u v : ℕ) → Step d arcs u v → List·Memᴰ v (nexts d arcs u)
   unfolding nexts
   →nexts arcs u v s =
       let there : d (s .arc .to) ≡ finite (s .k) = ap d (s .ends) ∙ s .there in
-      Memᴰ·cast (sym (s .ends)) (→map (λ a. a .to) (filter (test u) arcs) (→filter (test u) arcs (s .listed) (and (true-eqb (s .starts)) (→fits (s .arc .cost) (s .here) there (s .sum)))))
+      Memᴰ·cast (sym (s .ends)) (→map (λ a. a .to) (filter (test u) arcs)
+      (→filter (test u) arcs (s .listed) (and (true-eqb (s .starts)) (→fits (s .arc .cost) (s .here) there (s .sum)))))
 
 -- ---- the way is a least walk, and the first
 module _ (arcs : List Arc) (t : ℕ) (d : ℕ → Distance) (exact : Exact arcs t d) (positive : Positive arcs) where
@@ -153,7 +165,8 @@ module _ (arcs : List Arc) (t : ℕ) (d : ℕ → Distance) (exact : Exact arcs 
       s : Step d arcs (a .from) (a .to)
       s = first-step a m w e
 
-      step : (l : List ℕ) → nexts d arcs (a .from) ≡ l → Before (a .to ∷ nodesAfter w) (onward l (λ x. x ∷ wayAfter d arcs f x)) → (Before (nodesAfter w) (wayAfter d arcs f (a .to)) → ⊥) → ⊥
+      step : (l : List ℕ) → nexts d arcs (a .from) ≡ l → Before (a .to ∷ nodesAfter w) (onward l (λ x. x ∷ wayAfter d arcs f x))
+          → (Before (nodesAfter w) (wayAfter d arcs f (a .to)) → ⊥) → ⊥
       step [] q b rest = b
       step (v ∷ vs) q (inl h) rest = omega (arith, leastOf-le v vs (rw q at (→nexts d arcs (a .from) (a .to) s)))
       step (v ∷ vs) q (inr h) rest = rest (subst (λ x. Before (nodesAfter w) (wayAfter d arcs f x)) (sym (h .0)) (h .1))
@@ -179,7 +192,8 @@ module _ (arcs : List Arc) (t : ℕ) (d : ℕ → Distance) (exact : Exact arcs 
   walk-after zero {u} {n} h e = ended (exact .times u n .0 e .has) (λ v s. omega (arith, nearer s, time-inj (sym e ∙ s .here))) e
   walk-after (suc f) {u} {n} h e = step (nexts d arcs u) refl (λ v k g z. walk-after f g z)
     where
-      step : (l : List ℕ) → nexts d arcs u ≡ l → ((v k : ℕ) → k ≤ f → d v ≡ finite k → Taking v k (wayAfter d arcs f v)) → Taking u n (onward l (λ x. x ∷ wayAfter d arcs f x))
+      step : (l : List ℕ) → nexts d arcs u ≡ l → ((v k : ℕ) → k ≤ f → d v ≡ finite k → Taking v k (wayAfter d arcs f v))
+          → Taking u n (onward l (λ x. x ∷ wayAfter d arcs f x))
       step [] q rest = ended (exact .times u n .0 e .has) (λ v s. List·Memᴰ·not-nil (rw q at (→nexts d arcs u v s))) e
       step (v ∷ vs) q rest =
           let s = to-lowest u v vs q in

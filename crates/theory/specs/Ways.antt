@@ -51,7 +51,8 @@ module _ (f : Bytes) (ok : Sound f) (t : ℕ) (ht : t < order (network f)) where
   way-least {u} l = let r = way-walk net-arcs t (λ v. distance (network f) v t) right (positive f ok) l in (r .0, r .1 ∙ sym (same u))
 
   -- and every other least walk comes after it by node numbers
-  pub way-earliest : {u n : ℕ} → Least net-arcs u t n → (w : Walk net-arcs u t n) → (nodesOf w ≡ query.way (network f) u t) ⊎ Before (query.way (network f) u t) (nodesOf w)
+  pub way-earliest : {u n : ℕ} → Least net-arcs u t n → (w : Walk net-arcs u t n)
+      → (nodesOf w ≡ query.way (network f) u t) ⊎ Before (query.way (network f) u t) (nodesOf w)
   way-earliest {u} l w = rw (same u) (way-order net-arcs t (λ v. distance (network f) v t) right (positive f ok) l w)
 
   -- where there is none, it is empty

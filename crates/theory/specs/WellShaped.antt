@@ -10,18 +10,23 @@ use lib.Dec.{leb}
 use borrow.Author.Tests.{lt-leb, eq-eqb}
 use Rattle.model.specs.Lists.{gapless, rising, upTo, indexOf, concat, concatMap}
 use Rattle.model.specs.Bytes.{Bytes, word16, bytes16, numberSize, words16}
-use Rattle.model.specs.Contents.{contentsBroken, bodiesBroken, oracleEdition, oracleEntries, nodeBody, edgeBody, closedBody, gridBody, transitBody, accessBody, tableBody}
+use Rattle.model.specs.Contents.{contentsBroken, bodiesBroken, oracleEdition, oracleEntries, nodeBody, edgeBody, closedBody, gridBody, transitBody}
+use Rattle.model.specs.Contents.{accessBody, tableBody}
 use Rattle.model.specs.Distance.{Distance, unreachable, finite}
 use Rattle.theory.specs.Exact.{dist-bound}
-use Rattle.model.specs.Network.{network, order, arcs, distance, nodeCount, edgeCount, nodesBroken, coordinatesBroken, edgesBroken, someEdgeBroken, numbersBroken}
+use Rattle.model.specs.Network.{network, order, arcs, distance, nodeCount, edgeCount, nodesBroken, coordinatesBroken, edgesBroken, someEdgeBroken}
+use Rattle.model.specs.Network.{numbersBroken}
 use Rattle.model.specs.Grid.{divisionBytes}
 use Rattle.model.specs.Access.{accessNodes, transitNodes}
-use Rattle.model.specs.Oracle.{indexes, cellBroken, oracle, value, valueBroken, valueBytes, valueSize, startSize, accessBytes, tableBytes, transitCount, listCount, listPart, accessAt, accessEntry, accessList, gridBodyBroken, entryBroken, listBroken, accessBroken, tableBroken, tableEntry}
+use Rattle.model.specs.Oracle.{indexes, cellBroken, oracle, value, valueBroken, valueBytes, valueSize, startSize, accessBytes, tableBytes, transitCount}
+use Rattle.model.specs.Oracle.{listCount, listPart, accessAt, accessEntry, accessList, gridBodyBroken, entryBroken, listBroken, accessBroken, tableBroken}
+use Rattle.model.specs.Oracle.{tableEntry}
 use Rattle.model.specs.Rules.{firstBroken, shapeRules, accepted, wellShaped}
 use Rattle.model.specs.declared.Division.{Division}
 use Rattle.theory.specs.Members.{range→, filter→, map→, concatMap→, getD-mem, index-of}
 use Rattle.theory.specs.FarModel.{inside}
-use Rattle.theory.specs.Built.{Good, bodies-of, transit-of, lists-of, cells-of, access-of, count-lists, list-of, few-transit, few-access, in-transit, count-transit}
+use Rattle.theory.specs.Built.{Good, bodies-of, transit-of, lists-of, cells-of, access-of, count-lists, list-of, few-transit, few-access, in-transit}
+use Rattle.theory.specs.Built.{count-transit}
 use Rattle.theory.specs.Passed.{Passed, all-passed, shaped-all}
 use Rattle.theory.specs.Sound.{ends, costs, few, count-nodes}
 use Rattle.theory.specs.Accepted.{good}
@@ -48,10 +53,16 @@ concatMap-map f h [] = refl
 concatMap-map f h (x ∷ l) = ap (λ r. f (h x) ++ r) (concatMap-map f h l)
 
 -- a table in rows is a list of its squares
-flat : {C : Type 0} (f : ℕ → ℕ → List C) (t l : List ℕ) → concatMap (λ a. concatMap (f a) t) l ≡ concatMap (λ p. f (p .0) (p .1)) (concatMap (λ a. map (pair a) t) l)
+flat : {C : Type 0} (f : ℕ → ℕ → List C) (t l : List ℕ) → concatMap (λ a. concatMap (f a) t) l ≡ concatMap (λ p. f (p .0) (p .1))
+    (concatMap (λ a. map (pair a) t) l)
 unfolding concatMap
 flat f t [] = refl
-flat f t (a ∷ l) = rw (concatMap-append (λ p. f (p .0) (p .1)) (map (pair a) t) (concatMap (λ a. map (pair a) t) l), concatMap-map (λ p. f (p .0) (p .1)) (pair a) t, flat f t l)
+flat f t (a ∷ l) = rw (
+  concatMap-append (λ p. f (p .0) (p .1)) (map (pair a) t) (concatMap (λ a. map (pair a) t) l),
+  concatMap-map (λ p. f (p .0) (p .1))
+      (pair a) t,
+  flat f t l,
+)
 
 module _ (f : Bytes) (dv : Division) (ok : Passed f dv) where
   abbrev o : Bytes
@@ -75,7 +86,12 @@ module _ (f : Bytes) (dv : Division) (ok : Passed f dv) where
     where
       step : (x : Distance) → d u v ≡ x → Bounded x
       step unreachable e = tt
-      step (finite k) e = omega (arith, few f (ok .sound), dist-bound (arcs (network f)) N u v (inside (network f) (ends f (ok .sound))) h 100000 k (costs f (ok .sound)) e)
+      step (finite k) e = omega (
+        arith,
+        few f (ok .sound),
+        dist-bound (arcs (network f)) N u v (inside (network f) (ends f (ok .sound))) h 100000 k
+            (costs f (ok .sound)) e,
+      )
 
   same-count : nodeCount (nodeBody o) ≡ N
   same-count = ap nodeCount (bodies-of f dv fine 0 (omega arith)) ∙ sym (count-nodes f)
@@ -138,26 +154,37 @@ module _ (f : Bytes) (dv : Division) (ok : Passed f dv) where
   in-lists u h = rw (count-lists f dv) h
 
   listed : (u : ℕ) → u < N → (i : ℕ) → i < length (getD (lists-of f dv) u []) → List·Memᴰ (getD (getD (lists-of f dv) u []) i 0) t
-  listed u h i q = in-transit f dv fine u h (subst (λ (l : List ℕ). List·Memᴰ (getD (getD (lists-of f dv) u []) i 0) l) (list-of f dv u h) (getD-mem (getD (lists-of f dv) u []) i 0 q))
+  listed u h i q = in-transit f dv fine u h (subst (λ (l : List ℕ). List·Memᴰ (getD (getD (lists-of f dv) u []) i 0) l) (list-of f dv u h)
+      (getD-mem (getD (lists-of f dv) u []) i 0 q))
 
   layout : gapless (startSize * N) (map (listPart b) (upTo N)) (length b) ≡ true
   layout =
       let count : length pieces ≡ N = read.count-lists d t (lists-of f dv) ∙ count-lists f dv in
-      let end : length b ≡ startSize * length (lists-of f dv) + length (concat pieces) = unfold accessBytes in omega (arith, length-append (Rattle.model.specs.Oracle.starts (startSize * length (lists-of f dv)) pieces) (concat pieces), read.length-front d t (lists-of f dv)) in
+      let end : length b ≡ startSize * length (lists-of f dv) + length (concat pieces) = unfold accessBytes in omega (
+        arith,
+        length-append (Rattle.model.specs.Oracle.starts (startSize * length (lists-of f dv)) pieces) (concat pieces),
+        read.length-front d t
+            (lists-of f dv),
+      ) in
       let all = gapless-parts (startSize * length (lists-of f dv)) 0 (listPart b) pieces
       (λ u h. begins u (rw count at h)) (λ u h. lasts u (rw count at h)) in
-      let whole : gapless (startSize * length (lists-of f dv)) (map (listPart b) (upTo (length (lists-of f dv)))) (startSize * length (lists-of f dv) + length (concat pieces)) ≡ true = subst (λ (n : ℕ). gapless (startSize * length (lists-of f dv)) (map (listPart b) (upTo n)) (startSize * length (lists-of f dv) + length (concat pieces)) ≡ true) (read.count-lists d t (lists-of f dv)) all in
+      let whole : gapless (startSize * length (lists-of f dv)) (map (listPart b) (upTo (length (lists-of f dv))))
+      (startSize * length (lists-of f dv) + length (concat pieces)) ≡ true = subst
+      (λ (n : ℕ). gapless (startSize * length (lists-of f dv)) (map (listPart b) (upTo n)) (startSize * length (lists-of f dv) + length (concat pieces))
+      ≡ true) (read.count-lists d t (lists-of f dv)) all in
       subst (λ (n : ℕ). gapless (startSize * n) (map (listPart b) (upTo n)) (length b) ≡ true) (count-lists f dv)
       (subst (λ (m : ℕ). gapless (startSize * length (lists-of f dv)) (map (listPart b) (upTo (length (lists-of f dv)))) m ≡ true) (sym end) whole)
     where
       begins : (u : ℕ) → u < N → listPart b (0 + u) .start ≡ Rattle.theory.specs.FileLaws.startOf (startSize * length (lists-of f dv)) pieces u
-      begins u h = unfold listPart in rw zero-add (read.list-start d t (lists-of f dv) u (in-lists u h) (Rattle.theory.specs.Built.access-small f dv fine))
+      begins u h = unfold listPart in rw zero-add (read.list-start d t (lists-of f dv) u (in-lists u h)
+          (Rattle.theory.specs.Built.access-small f dv fine))
 
       lasts : (u : ℕ) → u < N → listPart b (0 + u) .size ≡ length (getD pieces u [])
       lasts u h =
           unfold listPart in
           rw (zero-add, read.list-count d t (lists-of f dv) u (in-lists u h) (Rattle.theory.specs.Built.access-small f dv fine) (small-list u h))
-          (sym (ap length (read.its-list d t (lists-of f dv) u (in-lists u h) (Rattle.theory.specs.Built.access-small f dv fine)) ∙ read.length-list d t u (getD (lists-of f dv) u [])))
+          (sym (ap length (read.its-list d t (lists-of f dv) u (in-lists u h) (Rattle.theory.specs.Built.access-small f dv fine))
+          ∙ read.length-list d t u (getD (lists-of f dv) u [])))
 
   entry-is : (u : ℕ) → u < N → (i : ℕ) → i < length (getD (lists-of f dv) u []) → accessEntry b u i ≡ read.entryOf d t u (getD (getD (lists-of f dv) u []) i 0)
   entry-is u h i q =
@@ -168,7 +195,8 @@ module _ (f : Bytes) (dv : Division) (ok : Passed f dv) where
   unfolding entryBroken
   entry-fine u h i q =
       let e = entry-is u h i q in
-      let x : leb (length t) (accessEntry b u i .index) ≡ false = rw e (lt-leb (length t) _ (index-of (getD (getD (lists-of f dv) u []) i 0) t (listed u h i q) .0)) in
+      let x : leb (length t) (accessEntry b u i .index) ≡ false = rw e (lt-leb (length t) _
+      (index-of (getD (getD (lists-of f dv) u []) i 0) t (listed u h i q) .0)) in
       let y : value b (accessAt b u i + numberSize) ≡ d u (getD (getD (lists-of f dv) u []) i 0) =
       ap (λ z. z .distance) (entry-same i) ∙ ap (λ z. z .distance) e in
       rw x (value-fine b (accessAt b u i + numberSize) _ y (bounded u _ h))
@@ -189,12 +217,15 @@ module _ (f : Bytes) (dv : Division) (ok : Passed f dv) where
       (λ i q. omega (arith, index-of (getD L i 0) t (listed u h i q) .0, few-transit f dv, fine .few)) (λ i q. fine .near u _ h) in
       let count : listCount b u ≡ length L = read.list-count d t (lists-of f dv) u (in-lists u h) small (small-list u h) in
       let indexes : map (λ e. e .index) (map (read.entryOf d t u) L) ≡ map (λ a. indexOf a t) L = map-map (λ e. e .index) (read.entryOf d t u) L in
-      let rises : rising (map (λ a. indexOf a t) L) ≡ true = rising-index t L transit-rises (rw (list-of f dv u h) (access-rises u)) (λ x m. in-transit f dv fine u h (rw (list-of f dv u h) at m)) in
-      rw (read-back, indexes, rises, count) (any-none (entryBroken (length t) b u) (upTo (length L)) (λ i m. entry-fine u h i (omega (arith, range→ 0 (length L) i m))))
+      let rises : rising (map (λ a. indexOf a t) L) ≡ true = rising-index t L transit-rises (rw (list-of f dv u h) (access-rises u))
+      (λ x m. in-transit f dv fine u h (rw (list-of f dv u h) at m)) in
+      rw (read-back, indexes, rises, count) (any-none (entryBroken (length t) b u) (upTo (length L))
+      (λ i m. entry-fine u h i (omega (arith, range→ 0 (length L) i m))))
 
   rule10 : accessBroken (nodeCount (nodeBody o)) (transitCount (transitBody o)) (accessBody o) ≡ false
   unfolding accessBroken
-  rule10 = rw (same-count, count-transit f dv fine, bodies-of f dv fine 5 (omega arith), layout) (any-none (listBroken (length t) b) (upTo N) (λ u m. list-fine u (omega (arith, range→ 0 N u m))))
+  rule10 = rw (same-count, count-transit f dv fine, bodies-of f dv fine 5 (omega arith), layout)
+      (any-none (listBroken (length t) b) (upTo N) (λ u m. list-fine u (omega (arith, range→ 0 N u m))))
 
   -- ---- rule 11
   abbrev pairs : List (ℕ × ℕ)
@@ -249,10 +280,12 @@ module _ (f : Bytes) (dv : Division) (ok : Passed f dv) where
 -- ---- what a reader of the oracle finds
 module _ (f : Bytes) (dv : Division) (ok : Passed f dv) where
   pub transit-read : words16 (transitBody (oracle f dv)) ≡ transit-of f dv
-  transit-read = ap words16 (bodies-of f dv (good f dv ok) 4 (omega arith)) ∙ words-read (transit-of f dv) (λ i q. omega (arith, transit-node f dv ok (getD-mem (transit-of f dv) i 0 q), few f (ok .sound)))
+  transit-read = ap words16 (bodies-of f dv (good f dv ok) 4 (omega arith))
+      ∙ words-read (transit-of f dv) (λ i q. omega (arith, transit-node f dv ok (getD-mem (transit-of f dv) i 0 q), few f (ok .sound)))
 
   pub table-built : (i j : ℕ) → i < length (transit-of f dv) → j < length (transit-of f dv)
-      → tableEntry (tableBody (oracle f dv)) (transitCount (transitBody (oracle f dv))) i j ≡ distance (network f) (getD (transit-of f dv) i 0) (getD (transit-of f dv) j 0)
+      → tableEntry (tableBody (oracle f dv)) (transitCount (transitBody (oracle f dv))) i j ≡ distance (network f) (getD (transit-of f dv) i 0)
+      (getD (transit-of f dv) j 0)
   table-built i j p q =
       rw (bodies-of f dv (good f dv ok) 6 (omega arith), count-transit f dv (good f dv ok))
       (read.table-read (distance (network f)) (transit-of f dv) i j p q (good f dv ok .near _ _ (transit-node f dv ok (getD-mem (transit-of f dv) i 0 p))))

@@ -31,7 +31,8 @@ module _ (d : ℕ → Distance) (u : ℕ) where
   test a = eqb (a .from) u && agree (plus (finite (a .cost)) (d (a .to))) (d u)
 
   -- A next node is the end of an arc that passes the test.
-  pub nexts→ : (arcs : List Arc) {v : ℕ} → List·Memᴰ v (nexts d arcs u) → (a : Arc) × List·Memᴰ a arcs × (v ≡ a .to) × (agree (plus (finite (a .cost)) (d (a .to))) (d u) ≡ true)
+  pub nexts→ : (arcs : List Arc) {v : ℕ} → List·Memᴰ v (nexts d arcs u) → (a : Arc) × List·Memᴰ a arcs × (v ≡ a .to)
+      × (agree (plus (finite (a .cost)) (d (a .to))) (d u) ≡ true)
   unfolding nexts
   nexts→ arcs m =
       let r = map→ (λ a. a .to) (filter test arcs) m in
@@ -39,7 +40,8 @@ module _ (d : ℕ → Distance) (u : ℕ) where
       (r .0, g .0, r .2, both {b = eqb (r .0 .from) u} (g .1) .1)
 
   -- Arcs out of u that are among others give next nodes that are among those of the others.
-  nexts-part : (xs ys : List Arc) → ((a : Arc) → List·Memᴰ a xs → eqb (a .from) u ≡ true → List·Memᴰ a ys) → (x : ℕ) → List·Memᴰ x (nexts d xs u) → List·Memᴰ x (nexts d ys u)
+  nexts-part : (xs ys : List Arc) → ((a : Arc) → List·Memᴰ a xs → eqb (a .from) u ≡ true → List·Memᴰ a ys) → (x : ℕ) → List·Memᴰ x (nexts d xs u)
+      → List·Memᴰ x (nexts d ys u)
   unfolding nexts
   nexts-part xs ys part x m =
       let (a, k, e) = map→ (λ z. z .to) (filter test xs) m in
@@ -62,11 +64,13 @@ module _ (d : ℕ → Distance) (u : ℕ) where
       step false p q = q
 
   -- ---- one arc out of u: r is what the code makes of s
-  arc-next : (v c s left r : ℕ) → d u ≡ finite left → r ≡ cond (agree (plus (finite c) (d v)) (finite left)) (min s v) s → r ≡ leastOf s (nexts d (record { from = u; to = v; cost = c } ∷ []) u)
+  arc-next : (v c s left r : ℕ) → d u ≡ finite left → r ≡ cond (agree (plus (finite c) (d v)) (finite left)) (min s v) s
+      → r ≡ leastOf s (nexts d (record { from = u; to = v; cost = c } ∷ []) u)
   unfolding nexts filter leastOf
   arc-next v c s left r h z = z ∙ step (agree (plus (finite c) (d v)) (finite left)) refl
     where
-      step : (b : Bool) → agree (plus (finite c) (d v)) (finite left) ≡ b → cond b (min s v) s ≡ leastOf s (nexts d (record { from = u; to = v; cost = c } ∷ []) u)
+      step : (b : Bool) → agree (plus (finite c) (d v)) (finite left) ≡ b
+          → cond b (min s v) s ≡ leastOf s (nexts d (record { from = u; to = v; cost = c } ∷ []) u)
       step true k = rw (eq-eqb u u refl, h, k)
       step false k = rw (eq-eqb u u refl, h, k)
 
@@ -81,12 +85,14 @@ module _ (d : ℕ → Distance) (u : ℕ) where
     lowered-first p = record { done = []; passes = p; low = unfold nexts filter leastOf in refl }
 
     module _ (r : ℕ) (l : Lowered edges closed n w best a r) where
-      pub lowered-next : (left r′ : ℕ) (a′ : ArcAt) → d u ≡ finite left → r′ ≡ cond (agree (plus (finite (a .cost)) (d (a .to))) (finite left)) (min r (a .to)) r → SteppedArc edges closed n w u a a′
+      pub lowered-next : (left r′ : ℕ) (a′ : ArcAt) → d u ≡ finite left → r′ ≡ cond (agree (plus (finite (a .cost)) (d (a .to))) (finite left)) (min r (a .to))
+          r → SteppedArc edges closed n w u a a′
           → Lowered edges closed n w best a′ r′
       lowered-next left r′ a′ h e s = record {
         done = l .done ++ arcHere u a ∷ [];
         passes = s .passes (l .done) (l .passes);
-        low = arc-next (a .to) (a .cost) r left r′ h e ∙ ap (λ (z : ℕ). leastOf z (nexts d (arcHere u a ∷ []) u)) (l .low) ∙ sym (lowest-append (l .done) (arcHere u a ∷ []) best);
+        low = arc-next (a .to) (a .cost) r left r′ h e ∙ ap (λ (z : ℕ). leastOf z (nexts d (arcHere u a ∷ []) u)) (l .low)
+            ∙ sym (lowest-append (l .done) (arcHere u a ∷ []) best);
       }
 
       -- Only the set of arcs matters, and of those only the ones that leave u.

@@ -1,15 +1,15 @@
-// The next node of a way: "the lowest-numbered neighbour v with road time + d(v, t) = d(u, t)". The distances to the way's end t stand in `times`,
-// and `left` is that of u, the time left.
+// The next node of a way: "the lowest-numbered neighbour v with road time + d(v, t) = d(u, t)". The distances to the way's end t stand in the
+// first words, and `left` is that of u, the time left.
 ghost use mathlib.Core.Path.{_≡_};
 ghost use mathlib.Core.Bool.{cond};
-ghost use Prim.Native.Nat.{_*_, _<_, _≤_, min};
+ghost use Prim.Native.Nat.{_<_, _≤_, min};
 ghost use lib.ListN.{length};
 ghost use Rattle.model.specs.Lists.{leastOf};
 ghost use Rattle.model.specs.Distance.{finite, plus, agree};
 ghost use Rattle.model.specs.Network.{maxNodes};
 ghost use Rattle.model.specs.Query.{nexts};
 ghost use Rattle.arcs.specs.Arcs.{arcsIn};
-ghost use Rattle.index.specs.Index.{Roads};
+ghost use Rattle.index.specs.Index.{IndexedEdges};
 ghost use Rattle.words.specs.Frames.{Enough};
 ghost use Rattle.way.specs.Distances.{distanceIn};
 ghost use Rattle.words.specs.Regions.{timesIn};
@@ -18,14 +18,15 @@ use arcs::cursor::first_edge;
 use arcs::leaving::arc_at;
 use arcs::leaving::next_arc;
 use codec::records::NO_WALK;
+use words::times::time_of;
 
 // The lower of `best` and v where v is next by an arc of `cost` seconds, and else `best`. 'No walk' is no time to add, and the sum is wide, so that it
 // need not be kept small.
-fn lower(times: &[u32], v: usize, cost: u64, left: u32, best: usize) -> usize
-    requires { ⌜ (v < length (now times)) × (cost ≤ maxCost) ⌝ }
-    ensures { λ r. ⌜ r ≡ cond (agree (plus (finite cost) (distanceIn (now (times .entry)) v)) (finite left)) (min best v) best ⌝ }
+fn lower(work: &[u32], n: usize, v: usize, cost: u64, left: u32, best: usize) -> usize
+    requires { ⌜ (n ≤ length (now work)) × (v < n) × (cost ≤ maxCost) ⌝ }
+    ensures { λ r. ⌜ r ≡ cond (agree (plus (finite cost) (distanceIn (timesIn n (now (work .entry))) v)) (finite left)) (min best v) best ⌝ }
 {
-    let x = times[v];
+    let x = time_of(work, n, v);
     if x == NO_WALK {
         return best;
     }
@@ -41,14 +42,14 @@ fn lower(times: &[u32], v: usize, cost: u64, left: u32, best: usize) -> usize
 // The lowest of the next nodes of u, or the number of nodes where there is none.
 pub fn next_node(edges: &[u8], closed: &[u8], n: usize, work: &[u32], u: usize, left: u32) -> usize
     requires { ⌜ (distanceIn (timesIn n (now work)) u ≡ finite left) × (n ≤ maxNodes) × Enough n (now work) ⌝ }
-    requires { ⌜ Roads (now edges) (now closed) n (now work) ⌝ }
+    requires { ⌜ IndexedEdges (now edges) (now closed) n (now work) ⌝ }
     ensures { λ r. ⌜ r ≡ leastOf n (nexts (distanceIn (timesIn n (now (work .entry)))) (arcsIn (now (edges .entry)) (now (closed .entry))) u) ⌝ }
 {
     let mut r = n;
     let c = first_edge(edges, closed, n, work, u);
     let mut a = arc_at(edges, n, u, c);
     while a.to < n {
-        r = lower(&work[..n], a.to, a.cost, left, r);
+        r = lower(work, n, a.to, a.cost, left, r);
         a = next_arc(edges, closed, n, work, u, a);
     }
     r

@@ -1,11 +1,11 @@
 -- Words that stay: the laws of frames. Assumes nothing.
-use Prim.Native.Nat.{ℕ, zero, suc, _+_, _-_, _≤_}
+use Prim.Native.Nat.{ℕ, zero, suc, _+_, _-_, _≤_, _<_}
 use native.Mathlib.Nat.{zero-add, suc-add}
 use native.Mathlib.Omega.{arith}
 use mathlib.Core.Path.{_≡_, refl, sym, ap, _∙_, subst}
 use mathlib.Core.List.{List, [], _∷_}
-use lib.ListN.{take, drop}
-use lib.Seq.{take-take, drop-drop, take-nil, drop-nil}
+use lib.ListN.{set, take, drop}
+use lib.Seq.{take-take, drop-drop, take-nil, drop-nil, take-set-le, drop-set-lt}
 use Rattle.words.specs.Frames.{KeptFrom, OnlyIn}
 
 pub take-drop : (n m : ℕ) (l : List ℕ) → take m (drop n l) ≡ drop n (take (n + m) l)
@@ -36,3 +36,7 @@ module _ (a m : ℕ) (w : List ℕ) where
 
   pub only-then : (x y : List ℕ) → OnlyIn a m w x → OnlyIn a m x y → OnlyIn a m w y
   only-then x y p q = record { front = q .front ∙ p .front; back = q .back ∙ p .back }
+
+  -- A store in the part.
+  pub only-set : (i x : ℕ) → i < m → OnlyIn a m w (set w (a + i) x)
+  only-set i x h = record { front = take-set-le a w (a + i) x (omega arith); back = drop-set-lt (a + m) w (a + i) x (omega arith) }

@@ -5,9 +5,10 @@ use mathlib.Core.Path.{_≡_, sym, ap, _∙_}
 use mathlib.Core.Logic.{_≢_}
 use mathlib.Core.List.{List}
 use lib.ListN.{length, getD, set, length-set}
-use lib.Seq.{getD-take, getD-set-same, getD-set-other, take-set-lt}
+use lib.Seq.{getD-take, getD-set-same, getD-set-other, take-set-lt, drop-set-lt}
 use Rattle.words.specs.Regions.{timesIn}
 use Rattle.words.specs.Times.{time, store}
+use Rattle.words.specs.Frames.{KeptFrom}
 
 pub time-at : (n : ℕ) (w : List ℕ) (v : ℕ) → v < n → getD (timesIn n w) v 0 ≡ time n w v
 unfolding time
@@ -37,6 +38,10 @@ module _ (n v x : ℕ) (w : List ℕ) (v-in : v < n) where
   store-times = take-set-lt n w v x v-in
 
   -- The words behind the times stay.
+  pub store-kept : (a : ℕ) → n ≤ a → KeptFrom a w w₁
+  unfolding store
+  store-kept a h = drop-set-lt a w v x (omega arith)
+
   pub store-behind : (a : ℕ) → n ≤ a → getD w₁ a 0 ≡ getD w a 0
   unfolding store
   store-behind a h = getD-set-other w v a x 0 (λ e. omega arith)

@@ -1,18 +1,18 @@
--- Where the regions stand; the words of one of them, lent and come back, and the regions apart from it. Assumes nothing.
+-- Where the regions stand; the words of one of them changed, and the regions apart from it. Assumes nothing.
 use Prim.Native.Nat.{ℕ, zero, suc, _+_, _-_, _*_, _/_, _≤_, _<_}
 use native.Mathlib.Nat.{add-zero, suc-mul}
 use native.Mathlib.Decide.{decLt}
 use native.Mathlib.Omega.{arith}
-use mathlib.Core.Path.{_≡_, sym, ap, _∙_, subst}
+use mathlib.Core.Path.{_≡_, sym, ap, _∙_}
 use mathlib.Core.List.{List, _++_}
 use borrow.Rule.Slice.PartMut.{midOf, postOf, putMid, take-put, drop-put, mid-len}
 use lib.ListN.{length, set, take, drop, replicate, length-drop}
 use lib.Seq.{length-take-le, take-at, drop-at, getD-take}
 use Rattle.bitset.specs.Bits.{setWords, isIn, insertIn, flags}
-use Rattle.bitset.proofs.Members.{flags-same, flags-insert, flags-none}
-use Rattle.words.specs.Regions.{searchWords, regionAt, region, regionFlags, counts, countsIn, searchWords}
+use Rattle.bitset.proofs.Members.{flags-same, flags-insert, flags-none, insert-is, insert-from}
+use Rattle.words.specs.Regions.{searchWords, regionAt, region, regionFlags}
 use Rattle.words.specs.Frames.{OnlyIn, Only, KeptFrom}
-use Rattle.words.proofs.Stays.{kept-more, before-kept, after-kept}
+use Rattle.words.proofs.Stays.{kept-more, before-kept, after-kept, only-set}
 
 -- ---- where the regions stand
 pub at-words : (n k : ℕ) → k < 3 → k * n ≡ regionAt n k
@@ -76,60 +76,37 @@ module _ (a m : ℕ) (w : List ℕ) where
           ap (take m) (drop-at (take a w) (ys ++ postOf a (a + m - a) w) a (length-take-le a w (omega arith)))
           ∙ take-at ys (postOf a (a + m - a) w) m size
 
-pub counts-is : (n a : ℕ) (w : List ℕ) → a ≡ regionAt n counts → midOf a (a + n - a) w ≡ countsIn n w
-counts-is n a w p = part-is a n w ∙ rw p
-
 pub region-length : (n k : ℕ) (w : List ℕ) → regionAt n k + setWords n ≤ length w → length (region n k w) ≡ setWords n
 region-length n k w h = length-take-le (setWords n) (drop (regionAt n k) w) (simp length-drop (omega arith))
 
--- ---- a set lent: a and m are its place and its words, as the code has them
-module _ (n k a m : ℕ) (w : List ℕ) (p : a ≡ regionAt n k) (q : m ≡ setWords n) where
-  pub set-is : midOf a (a + m - a) w ≡ region n k w
-  set-is = part-is a m w ∙ rw (p, q)
+-- ---- a set lent, to be emptied: a and m are its place and its words, as the code has them
+module _ (n k a m : ℕ) (w : List ℕ) (p : a ≡ regionAt n k) (q : m ≡ setWords n) (h : a + m ≤ length w) where
+  module _ (ys : List ℕ) (e : length ys ≡ length (midOf a (a + m - a) w)) where
+    abbrev new : List ℕ
+    new = putMid a (a + m - a) w ys
 
-  pub in-part : (v : ℕ) → v < n → isIn (midOf a (a + m - a) w) v ≡ isIn (drop (regionAt n k) w) v
-  in-part v h = ap (λ (l : List ℕ). isIn l v) set-is ∙ in-front n (drop (regionAt n k) w) v h
+    pub emptied-only : Only n k w new
+    emptied-only = rw (← p, ← q) (put-only a m w h ys e)
 
-  pub flags-part : flags n (midOf a (a + m - a) w) ≡ regionFlags n k w
-  flags-part = ap (flags n) set-is ∙ flags-front n (drop (regionAt n k) w)
+    pub emptied : ys ≡ replicate (length (midOf a (a + m - a) w)) 0 → regionFlags n k new ≡ replicate n 0
+    emptied r =
+        sym (flags-front n (drop (regionAt n k) new))
+        ∙ (ap (flags n) (rw (← p, ← q) (put-part a m w h ys e) ∙ r) ∙ flags-none n (length (midOf a (a + m - a) w)))
 
-  module _ (h : a + m ≤ length w) where
-    pub set-length : length (midOf a (a + m - a) w) ≡ setWords n
-    set-length = part-length a m w h ∙ q
+-- ---- a node put into a set
+module _ (n k v : ℕ) (w : List ℕ) (v-in : v < n) where
+  pub inserted-only : Only n k w (insertIn w (32 * regionAt n k + v))
+  inserted-only = rw (insert-is w (regionAt n k) v) (only-set (regionAt n k) (setWords n) w (v / 32) _ (omega arith))
 
-    module _ (ys : List ℕ) (e : length ys ≡ length (midOf a (a + m - a) w)) where
-      abbrev new : List ℕ
-      new = putMid a (a + m - a) w ys
-
-      pub only : Only n k w new
-      only =
-          let o = put-only a m w h ys e in
-          let end : a + m ≡ regionAt n k + setWords n = omega (arith, p, q) in
-          record { front = subst (λ (i : ℕ). take i new ≡ take i w) p (o .front); back = subst (λ (i : ℕ). KeptFrom i w new) end (o .back) }
-
-      put-set : region n k new ≡ ys
-      put-set = subst (λ (i : ℕ). take (setWords n) (drop i new) ≡ ys) p (subst (λ (i : ℕ). take i (drop a new) ≡ ys) q (put-part a m w h ys e))
-
-      pub put-flags : regionFlags n k new ≡ flags n ys
-      put-flags = sym (flags-front n (drop (regionAt n k) new)) ∙ ap (flags n) put-set
-
-      pub inserted : (v : ℕ) → v < n → ys ≡ insertIn (midOf a (a + m - a) w) v → regionFlags n k new ≡ set (regionFlags n k w) v 1
-      inserted v l r =
-          let s = region n k w in
-          let long : length s ≡ setWords n = ap length (sym set-is) ∙ set-length in
-          put-flags
-          ∙ (ap (flags n) (r ∙ ap (λ (l : List ℕ). insertIn l v) set-is)
-          ∙ (flags-insert n s v l (omega (arith, long))
-          ∙ ap (λ (l : List ℕ). set l v 1) (flags-front n (drop (regionAt n k) w))))
-
-      pub emptied : ys ≡ replicate (length (midOf a (a + m - a) w)) 0 → regionFlags n k new ≡ replicate n 0
-      emptied r = put-flags ∙ (ap (flags n) r ∙ flags-none n (length (midOf a (a + m - a) w)))
+  pub inserted : regionAt n k + setWords n ≤ length w → regionFlags n k (insertIn w (32 * regionAt n k + v)) ≡ set (regionFlags n k w) v 1
+  inserted h = rw (insert-from w (regionAt n k) v) (flags-insert n (drop (regionAt n k) w) v v-in (simp length-drop (omega arith)))
 
 -- ---- what stays where a part alone is changed
 module _ (a m : ℕ) (w w′ : List ℕ) (o : OnlyIn a m w w′) where
   -- The set in a region that ends before a.
   pub flags-before : (n j : ℕ) → regionAt n j + setWords n ≤ a → regionFlags n j w′ ≡ regionFlags n j w
-  flags-before n j h = sym (flags-front n (drop (regionAt n j) w′)) ∙ (ap (flags n) (before-kept a m w w′ o (regionAt n j) (setWords n) h) ∙ flags-front n (drop (regionAt n j) w))
+  flags-before n j h = sym (flags-front n (drop (regionAt n j) w′)) ∙ (ap (flags n) (before-kept a m w w′ o (regionAt n j) (setWords n) h)
+      ∙ flags-front n (drop (regionAt n j) w))
 
 module _ (n j k : ℕ) (w w′ : List ℕ) (differ : j ≡ k → ⊥) (o : Only n k w w′) where
   pub region-kept : 0 < n → region n j w′ ≡ region n j w
@@ -140,7 +117,8 @@ module _ (n j k : ℕ) (w w′ : List ℕ) (differ : j ≡ k → ⊥) (o : Only 
       pick (no l) = ap (take (setWords n)) (after-kept (regionAt n k) (setWords n) w w′ o (regionAt n j) (apart n k j h (omega (arith, differ))))
 
   pub in-kept : (v : ℕ) → v < n → isIn (drop (regionAt n j) w′) v ≡ isIn (drop (regionAt n j) w) v
-  in-kept v h = sym (in-front n (drop (regionAt n j) w′) v h) ∙ (ap (λ (l : List ℕ). isIn l v) (region-kept (omega arith)) ∙ in-front n (drop (regionAt n j) w) v h)
+  in-kept v h = sym (in-front n (drop (regionAt n j) w′) v h) ∙ (ap (λ (l : List ℕ). isIn l v) (region-kept (omega arith))
+      ∙ in-front n (drop (regionAt n j) w) v h)
 
   pub flags-kept : regionFlags n j w′ ≡ regionFlags n j w
   flags-kept = flags-same n (drop (regionAt n j) w′) (drop (regionAt n j) w) (λ v h. in-kept v h)

@@ -2,13 +2,14 @@
 // index's, and every function over the regions keeps them.
 ghost use mathlib.Core.Path.{_≡_};
 ghost use Prim.Native.Nat.{_+_, _<_, _≤_};
-ghost use lib.ListN.{length, set, drop, replicate};
+ghost use lib.ListN.{length, set, take, drop, replicate};
 ghost use Rattle.model.specs.Network.{maxNodes};
 ghost use Rattle.bitset.specs.Bits.{setWords, isIn};
-ghost use Rattle.words.specs.Regions.{regionAt, regionFlags, gridAt, indexAt};
+ghost use Rattle.bitset.specs.Members.{HasBits};
+ghost use Rattle.words.specs.Regions.{regionAt, region, regionFlags, counts, countsIn, gridAt, indexAt};
 ghost use Rattle.words.specs.Frames.{Only};
 use bitset::bits::contains;
-use bitset::bits::insert;
+use bitset::bits::insert_at;
 use bitset::bits::set_words;
 use bitset::words::fill;
 
@@ -68,14 +69,37 @@ pub fn index_at(n: usize) -> usize
     4 * n + 4 * set_words(n)
 }
 
+// The m words from word a on.
+fn part(work: &[u32], a: usize, m: usize) -> &[u32]
+    requires { ⌜ a + m ≤ length (now work) ⌝ }
+    ensures { λ r. ⌜ now r ≡ take m (drop a (now (work .entry))) ⌝ }
+{
+    let e = a + m;
+    &work[a..e]
+}
+
+// The words of the set in region k.
+pub fn region(work: &[u32], n: usize, k: usize) -> &[u32]
+    requires { ⌜ regionAt n k + setWords n ≤ length (now work) ⌝ }
+    ensures { λ r. ⌜ (now r ≡ region n k (now (work .entry))) × HasBits n (now r) ⌝ }
+{
+    part(work, region_at(n, k), set_words(n))
+}
+
+// The words of region COUNTS.
+pub fn counts(work: &[u32], n: usize) -> &[u32]
+    requires { ⌜ regionAt n counts + n ≤ length (now work) ⌝ }
+    ensures { λ r. ⌜ now r ≡ countsIn n (now (work .entry)) ⌝ }
+{
+    part(work, region_at(n, COUNTS), n)
+}
+
 // Whether v is in region k.
 pub fn has(work: &[u32], n: usize, k: usize, v: usize) -> bool
     requires { ⌜ (v < n) × (regionAt n k + setWords n ≤ length (now work)) ⌝ }
     ensures { λ r. ⌜ r ≡ isIn (drop (regionAt n k) (now (work .entry))) v ⌝ }
 {
-    let a = region_at(n, k);
-    let e = a + set_words(n);
-    contains(&work[a..e], v)
+    contains(region(work, n, k), v)
 }
 
 // Puts v into region k.
@@ -84,9 +108,7 @@ pub fn put(work: &mut [u32], n: usize, k: usize, v: usize)
     ensures members { λ _. ⌜ regionFlags n k (now (work .exit)) ≡ set (regionFlags n k (now (work .entry))) v 1 ⌝ }
     ensures others { λ _. ⌜ Only n k (now (work .entry)) (now (work .exit)) ⌝ }
 {
-    let a = region_at(n, k);
-    let e = a + set_words(n);
-    insert(&mut work[a..e], v);
+    insert_at(work, region_at(n, k), v);
 }
 
 // Region k has no node.

@@ -26,10 +26,15 @@ part-result-start : tie.Need-part-result-start
 part-result-start c = search needs
 
 part-result-end : tie.Need-part-result-end
-part-result-end c = omega (arith, entry-in-file _ _ _ (c .before .before .before .before .pre .3) (c .before .before .before .before .pre .1) _ (c .before .before .read-entry .ensures))
+part-result-end c = omega (
+  arith,
+  entry-in-file _ _ _ (c .before .before .before .before .pre .3) (c .before .before .before .before .pre .1) _
+      (c .before .before .read-entry .ensures),
+)
 
 returns : tie.Need-returns
-returns c = entry-part _ _ _ (c .before .before .before .before .before .pre .3) (c .before .before .before .before .before .pre .1) _ (c .before .before .before .read-entry .ensures)
+returns c = entry-part _ _ _ (c .before .before .before .before .before .pre .3) (c .before .before .before .before .before .pre .1) _
+    (c .before .before .before .read-entry .ensures)
 
 pub body-of-spec : {M : Type 1} → statement M
 body-of-spec =

@@ -27,7 +27,8 @@ entry-at-requires : tie.Need-entry-at-requires
 entry-at-requires c κs = search needs
 
 returns-4 : tie.Need-returns-4
-returns-4 c = by-contents _ _ _ _ _ _ (omega arith) (c .before .before .before .before .byte .ensures .0) (omega arith) (c .before .before .byte2 .ensures .0) (omega arith) (c .entry-at .ensures)
+returns-4 c = by-contents _ _ _ _ _ _ (omega arith) (c .before .before .before .before .byte .ensures .0) (omega arith) (c .before .before .byte2 .ensures .0)
+    (omega arith) (c .entry-at .ensures)
 
 pub contents-broken-spec : {M : Type 1} → statement M
 contents-broken-spec =

@@ -2,7 +2,7 @@
 use native.Mathlib.Omega.{arith}
 use borrow.Author.Needs.{needs}
 use Rattle.grid.proofs.Reached.{bounded}
-use Rattle.access.proofs.Cells.{gathered-cell, roads-crossed}
+use Rattle.access.proofs.Cells.{gathered-cell, roads-crossed, starts-two}
 use Rattle.grid.specs.Stored.{modelCell}
 use Rattle.access.proofs.cell.cell_gather.Statement.{statement}
 use Rattle.access.proofs.cell.cell_gather.Tie as tie
@@ -31,11 +31,14 @@ gather-requires : tie.Need-gather-requires
 gather-requires c κs =
     let s = c .before .before .before .before .before .before .before .before .before .before .before .before .before .before .before in
     let a = s .args in
-    let p = s .pre in (
-      search needs,
-      roads-crossed (a .edges .now) (a .closed .now) (a .n) (a .work .now) _ _
-          (c .before .before .before .before .before .before .before .before .put-crossings .ensures .1) (c .before .before .before .put-crossings2 .ensures .1)
-          (p .1),
+    let p = s .pre in
+    let starts = c .before .before .before .before .before .before .before .before .put-crossings .ensures in
+    let goals = c .before .before .before .put-crossings2 .ensures in
+    let cell = modelCell (a .c) in
+    let two = starts-two (a .nodes .now) (a .edges .now) (a .closed .now) (a .grid) (p .0 .0) (a .n) (p .0 .1) cell _ _
+    (starts .0 (a .grid) cell 0 (p .0 .0) (c .before .before .before .before .before .before .before .before .before .before .square .ensures)) (goals .1) in (
+      (search needs, search needs, search needs, two),
+      roads-crossed (a .edges .now) (a .closed .now) (a .n) (a .work .now) _ _ (starts .1) (goals .1) (p .1),
     )
 
 same-length : tie.Need-same-length

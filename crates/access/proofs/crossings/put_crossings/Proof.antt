@@ -14,7 +14,8 @@ use Rattle.words.proofs.Stays.{only-then}
 use Rattle.index.proofs.Laid.{roads-only}
 
 abbrev Inv-loop : tie.InvT-loop
-Inv-loop nodes edges closed square n k work₀ v₀ work v = (length work ≡ length work₀) × Put nodes edges closed square (Inside nodes edges closed square v) n k work₀ work
+Inv-loop nodes edges closed square n k work₀ v₀ work v = (length work ≡ length work₀)
+    × Put nodes edges closed square (Inside nodes edges closed square v) n k work₀ work
 
 abbrev μ-loop : tie.MeasureT-loop
 μ-loop nodes edges closed square n k work₀ v₀ work v = n - v

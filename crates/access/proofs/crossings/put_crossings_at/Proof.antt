@@ -10,7 +10,8 @@ use Rattle.access.proofs.crossings.put_crossings_at.Tie as tie
 use Rattle.arcs.specs.Cursor.{rank}
 
 abbrev Inv-loop : tie.InvT-loop
-Inv-loop nodes edges closed square v n k work₀ m c₀ work c = (m ≡ edgeCount edges) × (length work ≡ length work₀) × Walked nodes edges closed square n k v work₀ c work
+Inv-loop nodes edges closed square v n k work₀ m c₀ work c = (m ≡ edgeCount edges) × (length work ≡ length work₀)
+    × Walked nodes edges closed square n k v work₀ c work
 
 abbrev μ-loop : tie.MeasureT-loop
 μ-loop nodes edges closed square v n k work₀ m c₀ work c = rank edges c

@@ -2,7 +2,7 @@
 use Prim.Native.Nat.{_-_}
 use native.Mathlib.Omega.{arith}
 use borrow.Author.Needs.{needs}
-use Rattle.access.proofs.Gathers.{Gathering, first, next, last, roads-gathering, wanted-left}
+use Rattle.access.proofs.Gathers.{Gathering, first, next, last, roads-gathering, wanted-left, alone-gathering}
 use Rattle.arcs.specs.Arcs.{arcsIn}
 use Rattle.access.proofs.gather.gather.Statement.{statement}
 use Rattle.access.proofs.gather.gather.Tie as tie
@@ -29,7 +29,13 @@ gather-from-requires c κs =
     let clear = c .before .before .before .before .before .before .before .clear in
     let a = s .args in
     let l = c .before .before .loop in (
-      (search needs, search needs, omega (arith, l .inv .size, clear .kept .0), wanted-left _ _ _ (l .p) (l .work) (l .inv) _ (c .before .before .before .count .ensures)),
+      (
+        search needs,
+        search needs,
+        omega (arith, l .inv .size, clear .kept .0),
+        wanted-left _ _ _ (l .p) (l .work) (l .inv) _ (c .before .before .before .count .ensures),
+        alone-gathering _ _ _ (l .p) (l .work) (l .inv) (a .work .now) (clear .ensures .1) (s .pre .0 .3),
+      ),
       roads-gathering _ _ _ (l .p) (l .work) (l .inv) (a .edges .now) (a .closed .now)
           (roads-only (a .edges .now) (a .closed .now) (a .n) (a .work .now) _ _ _ (omega arith) (clear .ensures .1) (s .pre .1)),
     )

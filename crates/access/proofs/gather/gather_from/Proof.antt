@@ -1,6 +1,7 @@
 -- `gather::gather_from` meets its contract: the marks join what is gathered, or p is no start.
 use mathlib.Core.Path.{sym, _∙_}
 use borrow.Author.Needs.{needs}
+use Rattle.access.proofs.Flagging.{→member}
 use Rattle.access.proofs.Gathers.{from-start, from-other}
 use Rattle.access.proofs.gather.gather_from.Statement.{statement}
 use Rattle.access.proofs.gather.gather_from.Tie as tie
@@ -9,7 +10,10 @@ has-requires : tie.Need-has-requires
 has-requires c κs = search needs
 
 toward-requires : tie.Need-toward-requires
-toward-requires c κs = search needs
+toward-requires c κs =
+    let p = c .before .before .before .before .before .before .before .pre in
+    let two = p .0 .4 _ (→member _ _ _ (p .0 .1) (sym (c .before .before .has .ensures) ∙ c .before .if1 .taken)) in
+    ((search needs, search needs, search needs, search needs, two), search needs)
 
 unite-requires : tie.Need-unite-requires
 unite-requires c κs = search needs

@@ -72,8 +72,11 @@ same-length c = search needs
 returns : tie.Need-returns Inv-loop μ-loop
 returns c =
     let a = c .before .before .before .before .before .before .before .args in
-    let l = c .before .loop in
-    (meet-last (a .n) (a .a) (a .b) (a .into) (a .work .now) (l .i) (l .work) (l .inv) (omega (arith, c .before .before .set-words .ensures, c .loop-test .left)), l .inv .others)
+    let l = c .before .loop in (
+      meet-last (a .n) (a .a) (a .b) (a .into) (a .work .now) (l .i) (l .work) (l .inv)
+          (omega (arith, c .before .before .set-words .ensures, c .loop-test .left)),
+      l .inv .others,
+    )
 
 pub meet-spec : {M : Type 1} → statement M
 meet-spec =

@@ -23,7 +23,8 @@ loop-holds : tie.Need-loop-holds Inv-loop μ-loop
 loop-holds c =
     let s = c .before .before .before .before .before .before .before in
     let a = s .args in
-    first _ (a .n) (a .e) _ (search needs) (a .work .now) (search needs) (c .before .before .clear .ensures .1) (c .before .before .clear .ensures .0) (s .pre .0 .3)
+    first _ (a .n) (a .e) _ (search needs) (a .work .now) (search needs) (c .before .before .clear .ensures .1) (c .before .before .clear .ensures .0)
+    (s .pre .0 .3)
 
 mark-at-requires : tie.Need-mark-at-requires Inv-loop μ-loop
 mark-at-requires c κs =

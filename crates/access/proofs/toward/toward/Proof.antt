@@ -15,7 +15,7 @@ search-wanted-requires c κs =
     let s = c .before .before .before .before in
     let a = s .args in
     let p = s .pre in
-    ((search needs, search needs, search needs, omega (arith, lacking-want (a .n) (a .work .now), p .0 .3)), search needs)
+    ((search needs, search needs, search needs, omega (arith, lacking-want (a .n) (a .work .now), p .0 .3), p .0 .4), search needs)
 
 mark-back-requires : tie.Need-mark-back-requires
 mark-back-requires c κs =

@@ -9,7 +9,8 @@ block-in-requires : tie.Need-block-in-requires
 block-in-requires c κs = search needs
 
 mul-start : tie.Need-mul-start
-mul-start c = let h = mul-le-mul {n₁ = c .block-in .result} {m₁ = c .before .before .args .size} {n₂ = 65536} {m₂ = 65536} (omega arith) (omega arith) in omega arith
+mul-start c = let h = mul-le-mul {n₁ = c .block-in .result} {m₁ = c .before .before .args .size} {n₂ = 65536} {m₂ = 65536} (omega arith) (omega arith) in omega
+    arith
 
 next-in-requires : tie.Need-next-in-requires
 next-in-requires c κs = search needs
@@ -19,7 +20,8 @@ lower-requires c κs = search needs
 
 add-lower : tie.Need-add-lower
 add-lower c =
-    let h = mul-le-mul {n₁ = c .before .before .block-in .result} {m₁ = c .before .before .before .before .args .size} {n₂ = 65536} {m₂ = 65536} (omega arith) (omega arith) in
+    let h = mul-le-mul {n₁ = c .before .before .block-in .result} {m₁ = c .before .before .before .before .args .size} {n₂ = 65536} {m₂ = 65536} (omega arith)
+    (omega arith) in
     omega arith
 
 lower-requires-2 : tie.Need-lower-requires-2

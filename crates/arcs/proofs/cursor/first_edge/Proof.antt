@@ -40,7 +40,8 @@ seek-requires c κs =
       (
         p .1,
         first-seeking (a .edges .now) (a .closed .now) (a .n) (a .work .now) (a .u) (p .1) (p .0 .2) _ _
-            (c .before .before .before .block-size .ensures .0) (c .before .before .first-link .ensures .0) _ (c .first-stop .ensures .0) (c .before .if1 .left),
+            (c .before .before .before .block-size .ensures .0) (c .before .before .first-link .ensures .0) _ (c .first-stop .ensures .0)
+            (c .before .if1 .left),
       ),
     )
 

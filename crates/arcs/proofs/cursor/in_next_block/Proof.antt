@@ -10,8 +10,13 @@ use Rattle.arcs.specs.declared.cursor.Cursor.{Cursor}
 block-at-requires : tie.Need-block-at-requires
 block-at-requires c κs =
     let p = c .before .before .before .pre in
-    let a = c .before .before .before .args in
-    (p .0 .0, p .0 .1, p .1 .1 .0 .link (p .1 .1 .2), size-small (a .edges .now) (a .closed .now) (a .n) (a .work .now) (a .u) (p .1 .0) (p .0 .2) (a .c) (p .1 .1 .0))
+    let a = c .before .before .before .args in (
+      p .0 .0,
+      p .0 .1,
+      p .1 .1 .0 .link (p .1 .1 .2),
+      size-small (a .edges .now) (a .closed .now) (a .n) (a .work .now) (a .u) (p .1 .0) (p .0 .2) (a .c)
+          (p .1 .1 .0),
+    )
 
 within-block-requires : tie.Need-within-block-requires
 unfolding edgeCount

@@ -26,8 +26,14 @@ seek-requires : tie.Need-seek-requires
 seek-requires c κs =
     let s = c .before .before .before .before .before .before in
     let p = s .pre in
-    let a = s .args in
-    (p .0, (p .1 .0, seeking-on (a .edges .now) (a .closed .now) (a .n) (a .work .now) (a .u) (p .1 .0) (p .0 .2) (a .c) (p .1 .1 .0) (p .1 .1 .1) (c .before .if1 .left)))
+    let a = s .args in (
+      p .0,
+      (
+        p .1 .0,
+        seeking-on (a .edges .now) (a .closed .now) (a .n) (a .work .now) (a .u) (p .1 .0) (p .0 .2) (a .c) (p .1 .1 .0) (p .1 .1 .1)
+            (c .before .if1 .left),
+      ),
+    )
 
 returns-2 : tie.Need-returns-2
 returns-2 c =

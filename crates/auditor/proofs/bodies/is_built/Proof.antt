@@ -40,7 +40,8 @@ same-bodies-requires c κs =
     let body2 = c .before .before .before .before .before .body2 in
     let body3 = c .before .before .before .before .body3 in
     let body5 = c .before .before .body5 in
-    bodies-asked (a .o .now) (p .0) (grid .result) (grid .ensures) _ _ _ (body .ensures) (body2 .ensures) (body3 .ensures) _ (body5 .ensures) (a .n) _ (p .1) (p .2)
+    bodies-asked (a .o .now) (p .0) (grid .result) (grid .ensures) _ _ _ (body .ensures) (body2 .ensures) (body3 .ensures) _ (body5 .ensures) (a .n) _ (p .1)
+    (p .2)
 
 same-length : tie.Need-same-length
 same-length c = search needs
@@ -62,7 +63,8 @@ returns c =
     let bytes = shared-slice-known .given in
     let same = same-bodies .ensures in
     let of-grid = bodies-told (a .o .now) (p .0) (grid .result) (grid .ensures) in
-    let told = of-grid _ _ _ (body .ensures) (body2 .ensures) (body3 .ensures) _ (body5 .ensures) (λ i. omega (arith, bytes i)) _ _ (body4 .ensures) (body6 .ensures) in
+    let told = of-grid _ _ _ (body .ensures) (body2 .ensures) (body3 .ensures) _ (body5 .ensures) (λ i. omega (arith, bytes i)) _ _ (body4 .ensures)
+    (body6 .ensures) in
     (same .0 ∙ told, same .1)
 
 pub is-built-spec : {M : Type 1} → statement M

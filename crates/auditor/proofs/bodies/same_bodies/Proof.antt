@@ -3,6 +3,8 @@ use native.Mathlib.Omega.{arith}
 use mathlib.Core.Path.{sym, _∙_}
 use borrow.Author.Tests.{not-true, not-false}
 use borrow.Author.Needs.{needs}
+use Rattle.passes.proofs.Taken.{transit-alone}
+use Rattle.words.specs.Regions.{transit}
 use Rattle.auditor.proofs.Behind.{roads-marked, rest-marked, roads-passed, rest-passed, rest-last}
 use Rattle.auditor.proofs.CellLists.{transit-kept}
 use Rattle.auditor.proofs.LastBodies.{few-body, row-size, first-differs, first-same, second-differs, third-tells}
@@ -10,7 +12,8 @@ use Rattle.auditor.proofs.bodies.same_bodies.Statement.{statement}
 use Rattle.auditor.proofs.bodies.same_bodies.Tie as tie
 
 build-index-requires : tie.Need-build-index-requires
-build-index-requires c κs = let p = c .before .before .before .before .before .before .before .before .pre in ((p .2, p .3), (rw (p .1) (p .0 .edges-rule), p .0 .closed-rule))
+build-index-requires c κs = let p = c .before .before .before .before .before .before .before .before .pre in
+    ((p .2, p .3), (rw (p .1) (p .0 .edges-rule), p .0 .closed-rule))
 
 mark-transit-requires : tie.Need-mark-transit-requires
 mark-transit-requires c κs =
@@ -38,7 +41,8 @@ returns c =
 
 same-lists-requires : tie.Need-same-lists-requires
 same-lists-requires c κs =
-    let s = c .before .before .before .before .before .before .before .before .before .before .before .before .before .before .before .before .before .before .before in
+    let s = c .before .before .before .before .before .before .before .before .before .before .before .before .before .before .before .before .before .before
+    .before in
     let mark-transit = c .before .before .before .before .before .before .mark-transit in
     let build-index = c .before .before .before .before .before .before .before .before .before .before .build-index in
     let a = s .args in
@@ -89,16 +93,23 @@ same-table-requires c κs =
     let a = c .before .before .before .before .before .before .before .before .before .before .before .before .before .before .before .before .before .before
     .before .before .before .before .before .before .args in
     let p = c .before .before .before .before .before .before .before .before .before .before .before .before .before .before .before .before .before .before
-    .before .before .before .before .before .before .pre in (
+    .before .before .before .before .before .before .pre in
+    let build-index = c .before .before .before .before .before .before .before .before .before .before .before .before .before .before .before .build-index in
+    let mark-transit = c .before .before .before .before .before .before .before .before .before .before .before .mark-transit in
+    let same-lists = c .before .before .before .before .same-lists in
+    let same = transit-kept (a .n) _ _ (same-lists .ensures .1) in (
       (
         p .2,
         omega arith,
         row-size (a .n) _ (a .transit .now) (sym (c .before .before .before .before .before .before .before .same-transit .ensures) ∙
-            not-false _ (c .before .before .before .before .before .before .if1 .left)) _ (transit-kept (a .n) _ _ (c .before .before .before .before .same-lists .ensures .1)),
+            not-false _ (c .before .before .before .before .before .before .if1 .left)) _ same,
       ),
-      let build-index = c .before .before .before .before .before .before .before .before .before .before .before .before .before .before .before .build-index in
-          roads-passed (a .edges .now) (a .closed .now) (a .n) (p .5) (a .work .now) _ _ (build-index .ensures .0) (build-index .ensures .1 .1)
-          (c .before .before .before .before .before .before .before .before .before .before .before .mark-transit .ensures .1 .1) _ (c .before .before .before .before .same-lists .ensures .1),
+      (
+        roads-passed (a .edges .now) (a .closed .now) (a .n) (p .5) (a .work .now) _ _ (build-index .ensures .0) (build-index .ensures .1 .1)
+            (mark-transit .ensures .1 .1) _ (same-lists .ensures .1),
+        transit-alone (a .nodes .now) (a .edges .now) (a .closed .now) (a .grid) (a .n) (p .1) (p .0) transit _
+            (same ∙ mark-transit .ensures .0),
+      ),
     )
 
 same-length-3 : tie.Need-same-length-3

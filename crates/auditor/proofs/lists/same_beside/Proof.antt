@@ -11,8 +11,11 @@ beside-requires : tie.Need-beside-requires
 beside-requires c κs = let p = c .before .before .before .before .before .pre .0 in rw (← p .1) (p .4)
 
 returns : tie.Need-returns
-returns c =
-    (other-cell _ _ _ _ _ _ _ (sym (c .before .beside .ensures _ _ (c .before .before .before .before .before .before .before .pre .0 .7)) ∙ not-true _ (c .if1 .taken)), refl)
+returns c = (
+  other-cell _ _ _ _ _ _ _ (sym (c .before .beside .ensures _ _ (c .before .before .before .before .before .before .before .pre .0 .7))
+      ∙ not-true _ (c .if1 .taken)),
+  refl,
+)
 
 same-from-requires : tie.Need-same-from-requires
 same-from-requires c κs =

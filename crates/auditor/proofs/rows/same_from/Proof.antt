@@ -3,6 +3,7 @@ use mathlib.Core.Path.{refl, sym, _∙_, ap}
 use borrow.Author.Tests.{not-true, not-false}
 use borrow.Author.Needs.{needs}
 use Rattle.model.specs.Bytes.{Bytes}
+use Rattle.access.proofs.Flagging.{→member}
 use Rattle.emit.specs.Records.{compared}
 use Rattle.auditor.proofs.Behind.{size-behind, row-behind}
 use Rattle.auditor.proofs.RowBytes.{row-out, row-in}
@@ -21,13 +22,21 @@ returns c =
     (row-out (a .n) (a .v) (a .work .now) (search needs) (a .table .now) (a .at) _ (sym (c .before .has .ensures) ∙ not-true _ (c .if1 .taken)), refl)
 
 search-front-requires : tie.Need-search-front-requires
-search-front-requires c κs = search needs
+search-front-requires c κs =
+    let p = c .before .before .before .before .before .before .before .before .pre in
+    let two = p .1 .1 _ (→member _ _ _ (p .0 .1) (sym (c .before .before .has .ensures) ∙ not-false _ (c .before .if1 .left))) in
+    ((search needs, search needs, search needs, two), p .1 .0)
 
 row-at-requires : tie.Need-row-at-requires
 row-at-requires c κs =
     let s = c .before .before .before .before .before .before .before .before .before .before .before .before in
-    let a = s .args in
-    (search needs, size-behind (a .n) (a .work .now) _ (c .before .before .before .search-front .ensures .1) (a .size) (s .pre .0 .3), search needs, search needs)
+    let a = s .args in (
+      search needs,
+      size-behind (a .n) (a .work .now) _ (c .before .before .before .search-front .ensures .1) (a .size) (s .pre .0 .3),
+      search needs,
+      search
+          needs,
+    )
 
 same-length-2 : tie.Need-same-length-2
 same-length-2 c = search needs

@@ -3,7 +3,9 @@ use Prim.Native.Nat.{_-_}
 use native.Mathlib.Omega.{arith}
 use mathlib.Core.Path.{sym, _∙_}
 use borrow.Author.Needs.{needs}
+use Rattle.access.proofs.Flagging.{alone-later}
 use Rattle.arcs.specs.Arcs.{arcsIn}
+use Rattle.words.specs.Regions.{transit}
 use Rattle.auditor.proofs.Behind.{size-behind, roads-behind}
 use Rattle.auditor.proofs.TableRows.{RowsLeft, rows-first, rows-differ, rows-next, rows-end}
 use Rattle.auditor.proofs.rows.same_table.Statement.{statement}
@@ -31,7 +33,10 @@ same-from-requires c κs =
         size-behind (a .n) (a .work .now) (l .work) (l .inv .kept .behind) (a .size) (p .0 .2),
         l .inv .left .within,
       ),
-      roads-behind (a .n) (a .work .now) (l .work) (l .inv .kept .behind) (a .edges .now) (a .closed .now) (p .1),
+      (
+        roads-behind (a .n) (a .work .now) (l .work) (l .inv .kept .behind) (a .edges .now) (a .closed .now) (p .1 .0),
+        alone-later (a .n) transit (a .work .now) (l .work) (omega arith) (l .inv .kept .behind) (p .1 .1),
+      ),
     )
 
 enum-known-next : tie.Need-enum-known-next Inv-loop μ-loop

@@ -1,37 +1,23 @@
--- `bits::settle` meets its contract: the words are those of the set with v, and so its members are.
+-- `bits::insert` meets its contract: the words are those of the set with v, and so its members are.
 use borrow.Author.Needs.{needs}
-use Rattle.bitset.proofs.Members.{settle-same, members}
+use native.Mathlib.Nat.{zero-add}
+use mathlib.Core.Path.{_≡_}
+use Rattle.bitset.specs.Bits.{insertIn}
+use Rattle.bitset.proofs.Members.{members}
 use Rattle.bitset.proofs.bits.insert.Statement.{statement}
 use Rattle.bitset.proofs.bits.insert.Tie as tie
 
-mul-s : tie.Need-mul-s
-mul-s c = search needs
-
-slice-read-s : tie.Need-slice-read-s
-slice-read-s c = search needs
-
-cast-s : tie.Need-cast-s
-cast-s c = search needs
-
-shl-s : tie.Need-shl-s
-shl-s c = search needs
-
-mul-s-2 : tie.Need-mul-s-2
-mul-s-2 c = search needs
-
-slice-write-s : tie.Need-slice-write-s
-slice-write-s c = search needs
+insert-at-requires : tie.Need-insert-at-requires
+insert-at-requires c κs = search needs
 
 same-length : tie.Need-same-length
 same-length c = search needs
 
 returns : tie.Need-returns
 returns c =
-    let v = c .before .args .v in
-    let s = c .before .args .s .now in
-    let e = settle-same s v in
-    (e, λ w. rw e (members s v (search needs) w))
+    let a = c .before .before .before .before .before .args in
+    let e : _ ≡ insertIn (a .s .now) (a .v) = rw zero-add at (c .before .before .insert-at .ensures) in
+    (e, λ w. rw e (members (a .s .now) (a .v) (search needs) w))
 
 pub insert-spec : {M : Type 1} → statement M
-insert-spec =
-    tie.close (tie.spec mul-s slice-read-s cast-s shl-s mul-s-2 slice-write-s same-length returns)
+insert-spec = tie.close (tie.spec insert-at-requires same-length returns)

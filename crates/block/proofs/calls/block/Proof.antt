@@ -16,7 +16,8 @@ block-record-requires c κs = search needs
 returns : tie.Need-returns
 returns c =
     let block-refusal = c .before .before .block-refusal in
-    block-refused _ _ _ _ _ (block-refusal .ensures) (c .block-record .result) (c .before .if1 .taken) (c .block-record .ensures .0) (c .block-record .ensures .1)
+    block-refused _ _ _ _ _ (block-refusal .ensures) (c .block-record .result) (c .before .if1 .taken) (c .block-record .ensures .0)
+    (c .block-record .ensures .1)
 
 open-words-requires : tie.Need-open-words-requires
 open-words-requires c κs =

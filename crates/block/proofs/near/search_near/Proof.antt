@@ -4,9 +4,9 @@ use Rattle.model.specs.Network.{nodeCount}
 use Rattle.model.specs.Rules.{wordsNeeded}
 use Rattle.opened.proofs.OpenLaws.{opened-kept}
 use Rattle.words.proofs.Stays.{kept-more}
-use Rattle.block.proofs.NearLaws.{want-lacking, near-times, itself-times}
+use Rattle.words.proofs.TimeLaws.{store-kept}
+use Rattle.block.proofs.NearLaws.{want-lacking, want-two, near-times, itself-times}
 use native.Mathlib.Omega.{arith}
-use lib.Seq.{drop-set-lt}
 use mathlib.Core.Path.{_∙_}
 use borrow.Author.Needs.{needs}
 use Rattle.block.proofs.near.search_near.Statement.{statement}
@@ -16,13 +16,14 @@ use Rattle.words.specs.Regions.{gridAt, searchWords}
 want-near-requires : tie.Need-want-near-requires
 want-near-requires c κs = search needs
 
-mul-work : tie.Need-mul-work
-unfolding wordsNeeded
-mul-work c = let p = c .before .before .before .before .before .before .before .before .pre in omega (arith, p .2, p .0 .room)
+node-count-requires : tie.Need-node-count-requires
+node-count-requires c κs = search needs
 
-slice-write-work : tie.Need-slice-write-work
+store-time-requires : tie.Need-store-time-requires
 unfolding wordsNeeded
-slice-write-work c = let p = c .before .before .before .before .before .before .before .before .pre in omega (arith, p .2, p .0 .room)
+store-time-requires c κs =
+    let p = c .before .before .before .before .before .before .before .before .before .before .pre in
+    omega (arith, c .node-count .ensures, p .2, p .0 .room)
 
 same-length : tie.Need-same-length
 same-length c = search needs
@@ -30,12 +31,14 @@ same-length c = search needs
 returns : tie.Need-returns
 unfolding wordsNeeded
 returns c =
-    let s = c .before .before .before .before .before .before .before .before in
-    let a = s .args in
-    let p = s .pre in
-    let r = c .before .before .before .want-near .ensures in
-    let back = drop-set-lt (gridAt (nodeCount (nodeBody (a .o .now)))) _ (a .s) 0 (omega (arith, p .2)) ∙ r .1 in
-    (itself-times _ _ _ _ _ (r .0) (p .3) (c .if1 .taken) (p .0 .shape) (p .2) (omega (arith, p .0 .room)), back)
+    let start = c .before .before .before .before .before .before .before .before .before .before .before .before .before in
+    let p = start .pre in
+    let a = start .args in
+    let n = nodeCount (nodeBody (a .o .now)) in
+    let r = c .before .before .before .before .before .before .before .before .want-near .ensures in
+    let back = store-kept n (a .s) 0 _ (p .2) (gridAt n) (omega arith) ∙ r .1 in
+    rw (c .before .before .store-time .ensures, c .before .before .before .node-count .ensures)
+    (itself-times _ _ _ _ _ (r .0) (p .3) (c .before .before .before .before .before .if1 .taken) (p .0 .shape) (p .2) (omega (arith, p .0 .room)), back)
 
 add-search-until : tie.Need-add-search-until
 add-search-until c = search needs
@@ -44,7 +47,7 @@ search-until-requires : tie.Need-search-until-requires
 search-until-requires c κs =
     let p = c .before .before .before .before .before .before .before .before .before .pre in
     let r = c .before .before .before .before .want-near .ensures in
-    ((opened-kept _ _ _ (p .0) (search needs) (r .1), p .2), want-lacking _ _ _ _ _ (r .0))
+    ((opened-kept _ _ _ (p .0) (search needs) (r .1), p .2, want-two _ _ _ _ _ (r .0) (c .before .if1 .left)), want-lacking _ _ _ _ _ (r .0))
 
 same-length-2 : tie.Need-same-length-2
 same-length-2 c = search needs
@@ -62,8 +65,8 @@ search-near-spec =
     tie.close
     (tie.spec
     want-near-requires
-    mul-work
-    slice-write-work
+    node-count-requires
+    store-time-requires
     same-length
     returns
     add-search-until

@@ -26,7 +26,7 @@ search-wanted-requires c κs =
     let edges = c .before .before .before .oracle-body .ensures in
     let closed = c .before .before .oracle-body2 .ensures in
     let n = node-bytes _ (all-shaped _ (o .shape) .sound) .0 in
-    ((omega (arith, e, n), omega (arith, e, p .0 .1), omega (arith, e, o .room), rw e (p .1)), rw (e, edges, closed) (o .roads))
+    ((omega (arith, e, n), omega (arith, e, p .0 .1), omega (arith, e, o .room), rw e (p .1), omega (arith, e, p .0 .2)), rw (e, edges, closed) (o .roads))
 
 same-length : tie.Need-same-length
 same-length c = search needs

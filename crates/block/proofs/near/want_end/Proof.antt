@@ -1,6 +1,6 @@
 -- `near::want_end` meets its contract: t was wanted already, is put there, or is not local.
-use Rattle.block.proofs.NearLaws.{wants-same, wants-put, wanted-size, want-fits, want-has, want-put, want-only}
-use Rattle.block.proofs.Squares.{local-told}
+use Rattle.block.proofs.NearLaws.{wants-same, wants-put, wanted-size, want-fits, want-has, want-lacks, want-put, want-only}
+use Rattle.block.proofs.Entries.{local-told}
 use native.Mathlib.Omega.{arith}
 use mathlib.Core.Bool.{true≢false}
 use mathlib.Core.Path.{refl, sym, _∙_}
@@ -49,7 +49,10 @@ returns-2 c =
     let e = b .before .before .before .before .before .before .node-count .ensures in
     let local = local-told _ _ _ _ _ (b .before .before .kind-in .ensures) (b .before .is-local .ensures) ∙ b .if2 .taken in
     let r = c .before .before .put .ensures in
-    (wants-put _ _ _ _ local (rw (wanted-size (a .o .now) (a .work .now)) (start .pre .3)) _ (want-put _ _ e _ _ (a .t) (r .0)), want-only _ _ e _ _ (r .1))
+    let new = want-lacks _ _ e _ _ (start .pre .3) (sym (b .before .before .before .before .has .ensures) ∙ b .before .before .before .if1 .left) in (
+      wants-put _ _ _ _ local (rw (wanted-size (a .o .now) (a .work .now)) (start .pre .3)) new _ (want-put _ _ e _ _ (a .t) (r .0)),
+      want-only _ _ e _ _ (r .1),
+    )
 
 same-length-3 : tie.Need-same-length-3
 same-length-3 c = search needs

@@ -44,7 +44,7 @@ loop-holds c =
     let cleared = c .before .before .before .before .before .before .clear .ensures in
     let put = c .before .before .put .ensures in
     let back = want-only _ _ e _ _ (put .1) ∙ want-only _ _ e (a .work .now) _ (cleared .1) in
-    let wants = want-first _ _ e (a .work .now) _ _ (a .s) (a .ends .now) (cleared .0) (put .0) in
+    let wants = want-first _ _ e (a .work .now) _ _ (a .s) (a .ends .now) (omega (arith, e, start .pre .2)) (cleared .0) (put .0) in
     (omega arith, opened-kept _ _ _ (start .pre .0) (search needs) back, wants, refl, refl)
 
 mul-want-end : tie.Need-mul-want-end Inv-loop μ-loop
@@ -63,7 +63,8 @@ want-end-requires c κs =
 
 add-left : tie.Need-add-left Inv-loop μ-loop
 add-left c =
-    let a = c .before .before .before .before .before .before .before .before .before .before .before .before .before .before .before .before .before .before .before .args in
+    let a = c .before .before .before .before .before .before .before .before .before .before .before .before .before .before .before .before .before .before
+    .before .args in
     let l = c .before .before .before .before .before .before .loop in
     omega (arith, c .before .before .want-end .ensures .0 (a .ends .now) (l .j) (l .left) refl (l .inv .2) .fits)
 
@@ -75,7 +76,8 @@ loop-less c = search needs
 
 loop-again : tie.Need-loop-again Inv-loop μ-loop
 loop-again c =
-    let a = c .before .before .before .before .before .before .before .before .before .before .before .before .before .before .before .before .before .before .before .args in
+    let a = c .before .before .before .before .before .before .before .before .before .before .before .before .before .before .before .before .before .before
+    .before .args in
     let l = c .before .before .before .before .before .before .loop in
     let w = c .before .before .want-end .ensures in
     (omega arith, opened-kept _ _ _ (l .inv .1) (search needs) (w .1), w .0 (a .ends .now) (l .j) (l .left) refl (l .inv .2), search needs, w .1 ∙ l .inv .4)

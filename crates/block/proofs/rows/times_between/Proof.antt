@@ -45,8 +45,13 @@ loop-less : tie.Need-loop-less Inv-loop μ-loop
 loop-less c = search needs
 
 loop-again : tie.Need-loop-again Inv-loop μ-loop
-loop-again c =
-    (omega arith, c .before .before .with-start .ensures .0, search needs, c .before .before .with-start .ensures .1 ∙ c .before .before .before .before .before .loop .inv .3)
+loop-again c = (
+  omega arith,
+  c .before .before .with-start .ensures .0,
+  search needs,
+  c .before .before .with-start .ensures .1
+      ∙ c .before .before .before .before .before .loop .inv .3,
+)
 
 same-length : tie.Need-same-length Inv-loop μ-loop
 same-length c = search needs

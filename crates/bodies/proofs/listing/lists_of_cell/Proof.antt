@@ -55,7 +55,8 @@ loop-less c = search needs
 loop-again : tie.Need-loop-again Inv-loop μ-loop
 loop-again c =
     let list-beside = c .before .before .before .before .list-beside in
-    let a = c .before .before .before .before .before .before .before .before .before .before .before .before .before .before .before .before .before .before .before .args in (
+    let a = c .before .before .before .before .before .before .before .before .before .before .before .before .before .before .before .before .before .before
+    .before .args in (
       search needs,
       working-next (a .nodes .now) (a .edges .now) (a .closed .now) (a .grid) (a .n) (a .u) _ _ _ _
           (c .before .before .before .before .before .before .before .before .loop .inv .1) (search needs) (list-beside .ensures .1),

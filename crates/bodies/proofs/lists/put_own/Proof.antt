@@ -1,7 +1,8 @@
 -- `bodies::lists::put_own` meets its contract. Assumes nothing.
 use mathlib.Core.Path.{_∙_}
 use borrow.Author.Needs.{needs}
-use Rattle.bodies.proofs.OwnLists.{part-size, bytes-written}
+use Rattle.words.proofs.Windows.{part-length}
+use Rattle.bodies.proofs.Lent.{bytes-written}
 use Rattle.bodies.proofs.lists.put_own.Statement.{statement}
 use Rattle.bodies.proofs.lists.put_own.Tie as tie
 
@@ -24,7 +25,7 @@ write-own-requires : tie.Need-write-own-requires
 write-own-requires c κs =
     let s = c .before .before .before .before .before in
     let a = s .args in
-    let size = part-size (c .before .list-start .result) (a .size) (a .body .now) (search needs) in
+    let size = part-length (c .before .list-start .result) (a .size) (a .body .now) (search needs) in
     (search needs, search needs, s .pre .0 .2, size ∙ s .pre .0 .3, search needs)
 
 same-length : tie.Need-same-length

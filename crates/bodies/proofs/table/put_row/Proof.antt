@@ -3,6 +3,7 @@ use native.Mathlib.Omega.{arith}
 use mathlib.Core.Path.{sym, _∙_, refl}
 use borrow.Author.Tests.{not-true, not-false}
 use borrow.Author.Needs.{needs}
+use Rattle.access.proofs.Flagging.{→member}
 use Rattle.bodies.proofs.Tables.{no-row, row-fits, one-row}
 use Rattle.bodies.proofs.table.put_row.Statement.{statement}
 use Rattle.bodies.proofs.table.put_row.Tie as tie
@@ -24,7 +25,10 @@ returns c =
     )
 
 search-front-requires : tie.Need-search-front-requires
-search-front-requires c κs = search needs
+search-front-requires c κs =
+    let p = c .before .before .before .before .before .before .before .before .pre in
+    let two = p .1 .0 .1 _ (→member _ _ _ (p .0 .1) (sym (c .before .before .has .ensures) ∙ not-false _ (c .before .if1 .left))) in
+    ((search needs, search needs, search needs, two), p .1 .0 .0)
 
 write-times-requires : tie.Need-write-times-requires
 write-times-requires c κs =

@@ -4,6 +4,7 @@ use native.Mathlib.Omega.{arith}
 use mathlib.Core.Path.{_≡_, refl, _∙_}
 use lib.ListN.{length}
 use borrow.Author.Needs.{needs}
+use Rattle.access.proofs.Flagging.{alone-later}
 use Rattle.emit.proofs.Turns.{membersFrom, members-step, members-end}
 use Rattle.emit.proofs.Writing.{Written, written-fits, written-next, written-end}
 use Rattle.passes.specs.Building.{membersIn}
@@ -40,7 +41,10 @@ put-row-requires c κs =
     let s = region-later (a .n) transit (a .work .now) (l .work) (omega arith) (l .inv .2) in (
       search needs,
       (
-        roads-from (a .edges .now) (a .closed .now) (a .n) (a .work .now) (l .work) (searchWords (a .n)) (omega arith) (l .inv .2) (p .1 .0),
+        (
+          roads-from (a .edges .now) (a .closed .now) (a .n) (a .work .now) (l .work) (searchWords (a .n)) (omega arith) (l .inv .2) (p .1 .0 .0),
+          alone-later (a .n) transit (a .work .now) (l .work) (omega arith) (l .inv .2) (p .1 .0 .1),
+        ),
         (rw s (p .1 .1 .0), rw s (written-fits (members-step _ _ _ _ (c .before .before .loop-test .taken)) (l .inv .3))),
       ),
     )

@@ -16,7 +16,11 @@ use Rattle.builder.proofs.calls.build_in.Tie as tie
 bytes : (c : tie.After-access-size) →
     let a = c .before .before .before .before .before .before .before .before .before .before .before .before .before .before .args in
     AreBytes (a .network .now)
-bytes c i = omega (arith, c .before .before .before .before .before .before .before .before .before .before .before .before .before .shared-slice-known .given i)
+bytes c i = omega (
+  arith,
+  c .before .before .before .before .before .before .before .before .before .before .before .before .before .shared-slice-known .given
+      i,
+)
 
 plan : (c : tie.After-access-size) →
     let a = c .before .before .before .before .before .before .before .before .before .before .before .before .before .before .args in
@@ -37,7 +41,8 @@ sized : (c : tie.After-access-size) →
 sized c =
     let s = c .before .before .before .before .before .before .before .before .before .before .before .before .before .before in
     let a = s .args in
-    size-is (a .network .now) (a .dv) (a .nodes .now) (a .edges .now) (a .closed .now) (a .grid) (a .n) (s .pre .0) (bytes c) _ _ (plan c .transits) (plan c .access)
+    size-is (a .network .now) (a .dv) (a .nodes .now) (a .edges .now) (a .closed .now) (a .grid) (a .n) (s .pre .0) (bytes c) _ _ (plan c .transits)
+    (plan c .access)
 
 small : (c : tie.After-access-size) →
     let a = c .before .before .before .before .before .before .before .before .before .before .before .before .before .before .args in
@@ -45,7 +50,8 @@ small : (c : tie.After-access-size) →
 small c =
     let s = c .before .before .before .before .before .before .before .before .before .before .before .before .before .before in
     let a = s .args in
-    size-small (a .network .now) (a .dv) (a .nodes .now) (a .edges .now) (a .closed .now) (a .grid) (a .n) (s .pre .0) (bytes c) _ _ (plan c .transits) (plan c .access)
+    size-small (a .network .now) (a .dv) (a .nodes .now) (a .edges .now) (a .closed .now) (a .grid) (a .n) (s .pre .0) (bytes c) _ _ (plan c .transits)
+    (plan c .access)
 
 prepare-requires : tie.Need-prepare-requires
 prepare-requires c κs =

@@ -39,8 +39,10 @@ build-in-requires c κs =
     let over = c .before .before .before .over in
     let node-count = c .before .before .node-count in
     let n = node-count .ensures in
-    let e = body .ensures in
-    (record { passed = p .0; of-nodes = e; of-edges = body2 .ensures; of-closed = body3 .ensures; made = over .ensures; count = n ∙ sym (ap nodeCount e) }, omega (arith, n, p .1))
+    let e = body .ensures in (
+      record { passed = p .0; of-nodes = e; of-edges = body2 .ensures; of-closed = body3 .ensures; made = over .ensures; count = n ∙ sym (ap nodeCount e) },
+      omega (arith, n, p .1),
+    )
 
 same-length : tie.Need-same-length
 same-length c = search needs

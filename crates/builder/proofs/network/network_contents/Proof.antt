@@ -2,7 +2,6 @@
 use native.Mathlib.Omega.{arith}
 use Rattle.model.specs.Contents.{networkEntries}
 use Rattle.theory.specs.Joined.{whole-contents}
-use borrow.Author.Needs.{needs}
 use Rattle.builder.proofs.network.network_contents.Statement.{statement}
 use Rattle.builder.proofs.network.network_contents.Tie as tie
 

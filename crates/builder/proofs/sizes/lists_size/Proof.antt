@@ -32,7 +32,12 @@ list-size-requires : tie.Need-list-size-requires Inv-loop μ-loop
 list-size-requires c κs = omega (arith, c .before .before .before .before .pre .2 (c .before .before .loop .v) (c .before .loop-test .taken))
 
 add-sum : tie.Need-add-sum Inv-loop μ-loop
-add-sum c = omega (arith, c .list-size .ensures, c .before .before .before .before .before .pre .2 (c .before .before .before .loop .v) (c .before .before .loop-test .taken))
+add-sum c = omega (
+  arith,
+  c .list-size .ensures,
+  c .before .before .before .before .before .pre .2 (c .before .before .before .loop .v)
+      (c .before .before .loop-test .taken),
+)
 
 add-v : tie.Need-add-v Inv-loop μ-loop
 add-v c = search needs

@@ -2,7 +2,7 @@
 use native.Mathlib.Omega.{arith}
 use mathlib.Core.Path.{_∙_}
 use borrow.Author.Needs.{needs}
-use Rattle.bodies.proofs.OwnLists.{part-size}
+use Rattle.words.proofs.Windows.{part-length}
 use Rattle.builder.proofs.Pieces.{wrote-part}
 use Rattle.builder.proofs.whole.access_part.Statement.{statement}
 use Rattle.builder.proofs.whole.access_part.Tie as tie
@@ -24,7 +24,7 @@ put-access-requires c κs =
     let s = c .before .before .before .before .before .before .before in
     let p = s .pre in
     let a = s .args in
-    let l = part-size (a .at) (a .a) (a .out .now) (p .1 .2) in (p .0, (l ∙ p .1 .0, omega (arith, l, p .1 .1)))
+    let l = part-length (a .at) (a .a) (a .out .now) (p .1 .2) in (p .0, (l ∙ p .1 .0, omega (arith, l, p .1 .1)))
 
 same-length : tie.Need-same-length
 same-length c = search needs

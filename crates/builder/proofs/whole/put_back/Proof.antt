@@ -25,11 +25,14 @@ access-part-requires c κs =
 
 table-part-requires : tie.Need-table-part-requires
 table-part-requires c κs =
-    let a = c .before .before .before .before .before .before .before .before .before .before .before .before .before .before .before .before .before .before .before .args in
-    let p = c .before .before .before .before .before .before .before .before .before .before .before .before .before .before .before .before .before .before .before .pre in
+    let a = c .before .before .before .before .before .before .before .before .before .before .before .before .before .before .before .before .before .before
+    .before .args in
+    let p = c .before .before .before .before .before .before .before .before .before .before .before .before .before .before .before .before .before .before
+    .before .pre in
     table-room (a .nodes .now) (a .edges .now) (a .closed .now) (a .grid) (a .n) (a .t) (a .a) (a .work .now) (p .0) (a .at) _ (a .out .now) _
     (c .before .before .before .before .before .before .before .before .before .before .before .put-transit .ensures) (p .1) _ (search needs)
-    (c .before .before .before .before .before .before .access-part .ensures .1) _ _ (c .before .before .before .before .before .before .access-part .ensures .0) (search needs)
+    (c .before .before .before .before .before .before .access-part .ensures .1) _ _
+    (c .before .before .before .before .before .before .access-part .ensures .0) (search needs)
 
 same-length : tie.Need-same-length
 same-length c = search needs
@@ -44,9 +47,11 @@ returns c =
     let p = c .before .before .before .before .before .before .before .before .before .before .before .before .before .before .before .before .before .before
     .before .before .before .before .before .before .pre in (
       back-written (a .nodes .now) (a .edges .now) (a .closed .now) (a .grid) (a .n) (a .t) (a .a) (a .work .now) (p .0) (a .at) _ (a .out .now) _
-          (c .before .before .before .before .before .before .before .before .before .before .before .before .before .before .before .before .put-transit .ensures) (p .1) _ (search needs)
+          (c .before .before .before .before .before .before .before .before .before .before .before .before .before .before .before .before .put-transit
+          .ensures) (p .1) _ (search needs)
           (c .before .before .before .before .before .before .before .before .before .before .before .access-part .ensures .1) _ _
-          (c .before .before .before .before .before .before .before .before .before .before .before .access-part .ensures .0) (search needs) (c .before .before .before .before .table-part .ensures .0),
+          (c .before .before .before .before .before .before .before .before .before .before .before .access-part .ensures .0) (search needs)
+          (c .before .before .before .before .table-part .ensures .0),
       kept-more (searchWords (a .n)) (regionAt (a .n) transit) _ _ (omega arith) (c .before .before .before .before .table-part .ensures .1)
           ∙ c .before .before .before .before .before .before .before .before .before .before .before .access-part .ensures .1,
     )

@@ -3,7 +3,7 @@ use Prim.Native.Nat.{_*_}
 use native.Mathlib.Omega.{arith}
 use borrow.Author.Needs.{needs}
 use Rattle.model.specs.Oracle.{valueSize}
-use Rattle.bodies.proofs.OwnLists.{part-size}
+use Rattle.words.proofs.Windows.{part-length}
 use Rattle.builder.proofs.Pieces.{wrote-part}
 use Rattle.builder.proofs.whole.table_part.Statement.{statement}
 use Rattle.builder.proofs.whole.table_part.Tie as tie
@@ -31,7 +31,7 @@ put-table-requires c κs =
     let s = c .before .before .before .before .before .before in
     let a = s .args in
     let p = s .pre .0 in
-    ((p .0, p .1), (s .pre .1, (p .2, part-size (a .at) (valueSize * a .t * a .t) (a .out .now) (p .3))))
+    ((p .0, p .1), (s .pre .1, (p .2, part-length (a .at) (valueSize * a .t * a .t) (a .out .now) (p .3))))
 
 same-length : tie.Need-same-length
 same-length c = search needs

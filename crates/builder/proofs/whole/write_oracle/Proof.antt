@@ -16,7 +16,8 @@ put-front-requires c κs =
     let s = c .before .before .before .before .before .before .before .before in
     let p = s .pre in
     let a = s .args in
-    front-room (a .network .now) (a .nodes .now) (a .edges .now) (a .closed .now) (a .dv) (a .t) (a .a) (p .0 .1) (p .1 .1) _ (c .before .head-sizes .ensures) _ (p .1 .0)
+    front-room (a .network .now) (a .nodes .now) (a .edges .now) (a .closed .now) (a .dv) (a .t) (a .a) (p .0 .1) (p .1 .1) _ (c .before .head-sizes .ensures) _
+    (p .1 .0)
 
 put-back-requires : tie.Need-put-back-requires
 put-back-requires c κs =

@@ -16,7 +16,11 @@ same-length : tie.Need-same-length
 same-length c = search needs
 
 returns : tie.Need-returns
-returns c = (c .reply-of .ensures ∙ ap reply (meaning-injective _ _ (c .before .before .before .time .ensures .result)), c .before .before .before .time .ensures .words)
+returns c = (
+  c .reply-of .ensures ∙ ap reply (meaning-injective _ _ (c .before .before .before .time .ensures .result)),
+  c .before .before .before .time
+      .ensures .words,
+)
 
 pub jukesogbi-time-spec : {M : Type 1} → statement M
 jukesogbi-time-spec = tie.close (tie.spec time-requires reply-of-requires same-length returns)

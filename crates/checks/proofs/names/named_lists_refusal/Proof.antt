@@ -18,7 +18,8 @@ unfolding namedRules
 returns c =
     let p = c .before .before .before .before .before .before .pre in
     let node-count = c .before .before .node-count in
-    decides-shaped _ p 12 (first-part _ (sym (some-missing _ _ (node-count .ensures) _) ∙ sym (c .before .some-missing .ensures) ∙ c .if1 .taken) ∙ sym (two-lists _ _ _)) refl
+    decides-shaped _ p 12 (first-part _ (sym (some-missing _ _ (node-count .ensures) _) ∙ sym (c .before .some-missing .ensures) ∙ c .if1 .taken)
+    ∙ sym (two-lists _ _ _)) refl
 
 some-missing-requires-2 : tie.Need-some-missing-requires-2
 some-missing-requires-2 c κs = search needs

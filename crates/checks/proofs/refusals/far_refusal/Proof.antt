@@ -30,7 +30,8 @@ returns-2 c =
     let pair-refusal = c .before .before .before .before .pair-refusal in
     let if1 = c .before .before .before .if1 in
     let kind-between = c .before .before .kind-between in
-    decides _ _ (pair-refusal .ensures) (pair-counted _ _ _) (if1 .left) 13 (c .before .is-local .ensures ∙ ap isLocal (kind-between .ensures)) (c .number-if .ensures)
+    decides _ _ (pair-refusal .ensures) (pair-counted _ _ _) (if1 .left) 13 (c .before .is-local .ensures ∙ ap isLocal (kind-between .ensures))
+    (c .number-if .ensures)
 
 pub far-refusal-spec : {M : Type 1} → statement M
 far-refusal-spec =

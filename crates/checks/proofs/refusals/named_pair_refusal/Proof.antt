@@ -25,7 +25,8 @@ unfolding pairRules
 returns-2 c =
     let p = c .before .before .before .before .pre in
     let node-count = c .before .before .node-count in
-    decides-shaped _ p 12 (second-part (sym (missing-is _ _ (node-count .ensures) _) ∙ lt-leb _ _ (c .before .if1 .left)) (missing-is _ _ (node-count .ensures) _)) (c .number-if .ensures)
+    decides-shaped _ p 12 (second-part (sym (missing-is _ _ (node-count .ensures) _) ∙ lt-leb _ _ (c .before .if1 .left))
+    (missing-is _ _ (node-count .ensures) _)) (c .number-if .ensures)
 
 pub named-pair-refusal-spec : {M : Type 1} → statement M
 named-pair-refusal-spec =

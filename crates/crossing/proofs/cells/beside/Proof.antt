@@ -10,7 +10,8 @@ unfolding nodeCount
 has-requires c κs = omega arith
 
 returns : tie.Need-returns
-returns c = beside-made (c .before .before .args .nodes .now) (c .before .before .args .square) (c .before .before .args .v) _ (c .before .before .pre) (c .has .ensures)
+returns c = beside-made (c .before .before .args .nodes .now) (c .before .before .args .square) (c .before .before .args .v) _ (c .before .before .pre)
+    (c .has .ensures)
 
 pub beside-spec : {M : Type 1} → statement M
 beside-spec = tie.close (tie.spec has-requires returns)

@@ -11,7 +11,8 @@ use Rattle.crossing.proofs.cells.first_of_cell.Statement.{statement}
 use Rattle.crossing.proofs.cells.first_of_cell.Tie as tie
 
 abbrev Inv-loop : tie.InvT-loop
-Inv-loop nodes u square v₀ v = (v ≤ u) × ((grid : Grid) → CellSquare nodes grid u square → firstOfCell (cellsIn grid nodes) u ≡ noneFrom (cellsIn grid nodes) u v)
+Inv-loop nodes u square v₀ v = (v ≤ u) × ((grid : Grid) → CellSquare nodes grid u square
+    → firstOfCell (cellsIn grid nodes) u ≡ noneFrom (cellsIn grid nodes) u v)
 
 abbrev μ-loop : tie.MeasureT-loop
 μ-loop nodes u square v₀ v = u - v
@@ -28,7 +29,8 @@ beside-requires c κs = search needs
 returns : tie.Need-returns Inv-loop μ-loop
 returns c =
     let q = c .before .before .before .before .cell-square .ensures in
-    sym (c .before .before .before .loop .inv .1 _ q ∙ none-found _ _ _ (c .before .before .loop-test .taken) (sym (c .before .beside .ensures _ _ q) ∙ c .if1 .taken))
+    sym (c .before .before .before .loop .inv .1 _ q ∙ none-found _ _ _ (c .before .before .loop-test .taken)
+    (sym (c .before .beside .ensures _ _ q) ∙ c .if1 .taken))
 
 add-v : tie.Need-add-v Inv-loop μ-loop
 add-v c = search needs

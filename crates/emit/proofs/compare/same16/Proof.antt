@@ -31,7 +31,8 @@ add-t5 : tie.Need-add-t5
 add-t5 c = search needs
 
 returns-4 : tie.Need-returns-4
-returns-4 c = both-same _ _ _ (omega arith) _ _ (c .before .before .before .byte .ensures .0) (c .before .byte2 .ensures .0) (c .before .before .if2 .left) (c .if3 .left)
+returns-4 c = both-same _ _ _ (omega arith) _ _ (c .before .before .before .byte .ensures .0) (c .before .byte2 .ensures .0) (c .before .before .if2 .left)
+    (c .if3 .left)
 
 pub same16-spec : {M : Type 1} → statement M
 same16-spec =

@@ -20,7 +20,8 @@ unfolding bytes32
 returns c = then-different _ _ _ _ (sym (c .before .before .same16 .ensures) ∙ c .enum-told .given .1)
 
 same16-requires-2 : tie.Need-same16-requires-2
-same16-requires-2 c κs = same-within _ _ _ _ (c .before .before .before .before .before .pre) (sym (c .before .before .before .same16 .ensures) ∙ c .before .next .given .1)
+same16-requires-2 c κs = same-within _ _ _ _ (c .before .before .before .before .before .pre)
+    (sym (c .before .before .before .same16 .ensures) ∙ c .before .next .given .1)
 
 returns-2 : tie.Need-returns-2
 unfolding bytes32

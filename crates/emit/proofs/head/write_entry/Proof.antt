@@ -46,7 +46,8 @@ returns c =
     let out = c .before .before .before .before .before .before .before .before .before .before .args .out .now in
     let at = c .before .before .before .before .before .before .before .before .entry-at in
     let h : at .result + contentsEntrySize ≤ length out = omega arith in
-    rw (← at .ensures) (contents-written _ _ _ _ _ _ _ h (c .before .before .before .before .before .before .write32 .ensures) (c .before .before .write322 .ensures))
+    rw (← at .ensures) (contents-written _ _ _ _ _ _ _ h (c .before .before .before .before .before .before .write32 .ensures)
+    (c .before .before .write322 .ensures))
 
 pub write-entry-spec : {M : Type 1} → statement M
 write-entry-spec =

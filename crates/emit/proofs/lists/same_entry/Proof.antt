@@ -29,23 +29,21 @@ returns-2 c =
     then-different _ _ _ _ (sym (c .before .before .same16 .ensures) ∙ c .enum-told .given .1) ∙ compared-in _ _ _ _ _
     (sym (c .before .before .before .before .contains .ensures) ∙ not-false _ (c .before .before .before .if1 .left))
 
-mul-same-value : tie.Need-mul-same-value
-mul-same-value c = search needs
-
-shared-slice-read-same-value : tie.Need-shared-slice-read-same-value
-shared-slice-read-same-value c = search needs
+time-of-requires : tie.Need-time-of-requires
+time-of-requires c κs = search needs
 
 same-value-requires : tie.Need-same-value-requires
 same-value-requires c κs =
     let first = sym (c .before .before .before .before .same16 .ensures) ∙ c .before .before .next .given .1 in
-    same-within _ _ _ _ (c .before .before .before .before .before .before .before .before .before .before .pre .2) first
+    same-within _ _ _ _ (c .before .before .before .before .before .before .before .before .before .before .pre .3) first
 
 returns-3 : tie.Need-returns-3
 unfolding indexedBytes timeBytes
 returns-3 c =
     let first = sym (c .before .before .before .before .before .same16 .ensures) ∙ c .before .before .before .next .given .1 in
-    let i = sym (c .before .before .before .before .before .before .before .contains .ensures) ∙ not-false _ (c .before .before .before .before .before .before .if1 .left) in
-    c .same-value .ensures ∙ then-same _ _ _ _ _ first ∙ compared-in _ _ _ _ _ i
+    let i = sym (c .before .before .before .before .before .before .before .contains .ensures)
+    ∙ not-false _ (c .before .before .before .before .before .before .if1 .left) in
+    rw (c .before .time-of .ensures .1) at (c .same-value .ensures) ∙ then-same _ _ _ _ _ first ∙ compared-in _ _ _ _ _ i
 
 pub same-entry-spec : {M : Type 1} → statement M
 same-entry-spec =
@@ -57,7 +55,6 @@ same-entry-spec =
     enum-known-next
     enum-told
     returns-2
-    mul-same-value
-    shared-slice-read-same-value
+    time-of-requires
     same-value-requires
     returns-3)

@@ -1,4 +1,5 @@
--- `emit::lists::same_list` meets its contract. The loop's invariant: `rank` counts the transit nodes below u, and the entries of the access nodes from u on are left to compare. Assumes nothing.
+-- `emit::lists::same_list` meets its contract. The loop's invariant: `rank` counts the transit nodes below u, and the entries of the access nodes from u on
+-- are left to compare. Assumes nothing.
 use Rattle.emit.proofs.Indexes.{entryFor, entriesFrom, listFor, list-count, entries-step}
 use Rattle.bitset.proofs.Ranks.{rank-none, rank-next}
 use Rattle.emit.proofs.Turns.{members-end}
@@ -12,11 +13,11 @@ use Rattle.emit.proofs.lists.same_list.Statement.{statement}
 use Rattle.emit.proofs.lists.same_list.Tie as tie
 
 abbrev Inv-loop : tie.InvT-loop
-Inv-loop n access transit times b first at₀ rank₀ u₀ at rank u =
-    (rank ≤ u) × (rank ≡ length (membersOf u transit)) × Left b (listFor n access transit times) at (entriesFrom n access transit times u)
+Inv-loop n access transit work b first at₀ rank₀ u₀ at rank u =
+    (rank ≤ u) × (rank ≡ length (membersOf u transit)) × Left b (listFor n access transit work) at (entriesFrom n access transit work u)
 
 abbrev μ-loop : tie.MeasureT-loop
-μ-loop n access transit times b first at₀ rank₀ u₀ at rank u = n - u
+μ-loop n access transit work b first at₀ rank₀ u₀ at rank u = n - u
 
 count-requires : tie.Need-count-requires Inv-loop μ-loop
 count-requires c κs = search needs
@@ -36,7 +37,7 @@ enum-told c = search needs
 returns : tie.Need-returns Inv-loop μ-loop
 returns c =
     let a = c .before .before .before .before .before .before .before .before .args in
-    sym (left-different (list-count (a .n) (a .access .now) (a .transit .now) (a .times .now) _ (c .before .before .before .count .ensures .0))
+    sym (left-different (list-count (a .n) (a .access .now) (a .transit .now) (a .work .now) _ (c .before .before .before .count .ensures .0))
     (left-start refl) (sym (c .before .before .same16 .ensures) ∙ c .enum-told .given .1))
 
 loop-holds : tie.Need-loop-holds Inv-loop μ-loop
@@ -44,12 +45,13 @@ loop-holds c =
     let a = c .before .before .before .before .before .before .before .before .before .args in (
       search needs,
       sym (rank-none _),
-      left-next (list-count (a .n) (a .access .now) (a .transit .now) (a .times .now) _
-          (c .before .before .before .before .count .ensures .0)) (left-start refl) (sym (c .before .before .before .same16 .ensures) ∙ c .before .first .given .1),
+      left-next (list-count (a .n) (a .access .now) (a .transit .now) (a .work .now) _
+          (c .before .before .before .before .count .ensures .0)) (left-start refl)
+          (sym (c .before .before .before .same16 .ensures) ∙ c .before .first .given .1),
     )
 
 same-entry-requires : tie.Need-same-entry-requires Inv-loop μ-loop
-same-entry-requires c κs = (search needs, search needs, c .before .loop .inv .2 .within)
+same-entry-requires c κs = (search needs, search needs, search needs, c .before .loop .inv .2 .within)
 
 enum-known-next : tie.Need-enum-known-next Inv-loop μ-loop
 enum-known-next c = search needs
@@ -62,7 +64,8 @@ returns-2 c =
     let s = c .before .before .before .before .before .before .before .before .before .before .before .before .before .before in
     let l = c .before .before .before .before .loop in
     let a = s .args in
-    let next = entries-step (a .n) (a .access .now) (a .transit .now) (a .times .now) _ _ (c .before .before .before .loop-test .taken) (s .pre .4) (l .inv .1) in
+    let next = entries-step (a .n) (a .access .now) (a .transit .now) (a .work .now) _ _ (c .before .before .before .loop-test .taken) (s .pre .4) (l .inv .1)
+    in
     sym (left-different next (l .inv .2) (sym (c .before .before .same-entry .ensures) ∙ c .enum-told2 .given .1))
 
 flag-of-requires : tie.Need-flag-of-requires Inv-loop μ-loop
@@ -82,7 +85,8 @@ loop-again c =
     let s = c .before .before .before .before .before .before .before .before .before .before .before .before .before .before .before .before in
     let l = c .before .before .before .before .before .before .loop in
     let a = s .args in
-    let next = entries-step (a .n) (a .access .now) (a .transit .now) (a .times .now) _ _ (c .before .before .before .before .before .loop-test .taken) (s .pre .4) (l .inv .1) in (
+    let next = entries-step (a .n) (a .access .now) (a .transit .now) (a .work .now) _ _ (c .before .before .before .before .before .loop-test .taken)
+    (s .pre .4) (l .inv .1) in (
       search needs,
       rank-next _ _ _ _ (l .inv .1) (c .flag-of .ensures .0),
       left-next next (l .inv .2) (sym (c .before .before .before .before .same-entry .ensures) ∙ c .before .before .next .given .1),
@@ -91,7 +95,8 @@ loop-again c =
 returns-3 : tie.Need-returns-3 Inv-loop μ-loop
 returns-3 c =
     let a = c .before .before .before .before .before .before .before .before .before .before .before .args in
-    left-end (members-end (entryFor (a .n) (a .access .now) (a .transit .now) (a .times .now)) (a .access .now) (a .n) _ (c .loop-test .left)) (c .before .loop .inv .2)
+    left-end (members-end (entryFor (a .n) (a .access .now) (a .transit .now) (a .work .now)) (a .access .now) (a .n) _ (c .loop-test .left))
+    (c .before .loop .inv .2)
 
 pub same-list-spec : {M : Type 1} → statement M
 same-list-spec =

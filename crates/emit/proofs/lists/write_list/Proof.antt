@@ -1,4 +1,5 @@
--- `emit::lists::write_list` meets its contract. The loop's invariant: `rank` counts the transit nodes below v, and the entries of the access nodes from v on are left. Assumes nothing.
+-- `emit::lists::write_list` meets its contract. The loop's invariant: `rank` counts the transit nodes below v, and the entries of the access nodes from v on
+-- are left. Assumes nothing.
 use Rattle.emit.proofs.Indexes.{entryFor, entriesFrom, listFor, count-written, entries-step}
 use Rattle.bitset.proofs.Ranks.{rank-none, rank-next}
 use Rattle.emit.proofs.Turns.{members-end}
@@ -13,11 +14,12 @@ use Rattle.emit.proofs.lists.write_list.Statement.{statement}
 use Rattle.emit.proofs.lists.write_list.Tie as tie
 
 abbrev Inv-loop : tie.InvT-loop
-Inv-loop n access transit times out₀ at₀ rank₀ v₀ out at rank v =
-    (rank ≤ v) × (rank ≡ length (membersOf v transit)) × (length out ≡ length out₀) × Written (listFor n access transit times) at out (entriesFrom n access transit times v)
+Inv-loop n access transit work out₀ at₀ rank₀ v₀ out at rank v =
+    (rank ≤ v) × (rank ≡ length (membersOf v transit)) × (length out ≡ length out₀)
+    × Written (listFor n access transit work) at out (entriesFrom n access transit work v)
 
 abbrev μ-loop : tie.MeasureT-loop
-μ-loop n access transit times out₀ at₀ rank₀ v₀ out at rank v = n - v
+μ-loop n access transit work out₀ at₀ rank₀ v₀ out at rank v = n - v
 
 count-requires : tie.Need-count-requires Inv-loop μ-loop
 count-requires c κs = search needs
@@ -35,7 +37,7 @@ loop-holds c =
       search needs,
       sym (rank-none _),
       search needs,
-      count-written (a .n) (a .access .now) (a .transit .now) (a .times .now) _
+      count-written (a .n) (a .access .now) (a .transit .now) (a .work .now) _
           (c .before .before .before .count .ensures .0) _ _ (s .pre .1 .1) (c .before .before .write16 .ensures),
     )
 
@@ -44,8 +46,7 @@ write-entry-requires c κs =
     let s = c .before .before .before .before .before .before .before .before .before .before .before .before in
     let a = s .args in (
       search needs,
-      search needs,
-      written-fits (entries-step (a .n) (a .access .now) (a .transit .now) (a .times .now) _ _ (c .before .loop-test .taken)
+      written-fits (entries-step (a .n) (a .access .now) (a .transit .now) (a .work .now) _ _ (c .before .loop-test .taken)
           (s .pre .1 .0) (c .before .before .loop .inv .1)) (c .before .before .loop .inv .3),
     )
 
@@ -66,9 +67,14 @@ loop-again c =
     let s = c .before .before .before .before .before .before .before .before .before .before .before .before .before .before .before .before in
     let l = c .before .before .before .before .before .before .loop in
     let a = s .args in
-    let next = entries-step (a .n) (a .access .now) (a .transit .now) (a .times .now) _ _ (c .before .before .before .before .before .loop-test .taken)
-    (s .pre .1 .0) (l .inv .1) in
-    (search needs, rank-next _ _ _ _ (l .inv .1) (c .flag-of .ensures .0), search needs, written-next next (l .inv .3) (c .before .before .before .write-entry .ensures))
+    let next = entries-step (a .n) (a .access .now) (a .transit .now) (a .work .now) _ _ (c .before .before .before .before .before .loop-test .taken)
+    (s .pre .1 .0) (l .inv .1) in (
+      search needs,
+      rank-next _ _ _ _ (l .inv .1) (c .flag-of .ensures .0),
+      search needs,
+      written-next next (l .inv .3)
+          (c .before .before .before .write-entry .ensures),
+    )
 
 same-length : tie.Need-same-length Inv-loop μ-loop
 same-length c = search needs
@@ -76,7 +82,8 @@ same-length c = search needs
 returns : tie.Need-returns Inv-loop μ-loop
 returns c =
     let a = c .before .before .before .before .before .before .before .before .before .before .before .args in
-    written-end (members-end (entryFor (a .n) (a .access .now) (a .transit .now) (a .times .now)) (a .access .now) (a .n) _ (c .loop-test .left)) (c .before .loop .inv .3)
+    written-end (members-end (entryFor (a .n) (a .access .now) (a .transit .now) (a .work .now)) (a .access .now) (a .n) _ (c .loop-test .left))
+    (c .before .loop .inv .3)
 
 pub write-list-spec : {M : Type 1} → statement M
 write-list-spec =

@@ -18,7 +18,8 @@ cast-write16 c = search needs
 
 write16-requires : tie.Need-write16-requires
 unfolding bytes16
-write16-requires c κs = fits-in _ _ _ _ _ (sym (c .before .before .contains .ensures) ∙ not-false _ (c .before .if1 .left)) (c .before .before .before .before .before .pre .2)
+write16-requires c κs = fits-in _ _ _ _ _ (sym (c .before .before .contains .ensures) ∙ not-false _ (c .before .if1 .left))
+    (c .before .before .before .before .before .pre .2)
 
 add-result : tie.Need-add-result
 add-result c = search needs

@@ -5,22 +5,23 @@ use Rattle.emit.specs.Parts.{timeBytes, rowBytes}
 use Rattle.bitset.specs.Members.{membersOf}
 use mathlib.Core.Path.{sym, _∙_}
 use Prim.Native.Nat.{_-_}
+use Rattle.words.specs.Regions.{timesIn}
 use borrow.Author.Needs.{needs}
 use Rattle.emit.proofs.rows.same_row.Statement.{statement}
 use Rattle.emit.proofs.rows.same_row.Tie as tie
 
 abbrev Inv-loop : tie.InvT-loop
-Inv-loop n set times b at₀ u₀ at u = Left b (rowBytes times (membersOf n set)) at (membersFrom (timeBytes times) set n u)
+Inv-loop n set work b at₀ u₀ at u = Left b (rowBytes (timesIn n work) (membersOf n set)) at (membersFrom (timeBytes (timesIn n work)) set n u)
 
 abbrev μ-loop : tie.MeasureT-loop
-μ-loop n set times b at₀ u₀ at u = n - u
+μ-loop n set work b at₀ u₀ at u = n - u
 
 loop-holds : tie.Need-loop-holds Inv-loop μ-loop
 unfolding rowBytes
 loop-holds c = left-start (members-all _ _ _)
 
 same-time-requires : tie.Need-same-time-requires Inv-loop μ-loop
-same-time-requires c κs = (search needs, search needs, c .before .loop .inv .within)
+same-time-requires c κs = (search needs, search needs, search needs, c .before .loop .inv .within)
 
 enum-known-next : tie.Need-enum-known-next Inv-loop μ-loop
 enum-known-next c = search needs

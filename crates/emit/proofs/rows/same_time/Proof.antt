@@ -13,18 +13,17 @@ contains-requires c κs = search needs
 returns : tie.Need-returns
 returns c = compared-out _ _ _ _ _ (sym (c .before .contains .ensures) ∙ not-true _ (c .if1 .taken))
 
-mul-same-value : tie.Need-mul-same-value
-mul-same-value c = search needs
-
-shared-slice-read-same-value : tie.Need-shared-slice-read-same-value
-shared-slice-read-same-value c = search needs
+time-of-requires : tie.Need-time-of-requires
+time-of-requires c κs = search needs
 
 same-value-requires : tie.Need-same-value-requires
 same-value-requires c κs = search needs
 
 returns-2 : tie.Need-returns-2
 unfolding timeBytes
-returns-2 c = c .same-value .ensures ∙ compared-in _ _ _ _ _ (sym (c .before .before .before .contains .ensures) ∙ not-false _ (c .before .before .if1 .left))
+returns-2 c =
+    let i = sym (c .before .before .before .contains .ensures) ∙ not-false _ (c .before .before .if1 .left) in
+    rw (c .before .time-of .ensures .1) at (c .same-value .ensures) ∙ compared-in _ _ _ _ _ i
 
 pub same-time-spec : {M : Type 1} → statement M
 same-time-spec =
@@ -32,7 +31,6 @@ same-time-spec =
     (tie.spec
     contains-requires
     returns
-    mul-same-value
-    shared-slice-read-same-value
+    time-of-requires
     same-value-requires
     returns-2)

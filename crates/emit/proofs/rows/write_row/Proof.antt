@@ -7,24 +7,28 @@ use Rattle.bitset.specs.Members.{membersOf}
 use lib.ListN.{length}
 use mathlib.Core.Path.{_≡_, sym, _∙_}
 use Prim.Native.Nat.{_-_}
+use Rattle.words.specs.Regions.{timesIn}
 use borrow.Author.Needs.{needs}
 use Rattle.emit.proofs.rows.write_row.Statement.{statement}
 use Rattle.emit.proofs.rows.write_row.Tie as tie
 
 abbrev Inv-loop : tie.InvT-loop
-Inv-loop n set times out₀ at₀ v₀ out at v = (length out ≡ length out₀) × Written (rowBytes times (membersOf n set)) at out (membersFrom (timeBytes times) set n v)
+Inv-loop n set work out₀ at₀ v₀ out at v =
+    (length out ≡ length out₀) × Written (rowBytes (timesIn n work) (membersOf n set)) at out (membersFrom (timeBytes (timesIn n work)) set n v)
 
 abbrev μ-loop : tie.MeasureT-loop
-μ-loop n set times out₀ at₀ v₀ out at v = n - v
+μ-loop n set work out₀ at₀ v₀ out at v = n - v
 
 loop-holds : tie.Need-loop-holds Inv-loop μ-loop
 unfolding rowBytes
 loop-holds c =
     let a = c .before .before .before .args in
-    (search needs, written-start (members-all _ _ _) (c .before .before .before .pre .2 ∙ sym (length-row (a .times .now) (membersOf (a .n) (a .set .now)))))
+    let size = sym (length-row (timesIn (a .n) (a .work .now)) (membersOf (a .n) (a .set .now))) in
+    (search needs, written-start (members-all _ _ _) (c .before .before .before .pre .2 ∙ size))
 
 write-time-requires : tie.Need-write-time-requires Inv-loop μ-loop
-write-time-requires c κs = (search needs, search needs, written-fits (members-step _ _ _ _ (c .before .loop-test .taken)) (c .before .before .loop .inv .1))
+write-time-requires c κs =
+    (search needs, written-fits (members-step _ _ _ _ (c .before .loop-test .taken)) (c .before .before .loop .inv .1))
 
 add-v : tie.Need-add-v Inv-loop μ-loop
 add-v c = search needs

@@ -1,4 +1,5 @@
--- `emit::starts::write_starts` meets its contract. The loop's invariant: the starts from list v on are left to write, the first of them `start`. Assumes nothing.
+-- `emit::starts::write_starts` meets its contract. The loop's invariant: the starts from list v on are left to write, the first of them `start`. Assumes
+-- nothing.
 use Rattle.emit.proofs.Offsets.{startsFrom, latest, starts-all, starts-step, start-latest, starts-end, start-wrote}
 use Rattle.emit.proofs.Writing.{Written, written-start, written-next, written-end}
 use Rattle.emit.specs.PartLaws.{length-startsOf, length-sizes}
@@ -14,7 +15,8 @@ use Rattle.emit.proofs.starts.write_starts.Tie as tie
 
 abbrev Inv-loop : tie.InvT-loop
 Inv-loop counts n out₀ start₀ v₀ out start v =
-    (v ≤ n) × (start ≤ latest counts n v) × (length out ≡ length out₀) × Written (startsOf (startSize * n) (listSizes n counts)) (startSize * v) out (startsFrom counts n start v)
+    (v ≤ n) × (start ≤ latest counts n v) × (length out ≡ length out₀) × Written (startsOf (startSize * n) (listSizes n counts)) (startSize * v) out
+    (startsFrom counts n start v)
 
 abbrev μ-loop : tie.MeasureT-loop
 μ-loop counts n out₀ start₀ v₀ out start v = n - v

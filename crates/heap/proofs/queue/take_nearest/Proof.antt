@@ -1,7 +1,7 @@
 -- `queue::take_nearest` meets its contract: the first goes in front of the settled ones, and the last sinks from the root.
 use native.Mathlib.Omega.{arith}
 use borrow.Author.Needs.{needs}
-use Rattle.heap.proofs.TakeLaws.{take-placed, take-from, take-done}
+use Rattle.heap.proofs.TakeLaws.{take-positioned, take-from, take-done}
 use Rattle.heap.proofs.queue.take_nearest.Statement.{statement}
 use Rattle.heap.proofs.queue.take_nearest.Tie as tie
 
@@ -27,7 +27,7 @@ swap-requires-2 c κs =
     let p = s .pre in
     let h = p .0 .held in
     let g = p .0 .room in
-    (take-placed (a .n) (a .k) (a .e) (a .w .now) (p .0) (p .1) _ (c .before .before .before .swap .ensures), omega arith, omega arith)
+    (take-positioned (a .n) (a .k) (a .e) (a .w .now) (p .0) (p .1) _ (c .before .before .before .swap .ensures), omega arith, omega arith)
 
 sub-down : tie.Need-sub-down
 sub-down c = search needs

@@ -22,7 +22,7 @@ loop-holds c =
 fall-requires : tie.Need-fall-requires Inv-loop μ-loop
 fall-requires c κs =
     let s = c .before .before .loop .inv in
-    (s .going .kept .placed, c .before .before .before .before .pre .1, s .inside, s .going .order)
+    (s .going .kept .positioned, c .before .before .before .before .pre .1, s .inside, s .going .order)
 
 same-length : tie.Need-same-length Inv-loop μ-loop
 same-length c = search needs

@@ -46,7 +46,8 @@ returns-2 c =
 
 swap-requires : tie.Need-swap-requires
 swap-requires c κs =
-    let q = c .before .before .before .before .before .before .before .lesser .ensures .0 (omega (arith, c .before .before .before .before .before .before .if1 .left)) in
+    let q = c .before .before .before .before .before .before .before .lesser .ensures .0
+    (omega (arith, c .before .before .before .before .before .before .if1 .left)) in
     let b = q .below in
     let d = q .inside in
     (c .before .before .before .before .before .before .before .before .before .before .pre .0, omega arith, omega arith)

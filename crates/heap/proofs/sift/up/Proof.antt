@@ -22,7 +22,7 @@ loop-holds c =
 rise-requires : tie.Need-rise-requires Inv-loop μ-loop
 rise-requires c κs =
     let s = c .before .before .loop .inv in
-    (s .going .kept .placed, c .before .before .before .before .pre .1, s .inside, s .going .order)
+    (s .going .kept .positioned, c .before .before .before .before .pre .1, s .inside, s .going .order)
 
 same-length : tie.Need-same-length Inv-loop μ-loop
 same-length c = search needs

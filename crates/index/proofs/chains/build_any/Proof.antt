@@ -22,7 +22,10 @@ loop-holds c = search needs
 
 build-by-requires : tie.Need-build-by-requires Inv-loop μ-loop
 unfolding edgeCount
-build-by-requires c κs = (c .before .before .before .before .before .before .before .pre .0, (search needs, search needs, search needs, search needs, search needs))
+build-by-requires c κs = (
+  c .before .before .before .before .before .before .before .pre .0,
+  (search needs, search needs, search needs, search needs, search needs),
+)
 
 same-length : tie.Need-same-length Inv-loop μ-loop
 same-length c = search needs

@@ -31,7 +31,8 @@ same-length c = search needs
 returns : tie.Need-returns
 returns c =
     let a = c .before .before .before .before .before .before .before .before .before .args in
-    clear-words (a .n) _ (length (a .ix .now)) _ _ (c .before .before .before .before .before .before .fill .ensures) (c .before .before .fill2 .ensures) (search needs)
+    clear-words (a .n) _ (length (a .ix .now)) _ _ (c .before .before .before .before .before .before .fill .ensures) (c .before .before .fill2 .ensures)
+    (search needs)
 
 pub clear-spec : {M : Type 1} → statement M
 clear-spec =

@@ -13,7 +13,8 @@ use Rattle.index.proofs.chains.list_all.Statement.{statement}
 use Rattle.index.proofs.chains.list_all.Tie as tie
 
 abbrev Inv-loop : tie.InvT-loop
-Inv-loop edges closed s ix₀ n m k₀ i₀ ix k i = (i ≤ m) × (m ≡ edgeCount edges) × (n ≤ k) × (k ≤ length ix) × (length ix ≡ length ix₀) × Chained edges closed i n s k ix
+Inv-loop edges closed s ix₀ n m k₀ i₀ ix k i = (i ≤ m) × (m ≡ edgeCount edges) × (n ≤ k) × (k ≤ length ix) × (length ix ≡ length ix₀)
+    × Chained edges closed i n s k ix
 
 abbrev μ-loop : tie.MeasureT-loop
 μ-loop edges closed s ix₀ n m k₀ i₀ ix k i = m - i
@@ -38,8 +39,14 @@ list-open-requires : tie.Need-list-open-requires Inv-loop μ-loop
 list-open-requires c κs =
     let start = c .before .before .before .before .before .before .before in
     let p = start .pre in
-    let l = c .before .before .before .loop in
-    ((p .0 .0, p .0 .1, omega arith), ((search needs, search needs, search needs, omega (arith, div-le-self (l .i) (start .args .s))), chained-growing _ _ _ _ _ _ _ (l .inv .5)))
+    let l = c .before .before .before .loop in (
+      (p .0 .0, p .0 .1, omega arith),
+      (
+        (search needs, search needs, search needs, omega (arith, div-le-self (l .i) (start .args .s))),
+        chained-growing _ _ _ _ _
+            _ _ (l .inv .5),
+      ),
+    )
 
 add-i : tie.Need-add-i Inv-loop μ-loop
 add-i c = search needs

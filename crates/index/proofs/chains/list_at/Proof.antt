@@ -21,7 +21,8 @@ returns : tie.Need-returns
 returns c =
     let s = c .before .before .before .before .before .before in
     let a = s .args in
-    was-listed (a .ix .now) (a .n) (a .k) (a .x) (a .q) _ (c .before .before .before .next-of .ensures .0) (s .pre .1) (c .before .has-last .ensures (c .if1 .taken))
+    was-listed (a .ix .now) (a .n) (a .k) (a .x) (a .q) _ (c .before .before .before .next-of .ensures .0) (s .pre .1)
+    (c .before .has-last .ensures (c .if1 .taken))
 
 block-of-requires : tie.Need-block-of-requires
 block-of-requires c κs = search needs

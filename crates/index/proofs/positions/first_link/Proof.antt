@@ -10,8 +10,15 @@ returns : tie.Need-returns
 returns c = (sym (no-next _ _ (c .before .before .pre .1) (c .if1 .taken) _), omega arith)
 
 next-in-requires : tie.Need-next-in-requires
-next-in-requires c κs =
-    (search needs, search needs, omega (arith, heads-fit (c .before .before .args .n) (c .before .before .args .work .now) (c .before .before .pre .1) (omega arith)))
+next-in-requires c κs = (
+  search needs,
+  search needs,
+  omega (
+    arith,
+    heads-fit (c .before .before .args .n) (c .before .before .args .work .now) (c .before .before .pre .1)
+        (omega arith),
+  ),
+)
 
 returns-2 : tie.Need-returns-2
 returns-2 c = search needs

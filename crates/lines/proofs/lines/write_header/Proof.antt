@@ -18,7 +18,8 @@ write-field-requires : tie.Need-write-field-requires
 write-field-requires c κs =
     let s = c .before .before .before .before .before .before .before in
     let a = s .args in
-    room-first _ (afterCount (a .transit)) (room-second _ (afterPlaces (a .n) (a .transit)) (rw header-parts at (s .pre)) (c .before .before .before .write-text .ensures))
+    room-first _ (afterCount (a .transit)) (room-second _ (afterPlaces (a .n) (a .transit)) (rw header-parts at (s .pre))
+    (c .before .before .before .write-text .ensures))
 
 slice-aggregate-write-text-2 : tie.Need-slice-aggregate-write-text-2
 slice-aggregate-write-text-2 c = search needs
@@ -42,7 +43,8 @@ write-decimal-requires c κs =
 
 write-byte-requires : tie.Need-write-byte-requires
 write-byte-requires c κs =
-    let s = c .before .before .before .before .before .before .before .before .before .before .before .before .before .before .before .before .before .before .before .before in
+    let s = c .before .before .before .before .before .before .before .before .before .before .before .before .before .before .before .before .before .before
+    .before .before in
     let a = s .args in
     room-second _ lineFeed (room-second _ (afterTransit (a .transit)) (room-second _ (afterCount (a .transit))
     (room-second _ (afterPlaces (a .n) (a .transit)) (rw header-parts at (s .pre))

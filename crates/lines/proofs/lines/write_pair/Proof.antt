@@ -10,7 +10,8 @@ use Rattle.lines.proofs.lines.write_pair.Tie as tie
 
 write-field-requires : tie.Need-write-field-requires
 write-field-requires c κs =
-    room-first _ (fieldText (c .before .before .args .t) ++ (answerText (c .before .before .args .answer) ++ lineFeed)) (rw pair-parts at (c .before .before .pre))
+    room-first _ (fieldText (c .before .before .args .t) ++ (answerText (c .before .before .args .answer) ++ lineFeed))
+    (rw pair-parts at (c .before .before .pre))
 
 write-field-requires-2 : tie.Need-write-field-requires-2
 write-field-requires-2 c κs =

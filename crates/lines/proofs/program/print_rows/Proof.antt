@@ -31,7 +31,13 @@ loop-less : tie.Need-loop-less Inv-loop μ-loop
 loop-less c = search needs
 
 loop-again : tie.Need-loop-again Inv-loop μ-loop
-loop-again c = (c .before .before .before .before .before .before .before .before .loop .inv .0, c .before .before .before .before .print-row .ensures, search needs, search needs)
+loop-again c = (
+  c .before .before .before .before .before .before .before .before .loop .inv .0,
+  c .before .before .before .before .print-row .ensures,
+  search
+      needs,
+  search needs,
+)
 
 same-length : tie.Need-same-length Inv-loop μ-loop
 same-length c = search needs

@@ -21,11 +21,11 @@ far-of-requires c κs =
 enum-told-2 : tie.Need-enum-told-2
 enum-told-2 c = search needs
 
-mul-answer-of : tie.Need-mul-answer-of
-mul-answer-of c = search needs
+node-count-requires : tie.Need-node-count-requires
+node-count-requires c κs = c .before .before .before .before .before .pre .0 .shape
 
-shared-slice-read-answer-of : tie.Need-shared-slice-read-answer-of
-shared-slice-read-answer-of c = search needs
+time-of-requires : tie.Need-time-of-requires
+time-of-requires c κs = let p = c .before .before .before .before .before .before .pre in rw (c .node-count .ensures) (p .3 .room, p .2)
 
 answer-of-requires : tie.Need-answer-of-requires
 answer-of-requires c κs = search needs
@@ -37,9 +37,10 @@ returns c = rw (sym (c .before .before .before .opened-kind .ensures) ∙ c .bef
 returns-2 : tie.Need-returns-2
 unfolding timeAnswer answerOf
 returns-2 c =
-    let p = c .before .before .before .before .before .before .before .pre in
-    rw (sym (c .before .before .before .before .opened-kind .ensures) ∙ c .before .before .enum-told2 .given .1)
-    (c .answer-of .ensures ∙ local-is _ (all-shaped _ (p .0 .shape)) _ _ _ (p .1) (toward-word _ _ _ _ (p .3) (p .2)))
+    let p = c .before .before .before .before .before .before .before .before .pre in
+    let word = rw (c .before .before .node-count .ensures) at (c .before .time-of .ensures .0) ∙ toward-word _ _ _ _ (p .3) (p .2) in
+    rw (sym (c .before .before .before .before .before .opened-kind .ensures) ∙ c .before .before .before .enum-told2 .given .1)
+    (c .answer-of .ensures ∙ local-is _ (all-shaped _ (p .0 .shape)) _ _ _ (p .1) word)
 
 pub answer-between-spec : {M : Type 1} → statement M
 answer-between-spec =
@@ -49,8 +50,8 @@ answer-between-spec =
     enum-told
     far-of-requires
     enum-told-2
-    mul-answer-of
-    shared-slice-read-answer-of
+    node-count-requires
+    time-of-requires
     answer-of-requires
     returns
     returns-2)

@@ -27,8 +27,11 @@ loop-holds c = (search needs, search needs, begun-start _ _ _ (c .before .before
 
 write-line-requires : tie.Need-write-line-requires Inv-loop μ-loop
 write-line-requires c κs =
-    let p = c .before .before .before .before .before .before .before .pre in
-    ((p .0, p .1, omega (arith, c .before .before .loop .inv .0), p .2), begun-fits _ _ (c .before .before .loop .inv .2) (omega (arith, c .before .before .loop .inv .0)))
+    let p = c .before .before .before .before .before .before .before .pre in (
+      (p .0, p .1, omega (arith, c .before .before .loop .inv .0), p .2),
+      begun-fits _ _ (c .before .before .loop .inv .2)
+          (omega (arith, c .before .before .loop .inv .0)),
+    )
 
 add-t-2 : tie.Need-add-t-2 Inv-loop μ-loop
 add-t-2 c = search needs

@@ -16,8 +16,11 @@ add-if1 c = omega (arith, c .node-count .ensures)
 returns : tie.Need-returns
 returns c =
     let a = c .before .before .before .before .before .args in
-    let p = c .before .before .before .before .before .pre in
-    (holds _ (p .2) (begun-end (a .o .now) (a .s) (begun-start (a .o .now) (a .s) (a .out .now) (p .2)) (omega (arith, c .if1 .taken, c .before .node-count .ensures))), p .0)
+    let p = c .before .before .before .before .before .pre in (
+      holds _ (p .2) (begun-end (a .o .now) (a .s) (begun-start (a .o .now) (a .s) (a .out .now) (p .2))
+          (omega (arith, c .if1 .taken, c .before .node-count .ensures))),
+      p .0,
+    )
 
 times-from-requires : tie.Need-times-from-requires
 times-from-requires c κs = search needs

@@ -58,7 +58,8 @@ write-digits-write-byte-requires : (t : ℕ) → write-digits-lts.Need-write-byt
   write-digits-below t,
   write-digits.Post,
 ) (write-digits-at t) write-digits.Post
-write-digits-write-byte-requires t c κs = rw (digits-one _ _ (c .before .before .if1 .left) (c .before .if2 .taken)) at (c .before .before .before .before .pre .1)
+write-digits-write-byte-requires t c κs = rw (digits-one _ _ (c .before .before .if1 .left) (c .before .if2 .taken)) at
+    (c .before .before .before .before .pre .1)
 
 write-digits-same-length : (t : ℕ) → write-digits-lts.Need-same-length (
   write-byte-reads.Asked,
@@ -75,7 +76,8 @@ write-digits-returns-2 : (t : ℕ) → write-digits-lts.Need-returns-2 (
   write-digits.Post,
 ) (write-digits-at t) write-digits.Post
 write-digits-returns-2 t c =
-    rw (digits-one _ _ (c .before .before .before .before .before .if1 .left) (c .before .before .before .before .if2 .taken)) (c .before .before .write-byte .ensures)
+    rw (digits-one _ _ (c .before .before .before .before .before .if1 .left) (c .before .before .before .before .if2 .taken))
+    (c .before .before .write-byte .ensures)
 
 write-digits-sub-write-digits : (t : ℕ) → write-digits-lts.Need-sub-write-digits (
   write-byte-reads.Asked,

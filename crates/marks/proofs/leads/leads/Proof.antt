@@ -26,7 +26,8 @@ loop-holds c = unled-first _ _ _ _ _ _ _ (passes-first _ _ _ _ _ _ _ (c .arc-at 
 
 leads-to-requires : tie.Need-leads-to-requires Inv-loop μ-loop
 leads-to-requires c κs =
-    let p = c .before .before .before .before .before .before .before .before .pre .0 in (p .0, p .1, p .2, c .if1 .taken, c .before .before .loop .inv .passes .low)
+    let p = c .before .before .before .before .before .before .before .before .pre .0 in
+    (p .0, p .1, p .2, c .if1 .taken, c .before .before .loop .inv .passes .low)
 
 returns : tie.Need-returns Inv-loop μ-loop
 returns c = led _ _ _ _ _ _ _ (c .before .before .before .before .loop .inv) _ (c .if2 .taken) (c .before .leads-to .ensures) (c .before .before .if1 .taken)
@@ -41,7 +42,8 @@ loop-less c = c .next-arc .ensures .less
 
 loop-again : tie.Need-loop-again Inv-loop μ-loop
 loop-again c =
-    unled-next _ _ _ _ _ _ _ (c .before .before .before .before .before .loop .inv) _ _ (c .before .if2 .left) (c .before .before .leads-to .ensures) (c .next-arc .ensures)
+    unled-next _ _ _ _ _ _ _ (c .before .before .before .before .before .loop .inv) _ _ (c .before .if2 .left) (c .before .before .leads-to .ensures)
+    (c .next-arc .ensures)
 
 returns-2 : tie.Need-returns-2 Inv-loop μ-loop
 returns-2 c = unled-last _ _ _ _ _ _ _ (c .before .before .loop .inv) (omega (arith, c .if1 .left)) (leading-from _ _ _)

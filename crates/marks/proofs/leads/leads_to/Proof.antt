@@ -1,5 +1,4 @@
 -- `leads::leads_to` meets its contract: the arc leads to an unmarked node, or the sums decide.
-use native.Mathlib.Omega.{arith}
 use mathlib.Core.Path.{sym, _∙_}
 use borrow.Author.Needs.{needs}
 use borrow.Author.Tests.{not-true, not-false}

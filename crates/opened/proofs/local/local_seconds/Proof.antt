@@ -1,4 +1,5 @@
 -- `local::local_seconds` meets its contract.
+use native.Mathlib.Omega.{arith}
 use mathlib.Core.Path.{refl, sym}
 use Rattle.opened.proofs.OpenLaws.{lent}
 use Rattle.opened.proofs.SearchWords.{distance-in, itself-no-time}
@@ -25,7 +26,7 @@ search-seconds-requires c κs =
     let oracle-body = c .before .before .before .oracle-body in
     let oracle-body2 = c .before .before .oracle-body2 in
     let k = lent _ _ (p .0) _ _ _ (oracle-body .ensures) (oracle-body2 .ensures) (c .before .node-count .ensures) in
-    (k .few, k .below _ (p .1), k .below _ (p .2), k .room, k .roads)
+    (k .few, k .below _ (p .1), k .below _ (p .2), k .room, k .roads, k .below 1 (omega (arith, p .1, p .2, c .before .before .before .before .if1 .left)))
 
 same-length : tie.Need-same-length
 same-length c = search needs

@@ -16,7 +16,7 @@ search-wanted-requires c κs =
     let a = c .before .before .before .before .before .before .before .before .args in
     let p = c .before .before .before .before .before .before .before .before .pre in
     let want-only = c .before .before .before .want-only in (
-      (p .0, p .1, omega (arith, p .3, want-only .kept .0), rw (want-only .ensures .0) (lacking-one (a .n) (a .t))),
+      (p .0, p .1, omega (arith, p .3, want-only .kept .0), rw (want-only .ensures .0) (lacking-one (a .n) (a .t)), p .5),
       roads-behind _ _ _ _ _ (want-only .ensures .1) (p .4),
     )
 
@@ -27,8 +27,11 @@ returns : tie.Need-returns
 returns c =
     let a = c .before .before .before .before .before .before .before .before .before .before .before .args in
     let want-only = c .before .before .before .before .before .before .want-only in
-    let search-wanted = c .before .before .search-wanted in
-    (rw (want-only .ensures .0) at (search-wanted .ensures .0 .0), kept-more (searchWords (a .n)) (gridAt (a .n)) _ _ (omega arith) (search-wanted .ensures .1) ∙ want-only .ensures .1)
+    let search-wanted = c .before .before .search-wanted in (
+      rw (want-only .ensures .0) at (search-wanted .ensures .0 .0),
+      kept-more (searchWords (a .n)) (gridAt (a .n)) _ _ (omega arith) (search-wanted .ensures .1)
+          ∙ want-only .ensures .1,
+    )
 
 pub search-to-spec : {M : Type 1} → statement M
 search-to-spec = tie.close (tie.spec want-only-requires search-wanted-requires same-length returns)

@@ -61,7 +61,8 @@ returns c =
     let long = index .kept .1 .1 .1 .0 ∙ grid .kept .0 in
     let some = node-bytes _ (all-shaped _ (p .0) .sound) .1 in
     let roads = index .ensures in
-    words-opened (a .o .now) _ n _ _ (body .ensures) (body2 .ensures) (a .work .now) _ _ some long (p .0) (p .1) made (grid .ensures .1) (roads .0) (roads .1 .0) (roads .1 .1)
+    words-opened (a .o .now) _ n _ _ (body .ensures) (body2 .ensures) (a .work .now) _ _ some long (p .0) (p .1) made (grid .ensures .1) (roads .0)
+    (roads .1 .0) (roads .1 .1)
 
 pub open-words-spec : {M : Type 1} → statement M
 open-words-spec =

@@ -24,7 +24,7 @@ search-front-requires : tie.Need-search-front-requires
 search-front-requires c κs =
     let p = c .before .before .before .before .before .before .before .pre in
     let k = lent _ _ (p .0) _ _ _ (c .before .before .before .body .ensures) (c .before .before .body2 .ensures) (c .before .node-count .ensures) in
-    ((k .few, k .below _ (p .1), k .room), k .roads)
+    ((k .few, k .below _ (p .1), k .room, k .below 1 (p .2)), k .roads)
 
 same-length : tie.Need-same-length
 same-length c = search needs
@@ -39,8 +39,11 @@ returns c =
     let front = c .before .before .search-front in
     let e = node-count .ensures in
     let n = node-count .result in
-    let found = rw (e, body .ensures, body2 .ensures) at (front .ensures .0 .0 .times) in
-    (record { times = found; room = omega (arith, p .0 .room, front .kept .1 .1 .1 .1 .0) }, rw e at (kept-more (searchWords n) (gridAt n) _ _ (omega arith) (front .ensures .1)))
+    let found = rw (e, body .ensures, body2 .ensures) at (front .ensures .0 .0 .times) in (
+      record { times = found; room = omega (arith, p .0 .room, front .kept .1 .1 .1 .1 .0) },
+      rw e at
+          (kept-more (searchWords n) (gridAt n) _ _ (omega arith) (front .ensures .1)),
+    )
 
 pub times-from-spec : {M : Type 1} → statement M
 times-from-spec =

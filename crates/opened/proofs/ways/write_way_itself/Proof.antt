@@ -9,7 +9,7 @@ use Rattle.opened.proofs.ways.write_way_itself.Statement.{statement}
 use Rattle.opened.proofs.ways.write_way_itself.Tie as tie
 
 returns : tie.Need-returns
-returns c = given-short (c .before .before .args .s ∷ []) 1 refl _ (c .if1 .taken)
+returns c = given-short (c .before .before .args .s ∷ []) 2 refl _ (c .if1 .taken)
 
 cast-write16 : tie.Need-cast-write16
 cast-write16 c = search needs
@@ -21,7 +21,8 @@ same-length : tie.Need-same-length
 same-length c = search needs
 
 returns-2 : tie.Need-returns-2
-returns-2 c = given-way (c .before .before .before .before .before .before .args .s ∷ []) 1 refl _ _ (c .before .before .before .before .if1 .left) (unfold concatMap in
+returns-2 c = given-way (c .before .before .before .before .before .before .args .s ∷ []) 2 refl _ 1 refl _ (c .before .before .before .before .if1 .left)
+    (unfold concatMap in
     rw append-nil (c .before .before .write16 .ensures ∙ splice-front _ _))
 
 pub write-way-itself-spec : {M : Type 1} → statement M

@@ -10,7 +10,8 @@ cell-requires : tie.Need-cell-requires
 cell-requires c κs = search needs
 
 cell-access-requires : tie.Need-cell-access-requires
-cell-access-requires c κs = let p = c .before .before .before .before .before .before .pre in ((p .0 .0, p .0 .1, p .0 .2, p .0 .4, omega (arith, p .0 .3)), p .1)
+cell-access-requires c κs = let p = c .before .before .before .before .before .before .pre in
+    ((p .0 .0, p .0 .1, p .0 .2, p .0 .4, omega (arith, p .0 .3)), p .1)
 
 same-length : tie.Need-same-length
 same-length c = search needs

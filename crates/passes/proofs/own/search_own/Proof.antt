@@ -3,12 +3,14 @@ use native.Mathlib.Omega.{arith}
 use mathlib.Core.Path.{refl}
 use borrow.Author.Needs.{needs}
 use Rattle.arcs.specs.Arcs.{arcsIn}
-use Rattle.passes.proofs.Seeking.{sought-lacking, list-of-none, list-searched}
+use Rattle.passes.proofs.Seeking.{sought-lacking, sought-two, list-of-none, list-searched}
 use Rattle.passes.proofs.own.search_own.Statement.{statement}
 use Rattle.passes.proofs.own.search_own.Tie as tie
 
 search-wanted-requires : tie.Need-search-wanted-requires
-search-wanted-requires c κs = let p = c .before .before .before .before .before .pre in ((p .0, p .1, search needs, sought-lacking _ _ _ (p .3)), p .4)
+search-wanted-requires c κs =
+    let p = c .before .before .before .before .before .pre in
+    ((p .0, p .1, search needs, sought-lacking _ _ _ (p .3), sought-two _ _ _ (p .3) (c .before .if1 .taken)), p .4)
 
 same-length : tie.Need-same-length
 same-length c = search needs
@@ -23,7 +25,11 @@ returns c =
     )
 
 returns-2 : tie.Need-returns-2
-returns-2 c = let a = c .before .before .before .before .args in (list-of-none (a .n) (a .left) (a .work .now) (c .before .before .before .before .pre .3) (omega (arith, c .if1 .left)) _ _ _, refl)
+returns-2 c = let a = c .before .before .before .before .args in (
+  list-of-none (a .n) (a .left) (a .work .now) (c .before .before .before .before .pre .3)
+      (omega (arith, c .if1 .left)) _ _ _,
+  refl,
+)
 
 pub search-own-spec : {M : Type 1} → statement M
 search-own-spec =

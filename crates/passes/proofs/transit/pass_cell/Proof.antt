@@ -41,7 +41,8 @@ same-length c = search needs
 
 returns : tie.Need-returns
 returns c =
-    let s = c .before .before .before .before .before .before .before .before .before .before .before .before .before .before .before .before .before .before .before .before in
+    let s = c .before .before .before .before .before .before .before .before .before .before .before .before .before .before .before .before .before .before
+    .before .before in
     let own-access = c .before .before .before .before .before .before .before .before .before .before .before .before .own-access in
     let unite = c .before .before .before .before .before .before .unite in
     let a = s .args in

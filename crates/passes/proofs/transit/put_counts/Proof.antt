@@ -32,7 +32,8 @@ loop-less c = search needs
 loop-again : tie.Need-loop-again Inv-loop μ-loop
 loop-again c =
     let l = c .before .before .before .before .before .loop in
-    next _ _ _ _ (l .v) (l .work) (l .inv) (c .before .before .before .before .loop-test .taken) (omega (arith, l .inv .size)) _ (c .before .before .put-count .ensures)
+    next _ _ _ _ (l .v) (l .work) (l .inv) (c .before .before .before .before .loop-test .taken) (omega (arith, l .inv .size)) _
+    (c .before .before .put-count .ensures)
 
 same-length : tie.Need-same-length Inv-loop μ-loop
 same-length c = search needs

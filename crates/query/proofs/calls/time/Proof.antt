@@ -46,7 +46,11 @@ returns-2 c =
     let z = if1 .left in
     let opened = open-words .ensures in
     let k = stays _ _ _ (opened .0) (answer .kept .1 .1 .1 .0) (answer .ensures .1) in
-    record { result = ap meaning (answer .ensures .0 ∙ time-given _ _ _ _ _ e z); words = zero-words .ensures ∙ time-zeroed _ _ _ _ _ e _ z (k .rest ∙ opened .1) }
+    record {
+      result = ap meaning (answer .ensures .0 ∙ time-given _ _ _ _ _ e z);
+      words = zero-words .ensures
+          ∙ time-zeroed _ _ _ _ _ e _ z (k .rest ∙ opened .1);
+    }
 
 pub time-spec : {M : Type 1} → statement M
 time-spec =

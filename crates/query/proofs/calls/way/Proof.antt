@@ -37,7 +37,8 @@ same-length-2 c = search needs
 
 returns-2 : tie.Need-returns-2
 returns-2 c =
-    let time-refusal = c .before .before .before .before .before .before .before .before .before .before .before .before .before .before .before .before .time-refusal in
+    let time-refusal = c .before .before .before .before .before .before .before .before .before .before .before .before .before .before .before .before
+    .time-refusal in
     let if1 = c .before .before .before .before .before .before .before .before .before .before .before .before .before .before .before .if1 in
     let open-words = c .before .before .before .before .before .before .before .before .before .before .before .before .before .open-words in
     let answer = c .before .before .before .before .before .before .before .before .way-of in

@@ -18,7 +18,8 @@ coordinates-broken-requires c κs = search needs
 returns-2 : tie.Need-returns-2
 unfolding nodeCount edgeCount
 returns-2 c =
-    goes 3 _ (sym (c .before .before .before .nodes-broken .ensures) ∙ c .before .before .if1 .left) (stops 4 _ (sym (c .before .coordinates-broken .ensures) ∙ c .if2 .taken))
+    goes 3 _ (sym (c .before .before .before .nodes-broken .ensures) ∙ c .before .before .if1 .left)
+    (stops 4 _ (sym (c .before .coordinates-broken .ensures) ∙ c .if2 .taken))
 
 edges-broken-requires : tie.Need-edges-broken-requires
 edges-broken-requires c κs = search needs

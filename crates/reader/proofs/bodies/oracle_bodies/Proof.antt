@@ -20,7 +20,8 @@ numbers-broken-requires c κs = search needs
 returns-2 : tie.Need-returns-2
 unfolding transitCount
 returns-2 c =
-    goes 8 _ (sym (c .before .before .before .grid-body-broken .ensures) ∙ c .before .before .if1 .left) (stops 9 _ (sym (c .before .numbers-broken .ensures) ∙ c .if2 .taken))
+    goes 8 _ (sym (c .before .before .before .grid-body-broken .ensures) ∙ c .before .before .if1 .left)
+    (stops 9 _ (sym (c .before .numbers-broken .ensures) ∙ c .if2 .taken))
 
 access-broken-requires : tie.Need-access-broken-requires
 access-broken-requires c κs = search needs

@@ -17,7 +17,14 @@ read-requires c κs = (omega arith, whole-contents 1 7 (c .before .args .o .now)
 
 body-requires : tie.Need-body-requires
 body-requires c κs =
-    record { entries = 7; few = omega arith; below = omega arith; read = c .read .ensures; joined = kept (c .before .before .args .o .now) (c .before .before .pre) .bodies }
+    record {
+      entries = 7;
+      few = omega arith;
+      below = omega arith;
+      read = c .read .ensures;
+      joined = kept (c .before .before .args .o .now)
+          (c .before .before .pre) .bodies;
+    }
 
 body-requires-2 : tie.Need-body-requires-2
 body-requires-2 c κs =
@@ -38,12 +45,26 @@ body-requires-3 c κs =
 body-requires-4 : tie.Need-body-requires-4
 body-requires-4 c κs =
     let s = c .before .before .before .before .before in
-    record { entries = 7; few = omega arith; below = omega arith; read = c .before .before .before .read .ensures; joined = kept (s .args .o .now) (s .pre) .bodies }
+    record {
+      entries = 7;
+      few = omega arith;
+      below = omega arith;
+      read = c .before .before .before .read .ensures;
+      joined = kept (s .args .o .now) (s .pre)
+          .bodies;
+    }
 
 body-requires-5 : tie.Need-body-requires-5
 body-requires-5 c κs =
     let s = c .before .before .before .before .before .before in
-    record { entries = 7; few = omega arith; below = omega arith; read = c .before .before .before .before .read .ensures; joined = kept (s .args .o .now) (s .pre) .bodies }
+    record {
+      entries = 7;
+      few = omega arith;
+      below = omega arith;
+      read = c .before .before .before .before .read .ensures;
+      joined = kept (s .args .o .now)
+          (s .pre) .bodies;
+    }
 
 oracle-bodies-requires : tie.Need-oracle-bodies-requires
 unfolding nodeCount

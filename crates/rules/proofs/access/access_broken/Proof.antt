@@ -18,7 +18,8 @@ some-list-broken-requires c κs = (c .before .before .before .pre, sym (c .befor
 
 returns-2 : tie.Need-returns-2
 unfolding accessBroken
-returns-2 c = rw (← c .before .before .lists-gapless .ensures) (rw (not-false (c .before .before .lists-gapless .result) (c .before .if1 .left)) (c .some-list-broken .ensures))
+returns-2 c = rw (← c .before .before .lists-gapless .ensures) (rw (not-false (c .before .before .lists-gapless .result) (c .before .if1 .left))
+    (c .some-list-broken .ensures))
 
 pub access-broken-spec : {M : Type 1} → statement M
 access-broken-spec =

@@ -17,7 +17,11 @@ returns c = rw (← c .before .read16 .ensures .0) (simp (lt-ltb (c .before .rea
 
 returns-2 : tie.Need-returns-2
 returns-2 c =
-    rw (← c .before .before .read16 .ensures .0) (simp (le-leb (c .before .before .before .before .args .transit) (c .before .before .read16 .result) (omega arith), or-true))
+    rw (← c .before .before .read16 .ensures .0) (simp (
+      le-leb (c .before .before .before .before .args .transit) (c .before .before .read16 .result)
+          (omega arith),
+      or-true,
+    ))
 
 add-value-broken : tie.Need-add-value-broken
 add-value-broken c = search needs
@@ -29,7 +33,8 @@ returns-3 : tie.Need-returns-3
 returns-3 c =
     let read16 = c .before .before .before .read16 in
     let a = c .before .before .before .before .before .args in
-    rw (← read16 .ensures .0) (simp (le-ltb (read16 .result) (a .least) (omega arith), lt-leb (a .transit) (read16 .result) (omega arith)) (c .value-broken .ensures))
+    rw (← read16 .ensures .0) (simp (le-ltb (read16 .result) (a .least) (omega arith), lt-leb (a .transit) (read16 .result) (omega arith))
+    (c .value-broken .ensures))
 
 pub entry-broken-spec : {M : Type 1} → statement M
 entry-broken-spec =

@@ -33,7 +33,8 @@ list-fits-requires c κs = search needs
 
 returns-2 : tie.Need-returns-2 Inv-loop μ-loop
 returns-2 c =
-    sym (c .before .before .before .loop .inv .2 ∙ list-unfit _ _ _ _ (c .before .before .loop-test .taken) (sym (c .before .list-fits .ensures) ∙ not-true _ (c .if2 .taken)))
+    sym (c .before .before .before .loop .inv .2 ∙ list-unfit _ _ _ _ (c .before .before .loop-test .taken)
+    (sym (c .before .list-fits .ensures) ∙ not-true _ (c .if2 .taken)))
 
 size-at-requires : tie.Need-size-at-requires Inv-loop μ-loop
 size-at-requires c κs = fit-count _ _ _ (sym (c .before .list-fits .ensures) ∙ not-false _ (c .if2 .left))

@@ -23,7 +23,8 @@ list-broken-requires : tie.Need-list-broken-requires Inv-loop μ-loop
 list-broken-requires c κs = list-inside _ _ _ (c .before .before .before .pre .1) (c .loop-test .taken)
 
 returns : tie.Need-returns Inv-loop μ-loop
-returns c = scan-found _ (c .before .before .before .loop .inv) (rest-step _ _ (c .before .before .loop-test .taken)) (c .before .list-broken .ensures) (c .if1 .taken)
+returns c = scan-found _ (c .before .before .before .loop .inv) (rest-step _ _ (c .before .before .loop-test .taken)) (c .before .list-broken .ensures)
+    (c .if1 .taken)
 
 add-u : tie.Need-add-u Inv-loop μ-loop
 add-u c = search needs
@@ -32,7 +33,8 @@ loop-less : tie.Need-loop-less Inv-loop μ-loop
 loop-less c = search needs
 
 loop-again : tie.Need-loop-again Inv-loop μ-loop
-loop-again c = scan-passed _ (c .before .before .before .loop .inv) (rest-step _ _ (c .before .before .loop-test .taken)) (c .before .list-broken .ensures) (c .if1 .left)
+loop-again c = scan-passed _ (c .before .before .before .loop .inv) (rest-step _ _ (c .before .before .loop-test .taken)) (c .before .list-broken .ensures)
+    (c .if1 .left)
 
 returns-2 : tie.Need-returns-2 Inv-loop μ-loop
 returns-2 c = scan-end _ (c .before .loop .inv) (rest-end _ _ (c .loop-test .left))

@@ -24,7 +24,8 @@ given c = c .before .before .before .before .before .before .before
 
 -- The rule by the code's flag for the first four tests.
 whole : (c : tie.Joined3)
-    → edgeBroken (given c .args .n) (edge (given c .args .b .now) (given c .args .i)) ≡ c .if3 .if4 || ltb maxSeconds (c .before .before .before .edge-seconds .result)
+    → edgeBroken (given c .args .n) (edge (given c .args .b .now) (given c .args .i)) ≡ c .if3 .if4 || ltb maxSeconds
+    (c .before .before .before .edge-seconds .result)
 unfolding edgeBroken
 whole c =
     rw (

@@ -23,7 +23,8 @@ returns c = or-first _ (ap not (ne-eqb _ _ (c .if1 .taken)))
 returns-2 : tie.Need-returns-2
 unfolding gridBodyBroken
 returns-2 c =
-    c .grid-broken .ensures ∙ ap (λ (dv : Division). gridBroken (dv .g)) (c .before .read-division .ensures) ∙ or-second _ (ap not (eq-eqb _ _ (c .before .before .if1 .left)))
+    c .grid-broken .ensures ∙ ap (λ (dv : Division). gridBroken (dv .g)) (c .before .read-division .ensures)
+    ∙ or-second _ (ap not (eq-eqb _ _ (c .before .before .if1 .left)))
 
 pub grid-body-broken-spec : {M : Type 1} → statement M
 grid-body-broken-spec = tie.close (tie.spec read-division-requires grid-broken-requires returns returns-2)

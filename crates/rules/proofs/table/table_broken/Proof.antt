@@ -38,7 +38,8 @@ value-broken-requires c κs = search needs
 
 returns-2 : tie.Need-returns-2 Inv-loop μ-loop
 unfolding cellBroken
-returns-2 c = scan-found _ (c .before .before .before .loop .inv .1) (rest-step _ _ (c .before .before .loop-test .taken)) (c .before .value-broken .ensures) (c .if2 .taken)
+returns-2 c = scan-found _ (c .before .before .before .loop .inv .1) (rest-step _ _ (c .before .before .loop-test .taken)) (c .before .value-broken .ensures)
+    (c .if2 .taken)
 
 add-i : tie.Need-add-i Inv-loop μ-loop
 add-i c = search needs

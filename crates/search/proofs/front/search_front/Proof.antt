@@ -12,7 +12,8 @@ use Rattle.search.proofs.front.search_front.Tie as tie
 use Rattle.words.specs.Regions.{frontIn, searchWords}
 
 abbrev Inv-loop : tie.InvT-loop
-Inv-loop edges closed n s work₀ k₀ e₀ work k e = (length work ≡ length work₀) × (KeptFrom (searchWords n) work₀ work) × Standing (arcsIn edges closed) n s k e (frontIn n work)
+Inv-loop edges closed n s work₀ k₀ e₀ work k e = (length work ≡ length work₀) × (KeptFrom (searchWords n) work₀ work)
+    × Standing (arcsIn edges closed) n s k e (frontIn n work)
 
 abbrev μ-loop : tie.MeasureT-loop
 μ-loop edges closed n s work₀ k₀ e₀ work k e = e

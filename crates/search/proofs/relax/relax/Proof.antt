@@ -27,7 +27,7 @@ mul-front : tie.Need-mul-front Inv-loop μ-loop
 mul-front c = search needs
 
 first-edge-requires : tie.Need-first-edge-requires Inv-loop μ-loop
-first-edge-requires c κs = let p = c .before .before .before .before .before .before .pre in ((p .0 .0 .queue .placed .few, p .1 .1, p .0 .1), p .1 .0)
+first-edge-requires c κs = let p = c .before .before .before .before .before .before .pre in ((p .0 .0 .queue .positioned .few, p .1 .1, p .0 .1), p .1 .0)
 
 arc-at-requires : tie.Need-arc-at-requires Inv-loop μ-loop
 arc-at-requires c κs = (c .before .before .before .before .before .before .before .pre .1 .0 .ends, λ l. c .first-edge .ensures .valid .here l .end)
@@ -74,7 +74,7 @@ next-arc-requires c κs =
     let ys = offer-in .last .0 in
     let k = offer-in .kept .0 in
     let d = c .before .before .before .before .before .before .before .before .before .before .before .before .time-of .result in (
-      (p .0 .0 .queue .placed .few, search needs, p .0 .1),
+      (p .0 .0 .queue .positioned .few, search needs, p .0 .1),
       (
         turn-roads (a .edges .now) (a .closed .now) (a .n) (a .e) (a .u) d (a .work .now) (l .a) (l .held)
             (l .work) ys (l .inv .1) (omega (arith, l .inv .0, p .1 .1)) k,

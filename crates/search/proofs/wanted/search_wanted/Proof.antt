@@ -55,7 +55,12 @@ round-requires c κs =
     )
 
 sub-e : tie.Need-sub-e Inv-loop μ-loop
-sub-e c = omega (arith, c .before .before .before .before .before .before .loop .inv .2 .standing .holds .queue .held, c .before .before .before .before .before .loop-test .taken)
+sub-e c = omega (
+  arith,
+  c .before .before .before .before .before .before .loop .inv .2 .standing .holds .queue .held,
+  c .before .before .before .before .before
+      .loop-test .taken,
+)
 
 left-then-requires : tie.Need-left-then-requires Inv-loop μ-loop
 left-then-requires c κs =

@@ -28,7 +28,8 @@ part-result-end : tie.Need-part-result-end
 part-result-end c = omega (arith, list-within _ _ _ (c .before .before .before .before .pre .1))
 
 returns : tie.Need-returns
-returns c = part-between _ _ _ _ (c .before .before .before .list-start .ensures) (omega (arith, c .before .before .list-count .ensures .0, c .before .list-size .ensures))
+returns c = part-between _ _ _ _ (c .before .before .before .list-start .ensures)
+    (omega (arith, c .before .before .list-count .ensures .0, c .before .list-size .ensures))
 
 pub list-part-spec : {M : Type 1} → statement M
 list-part-spec =

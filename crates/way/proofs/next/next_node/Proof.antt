@@ -1,6 +1,5 @@
 -- `next::next_node` meets its contract: the lowest over the arcs passed, which at the end are those that leave the node.
 use native.Mathlib.Omega.{arith}
-use mathlib.Core.Path.{sym}
 use borrow.Author.Needs.{needs}
 use lib.Seq.{length-take-le}
 use Rattle.way.proofs.Nexts.{Lowered, lowered-first, lowered-next, lowered-last}
@@ -30,21 +29,15 @@ arc-at-requires c κs = (c .before .before .before .before .pre .1 .ends, λ l. 
 loop-holds : tie.Need-loop-holds Inv-loop μ-loop
 loop-holds c = lowered-first _ _ _ _ _ _ _ _ (passes-first _ _ _ _ _ _ _ (c .arc-at .ensures) (c .before .first-edge .ensures))
 
-slice-aggregate-lower : tie.Need-slice-aggregate-lower Inv-loop μ-loop
-slice-aggregate-lower c = let a = c .before .before .before .before .before .before .before .before .before .args in sym (length-take-le (a .n) (a .work .now) (search needs))
-
 lower-requires : tie.Need-lower-requires Inv-loop μ-loop
-lower-requires c κs =
-    let a = c .before .before .before .before .before .before .before .before .before .args in
-    (omega (arith, c .before .if1 .taken, length-take-le (a .n) (a .work .now) (omega arith)), c .before .before .before .loop .inv .passes .low)
+lower-requires c κs = (omega arith, c .if1 .taken, omega (arith, c .before .before .loop .inv .passes .low))
 
 next-arc-requires : tie.Need-next-arc-requires Inv-loop μ-loop
 next-arc-requires c κs =
-    let s = c .before .before .before .before .before .before .before .before .before .before in
-    let p = s .pre in
-    let a = s .args in (
+    let p = c .before .before .before .before .before .before .before .before .before .pre in
+    let a = c .before .before .before .before .before .before .before .before .before .args in (
       (search needs, search needs, omega (arith, node-in _ _ _ (p .0 .0), length-take-le (a .n) (a .work .now) (omega arith))),
-      (p .1, (c .before .before .before .before .loop .inv .passes .valid, c .before .before .if1 .taken)),
+      (p .1, (c .before .before .before .loop .inv .passes .valid, c .before .if1 .taken)),
     )
 
 loop-less : tie.Need-loop-less Inv-loop μ-loop
@@ -52,8 +45,9 @@ loop-less c = c .next-arc .ensures .less
 
 loop-again : tie.Need-loop-again Inv-loop μ-loop
 loop-again c =
-    let s = c .before .before .before .before .before .before .before .before .before .before .before in
-    lowered-next _ _ _ _ _ _ _ _ _ (c .before .before .before .before .before .loop .inv) (s .args .left) _ _ (s .pre .0 .0) (c .before .lower .ensures) (c .next-arc .ensures)
+    lowered-next _ _ _ _ _ _ _ _ _ (c .before .before .before .before .loop .inv)
+    (c .before .before .before .before .before .before .before .before .before .before .args .left) _ _
+    (c .before .before .before .before .before .before .before .before .before .before .pre .0 .0) (c .before .lower .ensures) (c .next-arc .ensures)
 
 returns : tie.Need-returns Inv-loop μ-loop
 returns c = lowered-last _ _ _ _ _ _ _ _ _ (c .before .before .loop .inv) (omega (arith, c .if1 .left))
@@ -67,7 +61,6 @@ next-node-spec =
     first-edge-requires
     arc-at-requires
     loop-holds
-    slice-aggregate-lower
     lower-requires
     next-arc-requires
     loop-less

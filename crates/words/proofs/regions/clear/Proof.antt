@@ -1,6 +1,6 @@
 -- `regions::clear` meets its contract: the set that comes back, and the words that were not lent.
 use borrow.Author.Needs.{needs}
-use Rattle.words.proofs.Windows.{only, emptied}
+use Rattle.words.proofs.Windows.{emptied, emptied-only}
 use Rattle.words.proofs.regions.clear.Statement.{statement}
 use Rattle.words.proofs.regions.clear.Tie as tie
 
@@ -36,9 +36,11 @@ returns c =
     let a = c .before .before .before .before .before .before .before .args in
     let p = c .before .before .before .before .before .region-at .ensures in
     let q = c .before .before .before .before .set-words .ensures in
-    let ys = c .before .before .fill .last .0 in
-    let e = c .before .before .fill .kept .0 in
-    (emptied (a .n) (a .k) _ _ (a .work .now) p q (search needs) ys e (c .before .before .fill .ensures), only (a .n) (a .k) _ _ (a .work .now) p q (search needs) ys e)
+    let fill = c .before .before .fill in
+    let w = a .work .now in (
+      emptied (a .n) (a .k) _ _ w p q (search needs) (fill .last .0) (fill .kept .0) (fill .ensures),
+      emptied-only (a .n) (a .k) _ _ w p q (search needs) (fill .last .0) (fill .kept .0),
+    )
 
 pub clear-spec : {M : Type 1} → statement M
 clear-spec =

@@ -18,10 +18,20 @@ set-words-requires : tie.Need-set-words-requires
 set-words-requires c κs = search needs
 
 mul-result-3 : tie.Need-mul-result-3
-mul-result-3 c = rw (c .set-words .ensures) (omega (arith, c .before .before .pre, at-sets (c .before .before .args .n) (c .before .before .args .k) (omega (arith, c .before .if1 .left))))
+mul-result-3 c = rw (c .set-words .ensures) (omega (
+  arith,
+  c .before .before .pre,
+  at-sets (c .before .before .args .n) (c .before .before .args .k)
+      (omega (arith, c .before .if1 .left)),
+))
 
 add-result : tie.Need-add-result
-add-result c = rw (c .set-words .ensures) (omega (arith, c .before .before .pre, at-sets (c .before .before .args .n) (c .before .before .args .k) (omega (arith, c .before .if1 .left))))
+add-result c = rw (c .set-words .ensures) (omega (
+  arith,
+  c .before .before .pre,
+  at-sets (c .before .before .args .n) (c .before .before .args .k)
+      (omega (arith, c .before .if1 .left)),
+))
 
 returns-2 : tie.Need-returns-2
 returns-2 c = rw (c .set-words .ensures) (at-sets (c .before .before .args .n) (c .before .before .args .k) (omega (arith, c .before .if1 .left)))
