@@ -1,4 +1,4 @@
-/* Three places in a row: builds their oracle, audits it, asks a time, a way and a block of times, meets a refusal, and asks all times after one check.
+/* Three places in a row: builds their oracle, audits it, asks a time, a way and a block of times, and meets refusals.
  * cc -Iinclude examples/line.c target/staticlib/libcapi.a -o line */
 #include "jukesogbi.h"
 
@@ -43,20 +43,7 @@ int main(void) {
     printf("list of 0: %zu bytes from %zu on\n", list.size, list.start);
     printf("too few words: rule %u\n", jukesogbi_time(oracle, built.size, 0, 2, work, 23).rule);
 
-    /* From here to the last question, neither the oracle nor the words may be changed by anything but these calls. */
-    printf("open: rule %u\n", jukesogbi_open(oracle, built.size, work, 24));
-    for (uint32_t s = 0; s < 3; s++) {
-        printf("times from %u:", s);
-        for (uint32_t t = 0; t < 3; t++) {
-            printf(" %u", jukesogbi_opened_time(oracle, built.size, s, t, work, 24).seconds);
-        }
-        printf("\n");
-    }
-    route = jukesogbi_opened_way(oracle, built.size, 2, 0, work, 24, nodes, sizeof nodes);
-    printf("way 2 to 0: %u places, first %u, last %u\n", route.nodes, nodes[0], nodes[4]);
-    block = jukesogbi_opened_block(oracle, built.size, starts, 2, ends, 3, work, 24);
-    printf("time 1 to 2 in a block: %u\n", block.times[1][0]);
-    reply = jukesogbi_opened_far(oracle, built.size, 2, 0, work, 24);
-    printf("far 2 to 0: %u seconds; 0 to 1: rule %u\n", reply.seconds, jukesogbi_opened_far(oracle, built.size, 0, 1, work, 24).rule);
+    reply = jukesogbi_far(oracle, built.size, 2, 0);
+    printf("far 2 to 0: %u seconds; 0 to 1: rule %u\n", reply.seconds, jukesogbi_far(oracle, built.size, 0, 1).rule);
     return 0;
 }

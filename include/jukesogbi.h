@@ -1,8 +1,8 @@
 /* Jukesogbi: driving times and ways over a gridded road network. The proved core's calls for C.
  *
  * A call never fails in another way than by a refusal: it hands back the number of the first rule broken (below), or 0. Nothing is asked of the
- * arguments but that each pointer is to as many bytes or words as the length beside it says (a length of 0 goes with any pointer that is not null),
- * and that `work` and `out` overlap nothing else that is passed.
+ * arguments but that each pointer is to as many bytes or words as the length beside it says (with a length of 0 it may be null), that `work` and `starts`
+ * and `ends` are aligned as 32-bit words are, and that `work` and `out` overlap nothing else that is passed.
  *
  * Working memory is 8 words of 32 bits for each place of the file: 8 * N, N up to 4,096. What it holds before a call does not matter.
  *
@@ -12,6 +12,23 @@
  *   success                the first 8 * N working words are zero (of calls that have them), the result stands at the front of output,
  *                          and nothing past either is touched
  * Beside a refusal, every other number of a record is 0.
+ *
+ * Threads: a call reads and writes what it is lent and nothing else, and keeps nothing: as many may run at once as have words and output of their own.
+ * They may share the network and the oracle.
+ *
+ * Stack, in bytes, on x86-64, whatever the network: jukesogbi_way takes at most 12,288, jukesogbi_block 4,096, every other call 2,048.
+ *
+ * Files. Numbers are little-endian. A network has 3 bodies, an oracle 7, the first 3 of them the network's own. Byte 0 is the edition, 1, and byte 1 the
+ * number of bodies; from byte 2 on stands an entry of 9 bytes for each body: its number (1 byte), where it begins in the file (4) and its length in bytes
+ * (4). The bodies follow without gaps.
+ *   1  places: x and y, 4 bytes each, signed, in metres. N is the length (at byte 7) / 8.
+ *   2  roads: the numbers of two places, 2 bytes each, and 4 bytes of seconds. R is the length (at byte 16) / 8.
+ *   3  closed roads: their numbers, 2 bytes each, rising.
+ *   4  the grid's g: 2 bytes.
+ *   5  transit places: their numbers, 2 bytes each, rising. They begin at what bytes 39 to 42 say; T is the length (at byte 43) / 2.
+ *   6  access: for each place 4 bytes, where its list begins in this body; then the lists (see jukesogbi_list).
+ *   7  table: T rows of T times, 4 bytes each: row i, column j is the time from transit place i to transit place j.
+ * In bodies 6 and 7 JUKESOGBI_NO_WALK stands where there is no walk.
  *
  * Rules, in checking order:
  *    1  fewer than 2 bytes, a wrong edition, a wrong entry count or an incomplete contents
@@ -47,6 +64,10 @@ extern "C" {
 
 /* The most places that either side of a block may name. */
 #define JUKESOGBI_SIDE 12
+
+/* The most places, and roads, of a network. */
+#define JUKESOGBI_PLACES 4096
+#define JUKESOGBI_ROADS 16384
 
 /* `seconds`, or a square of `times`, where there is no walk. */
 #define JUKESOGBI_NO_WALK UINT32_MAX
@@ -88,6 +109,13 @@ typedef struct {
     uint32_t times[JUKESOGBI_SIDE][JUKESOGBI_SIDE];
 } jukesogbi_times;
 
+/* Output enough for the oracle of a network of so many places and roads, closed roads counted, under any grid: as there is a transit place for each road
+ * at the most, and all of them may be in each list. 168 MB for the largest network; most oracles are far smaller. */
+static inline size_t jukesogbi_room(size_t places, size_t roads) {
+    size_t transit = roads < places ? roads : places;
+    return 67 + 8 * places + 10 * roads + 2 * transit + places * (6 + 6 * transit) + 4 * transit * transit;
+}
+
 /* Builds the oracle of a network under a grid of g x g cells at the front of `out`. Rules 1 to 8, 14, 15. */
 jukesogbi_built jukesogbi_build(const uint8_t *network, size_t network_size, uint32_t g,
                                 uint32_t *work, size_t words, uint8_t *out, size_t room);
@@ -110,7 +138,7 @@ jukesogbi_part jukesogbi_list(const uint8_t *oracle, size_t oracle_size, uint32_
 uint32_t jukesogbi_list_rule(const uint8_t *oracle, size_t oracle_size, uint32_t u);
 
 /* The places of the way from s to t, as 16-bit numbers, low byte first, at the front of `out`: the first least walk by place numbers.
- * No place where there is no walk. Rules 1 to 12, 14, 15. */
+ * No place where there is no walk. 2 * N bytes are room enough, as a way has no place twice. Rules 1 to 12, 14, 15. */
 jukesogbi_route jukesogbi_way(const uint8_t *oracle, size_t oracle_size, uint32_t s, uint32_t t,
                               uint32_t *work, size_t words, uint8_t *out, size_t room);
 
@@ -118,31 +146,6 @@ jukesogbi_route jukesogbi_way(const uint8_t *oracle, size_t oracle_size, uint32_
  * several times, on either side or on both. Rules 1 to 12, 17, 14, where 12 looks at every name, also past the twelfth. */
 jukesogbi_times jukesogbi_block(const uint8_t *oracle, size_t oracle_size, const uint32_t *starts, size_t starts_count,
                                 const uint32_t *ends, size_t ends_count, uint32_t *work, size_t words);
-
-/* One check, many answers. jukesogbi_open checks the oracle, rules 1 to 11 and 14, and leaves its grid and an index of its roads in the first 8 * N
- * working words; where it hands back a rule, nothing is written. After a 0 the calls below answer as those of their names above do, but without
- * checking the oracle again, and they leave the words opened.
- *
- * The caller's duty: the oracle is the one that was opened, with the same bytes, and the words are those that jukesogbi_open or the last of these
- * calls left, as many as they were. Nothing but these calls may have changed either: with other bytes or words, they may read and write anywhere. To
- * answer from several threads, open the oracle once for each, with words of its own. */
-uint32_t jukesogbi_open(const uint8_t *oracle, size_t oracle_size, uint32_t *work, size_t words);
-
-/* Rule 12. */
-jukesogbi_reply jukesogbi_opened_time(const uint8_t *oracle, size_t oracle_size, uint32_t s, uint32_t t,
-                                      uint32_t *work, size_t words);
-
-/* Rules 12, 13. */
-jukesogbi_reply jukesogbi_opened_far(const uint8_t *oracle, size_t oracle_size, uint32_t s, uint32_t t,
-                                     const uint32_t *work, size_t words);
-
-/* Rules 12, 15. */
-jukesogbi_route jukesogbi_opened_way(const uint8_t *oracle, size_t oracle_size, uint32_t s, uint32_t t,
-                                     uint32_t *work, size_t words, uint8_t *out, size_t room);
-
-/* Rules 12, 17. */
-jukesogbi_times jukesogbi_opened_block(const uint8_t *oracle, size_t oracle_size, const uint32_t *starts, size_t starts_count,
-                                       const uint32_t *ends, size_t ends_count, uint32_t *work, size_t words);
 
 #ifdef __cplusplus
 }

@@ -122,6 +122,11 @@ pub mod raw {
         pub fn jukesogbi_block(
             oracle: *const u8, oracle_size: usize, starts: *const u32, starts_count: usize, ends: *const u32, ends_count: usize, work: *mut u32, words: usize,
         ) -> Times;
+    }
+
+    // The questions over an opened oracle, which are in no header. The duty that they ask for (crates/opened_capi) is `Oracle`'s: bytes and words are as
+    // `jukesogbi_open` or the last question left them.
+    extern "C" {
         pub fn jukesogbi_open(oracle: *const u8, oracle_size: usize, work: *mut u32, words: usize) -> u32;
         pub fn jukesogbi_opened_time(oracle: *const u8, oracle_size: usize, s: u32, t: u32, work: *mut u32, words: usize) -> Answer;
         pub fn jukesogbi_opened_far(oracle: *const u8, oracle_size: usize, s: u32, t: u32, work: *const u32, words: usize) -> Answer;

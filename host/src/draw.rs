@@ -1,107 +1,175 @@
 //! A picture of an oracle: nodes, edges (closed ones dashed), grid lines, transit nodes, and a way if asked.
 
-use crate::files;
-use std::fmt::Write;
+mod frame;
+mod labels;
+mod legend;
+mod shape;
+mod signs;
 
-/// The picture's width and height, with the margin around the map.
-const SIDE: f64 = 1600.0;
-const MARGIN: f64 = 60.0;
+use crate::files::{self, Network};
+use frame::{Frame, MARGIN};
+use labels::Room;
+use shape::{Area, Point, Short};
+use signs::{Sizes, END, END_HALF, INK, START, START_RADIUS};
+use std::collections::{BTreeMap, BTreeSet};
 
-/// Where the grid begins, and its spread (document 01, "Cells and the places chosen").
-struct Ground {
-    left: i64,
-    bottom: i64,
-    spread: i64,
+/// With so many nodes or fewer each has its number beside it.
+const MOST_NUMBERED: usize = 150;
+const NUMBER_SIZE: f64 = 14.0;
+const END_NUMBER_SIZE: f64 = 20.0;
+
+/// What is drawn.
+struct Drawing<'a> {
+    net: Network,
+    g: u32,
+    transit: Vec<u16>,
+    /// Edges side by side are one line. Pairs of ends with an open edge, and the least seconds; pairs with a closed one.
+    open: BTreeMap<(u16, u16), u32>,
+    closed: BTreeSet<(u16, u16)>,
+    asked: Option<(u32, u32)>,
+    way: &'a [u16],
+    frame: Frame,
+    sizes: Sizes,
 }
 
-impl Ground {
-    fn over(nodes: &[(i32, i32)]) -> Ground {
-        let xs = nodes.iter().map(|n| n.0 as i64);
-        let ys = nodes.iter().map(|n| n.1 as i64);
-        let (left, right) = (xs.clone().min().unwrap_or(0), xs.max().unwrap_or(0));
-        let (bottom, top) = (ys.clone().min().unwrap_or(0), ys.max().unwrap_or(0));
-        Ground { left, bottom, spread: (right - left).max(top - bottom) }
-    }
-
-    fn scale(&self) -> f64 {
-        (SIDE - 2.0 * MARGIN) / (self.spread + 1) as f64
-    }
-
-    /// North is up.
-    fn at(&self, x: f64, y: f64) -> (f64, f64) {
-        (MARGIN + (x - self.left as f64) * self.scale(), SIDE - MARGIN - (y - self.bottom as f64) * self.scale())
-    }
+/// The picture of an oracle that the core has accepted. `asked` is the start and the end of a way, which are nodes of it, and `way` is the core's answer.
+pub fn svg(oracle: &[u8], asked: Option<(u32, u32)>, way: &[u16]) -> String {
+    let drawing = Drawing::of(oracle, asked, way);
+    let map = drawing.frame.map;
+    let (legend, bottom) = legend::beneath(&map, &drawing.legend());
+    let (width, height) = (Short(map.right + MARGIN), Short(bottom + MARGIN));
+    let edge = format!("x=\"{}\" y=\"{}\" width=\"{}\" height=\"{}\"", Short(map.left), Short(map.top), Short(map.width()), Short(map.height()));
+    [
+        format!("<svg xmlns=\"http://www.w3.org/2000/svg\" viewBox=\"0 0 {width} {height}\" font-family=\"DejaVu Sans, Arial, sans-serif\">"),
+        format!("<rect width=\"{width}\" height=\"{height}\" fill=\"#f6f6f2\"/>"),
+        format!("<rect class=\"map\" {edge} fill=\"#fff\" stroke=\"#b9bec6\"/>"),
+        drawing.ground(),
+        drawing.numbers(),
+        legend,
+        drawing.marks(),
+        "</svg>\n".to_string(),
+    ]
+    .join("\n")
 }
 
-/// `way` is the nodes of a way, perhaps none. The oracle is one that the core has accepted.
-pub fn svg(oracle: &[u8], way: &[u16]) -> String {
-    let net = files::network(oracle);
-    let g = files::grid_number(oracle).max(1);
-    let transit = files::transit_nodes(oracle);
-    let ground = Ground::over(&net.nodes);
-    let n = net.nodes.len().max(1);
-    // Dots and lines grow thinner with the number of nodes, within what can be seen.
-    let dot = (260.0 / (n as f64).sqrt() / 4.0).clamp(2.2, 9.0);
-    let line = (dot / 3.0).clamp(0.9, 2.4);
-    let place = |v: u16| {
-        let (x, y) = net.nodes[v as usize];
-        ground.at(x as f64, y as f64)
-    };
-    let mut s = String::new();
-    let _ = writeln!(s, r##"<svg xmlns="http://www.w3.org/2000/svg" viewBox="0 0 {SIDE} {SIDE}" font-family="sans-serif">"##);
-    let _ = writeln!(s, r##"<rect width="{SIDE}" height="{SIDE}" fill="#fcfcf8"/>"##);
-    grid_lines(&mut s, &ground, g);
-    let _ = writeln!(s, r##"<g stroke="#8a8f98" stroke-width="{line:.2}" stroke-linecap="round">"##);
-    for (i, e) in net.edges.iter().enumerate() {
-        let ((a, b), (c, d)) = (place(e.first), place(e.second));
-        let closed = net.closed.binary_search(&(i as u16)).is_ok();
-        let style = if closed { format!(r##" stroke="#c0392b" stroke-dasharray="{:.1} {:.1}""##, line * 3.0, line * 3.0) } else { String::new() };
-        let _ = writeln!(s, r##"<line x1="{a:.1}" y1="{b:.1}" x2="{c:.1}" y2="{d:.1}"{style}/>"##);
+impl<'a> Drawing<'a> {
+    fn of(oracle: &[u8], asked: Option<(u32, u32)>, way: &'a [u16]) -> Drawing<'a> {
+        let net = files::network(oracle);
+        let (mut open, mut closed) = (BTreeMap::new(), BTreeSet::new());
+        for (i, e) in net.edges.iter().enumerate() {
+            let ends = (e.first.min(e.second), e.first.max(e.second));
+            if net.closed.binary_search(&(i as u16)).is_ok() {
+                closed.insert(ends);
+            } else {
+                open.entry(ends).and_modify(|s: &mut u32| *s = e.seconds.min(*s)).or_insert(e.seconds);
+            }
+        }
+        let (frame, sizes) = (Frame::over(&net.nodes), Sizes::of(net.nodes.len(), net.edges.len()));
+        Drawing { g: files::grid_number(oracle), transit: files::transit_nodes(oracle), net, open, closed, asked, way, frame, sizes }
     }
-    s.push_str("</g>\n");
-    way_line(&mut s, way.iter().map(|&v| place(v)).collect(), line);
-    dots(&mut s, &net.nodes, &transit, way, &ground, dot);
-    legend(&mut s, n, net.edges.len(), net.closed.len(), transit.len(), g, way.len());
-    s.push_str("</svg>\n");
-    s
-}
 
-fn grid_lines(s: &mut String, ground: &Ground, g: u32) {
-    let _ = writeln!(s, r##"<g stroke="#c9d6e6" stroke-width="1">"##);
-    for k in 0..=g {
-        // The least coordinate whose column is k.
-        let from = (k as f64 * (ground.spread + 1) as f64 / g as f64).ceil();
-        let (x, y) = ground.at(ground.left as f64 + from, ground.bottom as f64 + from);
-        let _ = writeln!(s, r##"<line x1="{x:.1}" y1="{MARGIN}" x2="{x:.1}" y2="{:.1}"/><line x1="{MARGIN}" y1="{y:.1}" x2="{:.1}" y2="{y:.1}"/>"##, SIDE - MARGIN, SIDE - MARGIN);
+    fn at(&self, v: u16) -> Point {
+        let (x, y) = self.net.nodes[v as usize];
+        self.frame.at(x as f64, y as f64)
     }
-    s.push_str("</g>\n");
-}
 
-fn way_line(s: &mut String, points: Vec<(f64, f64)>, line: f64) {
-    if points.len() > 1 {
-        let path: Vec<String> = points.iter().map(|(x, y)| format!("{x:.1},{y:.1}")).collect();
-        let _ = writeln!(s, r##"<polyline points="{}" fill="none" stroke="#1f6fd6" stroke-width="{:.2}" stroke-linejoin="round" stroke-linecap="round" opacity="0.85"/>"##, path.join(" "), line * 3.0 + 1.5);
+    fn line(&self, ends: &(u16, u16)) -> (Point, Point) {
+        (self.at(ends.0), self.at(ends.1))
     }
-}
 
-fn dots(s: &mut String, nodes: &[(i32, i32)], transit: &[u16], way: &[u16], ground: &Ground, dot: f64) {
-    for (v, &(x, y)) in nodes.iter().enumerate() {
-        let (cx, cy) = ground.at(x as f64, y as f64);
-        let is_transit = transit.binary_search(&(v as u16)).is_ok();
-        let (r, fill) = if is_transit { (dot * 1.3, "#e08a00") } else { (dot * 0.8, "#30343b") };
-        let _ = writeln!(s, r##"<circle cx="{cx:.1}" cy="{cy:.1}" r="{r:.2}" fill="{fill}"/>"##);
-        // Numbers where there is room for them, and at the ends of a way.
-        let end = way.first() == Some(&(v as u16)) || way.last() == Some(&(v as u16));
-        if nodes.len() <= 120 || end {
-            let _ = writeln!(s, r##"<text x="{:.1}" y="{:.1}" font-size="{}" fill="#22262c">{v}</text>"##, cx + dot + 2.0, cy - dot, if end { 20 } else { 14 });
+    /// The nodes that are transit nodes, or those that are not.
+    fn points(&self, transit: bool) -> impl Iterator<Item = Point> + '_ {
+        let nodes = 0..self.net.nodes.len() as u16;
+        nodes.filter(move |v| self.transit.binary_search(v).is_ok() == transit).map(|v| self.at(v))
+    }
+
+    /// Half the side of what is drawn at a node, marks left aside.
+    fn half(&self, v: u16) -> f64 {
+        if self.transit.binary_search(&v).is_ok() { self.sizes.transit } else { self.sizes.node }
+    }
+
+    /// Closed roads lie over open ones, so that both show where they join the same nodes.
+    fn ground(&self) -> String {
+        let mut layers = vec![
+            signs::grid(self.frame.grid_lines(self.g)),
+            signs::open_roads(&self.sizes, self.open.keys().map(|ends| self.line(ends))),
+            signs::closed_roads(&self.sizes, self.closed.iter().map(|ends| self.line(ends))),
+        ];
+        if self.way.len() > 1 {
+            layers.push(signs::way(&self.way.iter().map(|&v| self.at(v)).collect::<Vec<_>>()));
+        }
+        layers.push(signs::nodes(&self.sizes, self.points(false)));
+        layers.push(signs::transit_nodes(&self.sizes, self.points(true)));
+        layers.join("\n")
+    }
+
+    /// The start and the end, with half the sides of their marks and their colours; one of them where they are one node.
+    fn ends(&self) -> Vec<(u16, f64, &'static str)> {
+        let (start, end) = (|s| (s as u16, START_RADIUS, START), |t| (t as u16, END_HALF, END));
+        match self.asked {
+            Some((s, t)) if s != t => vec![start(s), end(t)],
+            Some((_, t)) => vec![end(t)],
+            None => Vec::new(),
         }
     }
-}
 
-fn legend(s: &mut String, n: usize, edges: usize, closed: usize, transit: usize, g: u32, way: usize) {
-    let mut text = format!("{n} places, {edges} roads ({closed} closed, dashed), grid {g} x {g}, {transit} transit places (orange)");
-    if way > 0 {
-        let _ = write!(text, ", way of {way} places (blue)");
+    /// The room for numbers, with the nodes, the marks and the roads in it.
+    fn room(&self) -> Room {
+        let dot = |v: u16| Area::about(self.at(v), self.half(v), self.half(v));
+        let marks = self.ends().into_iter().map(|(v, half, _)| Area::about(self.at(v), half, half));
+        Room {
+            map: self.frame.map,
+            roads: self.open.keys().chain(&self.closed).map(|ends| self.line(ends)).collect(),
+            taken: (0..self.net.nodes.len() as u16).map(dot).chain(marks).collect(),
+        }
     }
-    let _ = writeln!(s, r##"<text x="{MARGIN}" y="36" font-size="22" fill="#22262c">{text}</text>"##);
+
+    /// Numbers beside the start and the end, and beside the other nodes if they are few. The legend has the former in any case.
+    fn numbers(&self) -> String {
+        let (mut room, ends) = (self.room(), self.ends());
+        let mut s = String::from("<g class=\"numbers\" text-anchor=\"middle\">");
+        let mut number = |v: u16, half: f64, size: f64, style: &str| {
+            let text = v.to_string();
+            s.extend(room.place(&text, size, self.at(v), half).map(|foot| signs::text(foot, size, style, &text)));
+        };
+        for &(v, half, colour) in &ends {
+            number(v, half, END_NUMBER_SIZE, &format!("fill=\"{colour}\" font-weight=\"bold\""));
+        }
+        if self.net.nodes.len() <= MOST_NUMBERED {
+            for v in (0..self.net.nodes.len() as u16).filter(|v| ends.iter().all(|end| end.0 != *v)) {
+                number(v, self.half(v), NUMBER_SIZE, &format!("fill=\"{INK}\""));
+            }
+        }
+        s + "</g>"
+    }
+
+    /// Over all else.
+    fn marks(&self) -> String {
+        self.asked.map_or(String::new(), |(s, t)| signs::end(self.at(t as u16)) + &signs::start(self.at(s as u16)))
+    }
+
+    /// The seconds of the way: between two nodes it takes the quickest of the open edges.
+    fn total(&self) -> u64 {
+        let steps = self.way.windows(2).map(|w| self.open[&(w[0].min(w[1]), w[0].max(w[1]))]);
+        steps.map(u64::from).sum()
+    }
+
+    fn legend(&self) -> Vec<Vec<legend::Item>> {
+        let ground = vec![
+            legend::nodes(&self.sizes, self.net.nodes.len()),
+            legend::transit_nodes(&self.sizes, self.transit.len()),
+            legend::open_roads(&self.sizes, self.net.edges.len() - self.net.closed.len()),
+            legend::closed_roads(&self.sizes, self.net.closed.len()),
+            legend::grid(self.g),
+            legend::scale(self.frame.scale),
+        ];
+        let Some((s, t)) = self.asked else { return vec![ground] };
+        let mut asked = vec![legend::start(s), legend::end(t)];
+        if self.way.is_empty() {
+            asked.push(legend::no_way());
+        } else {
+            asked.extend(legend::way(self.way.len(), self.total()));
+        }
+        vec![ground, asked]
+    }
 }

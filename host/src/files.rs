@@ -62,12 +62,45 @@ pub fn read32(b: &[u8], at: usize) -> u32 {
 
 /// Body k, from 0, where the contents show one inside the file.
 pub fn body(f: &[u8], k: usize) -> Option<&[u8]> {
-    let at = entry_at(k);
-    if f.len() < HEAD_SIZE || k >= f[1] as usize || f.len() < at + ENTRY_SIZE {
+    if f.len() < HEAD_SIZE || k >= f[1] as usize || f.len() < entry_at(k + 1) {
         return None;
     }
-    let (offset, size) = (read32(f, at + 1) as usize, read32(f, at + 5) as usize);
+    let (offset, size) = entry(f, k);
     f.get(offset..offset.checked_add(size)?)
+}
+
+/// Where entry k of the contents says that its body begins, and how many bytes that has. The contents are complete.
+pub fn entry(f: &[u8], k: usize) -> (usize, usize) {
+    (read32(f, entry_at(k) + 1) as usize, read32(f, entry_at(k) + 5) as usize)
+}
+
+/// The two kinds of files.
+#[derive(Clone, Copy, Debug, PartialEq, Eq)]
+pub enum Kind {
+    Network,
+    Oracle,
+}
+
+impl Kind {
+    pub fn edition(self) -> u8 {
+        match self {
+            Kind::Network => NETWORK_EDITION,
+            Kind::Oracle => ORACLE_EDITION,
+        }
+    }
+
+    pub fn bodies(self) -> usize {
+        match self {
+            Kind::Network => NETWORK_BODIES,
+            Kind::Oracle => ORACLE_BODIES,
+        }
+    }
+}
+
+/// Whether a file begins as one of this kind does. It may be damaged otherwise.
+pub fn looks_like(f: &[u8], kind: Kind) -> bool {
+    let bodies = kind.bodies();
+    f.len() >= entry_at(bodies) && f[0] == kind.edition() && f[1] as usize == bodies && (0..bodies).all(|k| f[entry_at(k)] as usize == k + 1)
 }
 
 /// The number of nodes that a file shows, as far as it can be read; at most as many as a network may have.
@@ -83,8 +116,7 @@ pub fn words_needed(f: &[u8]) -> usize {
 /// Bytes enough for the oracle of this network, whatever its grid: all nodes are access nodes of each cell at the most.
 pub fn most_room(f: &[u8]) -> usize {
     let n = node_count(f);
-    let lists = n * (START_SIZE + COUNT_SIZE + LIST_ENTRY_SIZE * n);
-    entry_at(ORACLE_BODIES) + f.len() + GRID_SIZE + NUMBER_SIZE * n + lists + VALUE_SIZE * n * n
+    entry_at(ORACLE_BODIES) + f.len() + GRID_SIZE + NUMBER_SIZE * n + most_access(n, n) + VALUE_SIZE * n * n
 }
 
 /// The network in a file that the core has accepted.

@@ -42,6 +42,27 @@ pub const MAX_VALUE: u32 = (MAX_NODES as u32 - 1) * MAX_SECONDS;
 /// Working words for each node.
 pub const WORDS: usize = 8;
 
+/// The most bytes of an access body for n nodes, t of them transit nodes: each list has all of these.
+pub const fn most_access(n: usize, t: usize) -> usize {
+    n * (START_SIZE + COUNT_SIZE + LIST_ENTRY_SIZE * t)
+}
+
+/// The most bytes that each body can have in a file that is accepted. Closed edges and transit nodes rise, so each is named once.
+pub const MOST: [usize; ORACLE_BODIES] = [
+    NODE_SIZE * MAX_NODES,
+    EDGE_SIZE * MAX_EDGES,
+    NUMBER_SIZE * MAX_EDGES,
+    GRID_SIZE,
+    NUMBER_SIZE * MAX_NODES,
+    most_access(MAX_NODES, MAX_NODES),
+    VALUE_SIZE * MAX_NODES * MAX_NODES,
+];
+
+/// The most bytes of a file with so many bodies.
+pub fn most_size(bodies: usize) -> usize {
+    entry_at(bodies) + MOST[..bodies].iter().sum::<usize>()
+}
+
 /// Where entry k stands, and so, with k the number of entries, where the first body begins.
 pub const fn entry_at(k: usize) -> usize {
     HEAD_SIZE + ENTRY_SIZE * k

@@ -5,6 +5,8 @@ pub mod draw;
 pub mod files;
 pub mod form;
 pub mod listing;
+pub mod memory;
 pub mod oracle;
 pub mod plain;
+pub mod reading;
 pub mod sample;

@@ -1,9 +1,12 @@
-//! The text of the listing program, for an oracle of any size.
+//! The text of the listing program.
 
 use crate::core::{self, Refused};
 use crate::files;
 use crate::oracle::Oracle;
 use std::io::{self, Write};
+
+/// As many bytes of an oracle are read, the first, if it is longer (document 01, the listing program). `write` itself lists an oracle of any size.
+pub const READ: usize = 28_672;
 
 /// A time as text, `-` for none.
 pub fn seconds_text(seconds: Option<u32>) -> String {

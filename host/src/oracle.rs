@@ -16,7 +16,13 @@ impl<'a> Oracle<'a> {
     /// Checks the oracle, rules 1 to 11, and takes the working words that it needs.
     pub fn open(bytes: impl Into<Cow<'a, [u8]>>) -> Result<Oracle<'a>, Refused> {
         let bytes = bytes.into();
-        let mut work = vec![0; files::words_needed(&bytes)];
+        let work = vec![0; files::words_needed(&bytes)];
+        Oracle::open_in(bytes, work)
+    }
+
+    /// The same with these working words, which may be too few: rule 14.
+    pub fn open_in(bytes: impl Into<Cow<'a, [u8]>>, mut work: Vec<u32>) -> Result<Oracle<'a>, Refused> {
+        let bytes = bytes.into();
         // The pointers and lengths are those of slices that live through the call; the core writes to `work` alone, within its length.
         match unsafe { raw::jukesogbi_open(bytes.as_ptr(), bytes.len(), work.as_mut_ptr(), work.len()) } {
             0 => Ok(Oracle { bytes, work }),

@@ -1,103 +1,10 @@
-//! The program `jukesogbi` by subprocess: each command's output, `refused N` with exit 1, and wrong use with exit 2.
+//! The program `jukesogbi` by subprocess: each command's output, and `refused N` with exit 1.
 
 mod common;
 
 use common::networks::{self, Plan};
+use common::program::{oracle, Folder};
 use common::reference;
-use std::fs;
-use std::io::Write;
-use std::path::PathBuf;
-use std::process::{Command, Stdio};
-
-/// A folder of one test's own, in which its commands run.
-struct Folder(PathBuf);
-
-/// What a command did.
-struct Ran {
-    code: i32,
-    out: Vec<u8>,
-    err: String,
-}
-
-impl Ran {
-    fn text(&self) -> String {
-        String::from_utf8(self.out.clone()).expect("the output is text")
-    }
-
-    /// Exit 0 with this on standard output and nothing on the other.
-    fn says(&self, text: &str) {
-        assert_eq!((self.code, self.text().as_str(), self.err.as_str()), (0, text, ""));
-    }
-
-    /// Exit 1 with `refused N`, and on standard error what the rule says.
-    fn is_refused(&self, rule: u32) {
-        assert_eq!((self.code, self.text()), (1, format!("refused {rule}\n")), "{}", self.err);
-        assert!(self.err.starts_with(&format!("rule {rule}: ")), "{}", self.err);
-    }
-
-    /// Exit 2 with nothing on standard output, and this in what standard error says.
-    fn is_wrong(&self, part: &str) {
-        assert_eq!((self.code, self.text().as_str()), (2, ""), "{}", self.err);
-        assert!(self.err.starts_with("jukesogbi: ") && self.err.contains(part), "{} has no {part}", self.err);
-    }
-}
-
-impl Folder {
-    fn new(name: &str) -> Folder {
-        let path = PathBuf::from(env!("CARGO_TARGET_TMPDIR")).join(name);
-        let _ = fs::remove_dir_all(&path);
-        fs::create_dir_all(&path).unwrap();
-        Folder(path)
-    }
-
-    /// With the networks and oracles of Line, Fork, Fork with road 4 closed, and the two lines, as `line.net`, `line.oracle` and so on.
-    fn with_files(name: &str) -> Folder {
-        let folder = Folder::new(name);
-        for (name, plan) in
-            [("line", networks::line()), ("fork", networks::fork()), ("closed", networks::fork_closed()), ("two", networks::two_lines())]
-        {
-            folder.write(&format!("{name}.net"), &plan.bytes());
-            folder.write(&format!("{name}.oracle"), &oracle(&plan, 6));
-        }
-        folder
-    }
-
-    fn write(&self, name: &str, bytes: &[u8]) {
-        fs::write(self.0.join(name), bytes).unwrap();
-    }
-
-    fn read(&self, name: &str) -> Vec<u8> {
-        fs::read(self.0.join(name)).unwrap()
-    }
-
-    fn has(&self, name: &str) -> bool {
-        self.0.join(name).exists()
-    }
-
-    /// Runs the program with these arguments, parted by blanks; '' is an empty one.
-    fn run(&self, args: &str) -> Ran {
-        self.run_with(args, b"")
-    }
-
-    fn run_with(&self, args: &str, input: &[u8]) -> Ran {
-        let mut child = Command::new(env!("CARGO_BIN_EXE_jukesogbi"))
-            .args(args.split_whitespace().map(|a| if a == "''" { "" } else { a }))
-            .current_dir(&self.0)
-            .stdin(Stdio::piped())
-            .stdout(Stdio::piped())
-            .stderr(Stdio::piped())
-            .spawn()
-            .unwrap();
-        // A command that does not read its input may end before all of it is written.
-        let _ = child.stdin.take().unwrap().write_all(input);
-        let done = child.wait_with_output().unwrap();
-        Ran { code: done.status.code().expect("the program ends by itself"), out: done.stdout, err: String::from_utf8(done.stderr).unwrap() }
-    }
-}
-
-fn oracle(plan: &Plan, g: u32) -> Vec<u8> {
-    reference::Network::of(plan.bytes()).oracle(g).bytes.clone()
-}
 
 // ---- Building and the audit ----
 
@@ -209,7 +116,7 @@ fn way_of_one_pair() {
     f.run("way fork.oracle 0 4").says("0 1 3 4\n");
     f.run("way fork.oracle 4 0").says("4 3 1 0\n");
     f.run("way line.oracle 1 1").says("1\n");
-    f.run("way closed.oracle 0 4").says("\n");
+    f.run("way closed.oracle 0 4").does(0, "\n", "no way leads from 0 to 4\n");
     f.run_with("way - 0 4", &f.read("fork.oracle")).says("0 1 3 4\n");
     f.run("way fork.oracle 0 5").is_refused(12);
 }
@@ -260,40 +167,13 @@ fn block_refuses_by_number() {
 }
 
 #[test]
-fn pairs_from_standard_input() {
-    let f = Folder::with_files("pairs");
-    f.run_with("time fork.oracle", b"0 4\n0 3\n\n  4\t0  \n1 1").says("11 far 4\n10 local 0\n11 far 4\n0 local 0\n");
-    f.run_with("far fork.oracle", b"0 4\n4 0\n").says("11 far 4\n11 far 4\n");
-    f.run_with("way fork.oracle", b"0 4\n3 3\n").says("0 1 3 4\n3\n");
-    f.run_with("way closed.oracle", b"0 4\n0 1\n").says("\n0 1\n");
-    f.run_with("time fork.oracle", b"").says("");
-    // A refused pair has its own line, the others are still answered, and the exit tells.
-    let ran = f.run_with("far fork.oracle", b"0 4\n0 3\n0 5\n4 0\n");
-    assert_eq!((ran.code, ran.text().as_str()), (1, "11 far 4\nrefused 13\nrefused 12\n11 far 4\n"));
-    assert!(ran.err.contains("0 3: rule 13: ") && ran.err.contains("0 5: rule 12: "), "{}", ran.err);
-    let ran = f.run_with("time line.net", b"0 1\n1 2\n");
-    assert_eq!((ran.code, ran.text().as_str()), (1, "refused 1\nrefused 1\n"));
-    // The oracle is opened once; where the words lent do not suffice for that, each pair is refused as it is by itself.
-    let ran = f.run_with("time line.oracle --words 23", b"0 2\n0 3\n");
-    assert_eq!((ran.code, ran.text().as_str()), (1, "refused 14\nrefused 12\n"));
-    f.run_with("time line.oracle --words 24", b"0 2\n").says("16 far 1\n");
-    f.run_with("far line.oracle --words 0", b"0 2\n").says("16 far 1\n");
-    let ran = f.run_with("way line.oracle --room 5", b"0 1\n0 2\n1 2\n");
-    assert_eq!((ran.code, ran.text().as_str()), (1, "0 1\nrefused 15\n1 2\n"));
-    // What is no pair is wrong use.
-    for wrong in ["0", "0 1 2", "a b", "0 -1", "0 4294967296", "0;1"] {
-        f.run_with("time fork.oracle", wrong.as_bytes()).is_wrong("");
-    }
-    f.run_with("time -", &f.read("fork.oracle")).is_wrong("standard input");
-}
-
-#[test]
 fn listing_of_all_pairs() {
     let f = Folder::with_files("listing");
     f.run("listing line.oracle").says("places 3 transit 1\n0 1 7 local\n0 2 16 far\n1 2 9 local\n");
     f.run_with("listing -", &f.read("line.oracle")).says("places 3 transit 1\n0 1 7 local\n0 2 16 far\n1 2 9 local\n");
     f.run("listing closed.oracle").says(
-        "places 5 transit 0\n0 1 5 local\n0 2 5 local\n0 3 10 local\n0 4 - far\n1 2 10 local\n1 3 5 local\n1 4 - local\n2 3 5 local\n2 4 - local\n3 4 - local\n",
+        "places 5 transit 0\n0 1 5 local\n0 2 5 local\n0 3 10 local\n0 4 - far\n\
+        1 2 10 local\n1 3 5 local\n1 4 - local\n2 3 5 local\n2 4 - local\n3 4 - local\n",
     );
     let mut changed = f.read("line.oracle");
     changed[107] = 3;
@@ -319,12 +199,9 @@ fn words_and_room_that_are_lent() {
     f.run("way fork.oracle 0 4 --words 39").is_refused(14);
     f.run("way fork.oracle 0 4 --room 8").says("0 1 3 4\n");
     f.run("way fork.oracle 0 4 --room 7").is_refused(15);
-    f.run("way closed.oracle 0 4 --room 0").says("\n");
-    let ran = f.run_with("way fork.oracle --room 4", b"0 4\n0 1\n");
-    assert_eq!((ran.code, ran.text().as_str()), (1, "refused 15\n0 1\n"));
-    f.run("build line.net 6 new --words").is_wrong("--words");
-    f.run("build line.net 6 new --room many").is_wrong("--room");
-    f.run("--words -1 audit line.oracle").is_wrong("--words");
+    f.run("way closed.oracle 0 4 --room 0").does(0, "\n", "no way leads from 0 to 4\n");
+    f.run("way fork.oracle 0 4 --room=7").is_refused(15);
+    f.run("draw fork.oracle picture 0 4 --room 7").is_refused(15);
 }
 
 // ---- Samples, pictures and the rest ----
@@ -359,7 +236,7 @@ fn draw_makes_a_picture() {
     assert_ne!(f.read("way.svg"), plain.as_bytes(), "the way is not in the picture");
     let ran = f.run("draw fork.oracle - 0 4");
     assert_eq!((ran.code, ran.out, ran.err.as_str()), (0, f.read("way.svg"), "drawn 5 places\n"));
-    f.run("draw closed.oracle none.svg 0 4").says("drawn 5 places\n");
+    f.run("draw closed.oracle none.svg 0 4").does(0, "drawn 5 places\n", "no way leads from 0 to 4\n");
     f.run("draw fork.oracle other.svg 0 5").is_refused(12);
     f.run("draw fork.net other.svg").is_refused(1);
     f.run("draw fork.oracle other.svg 0 4 --words 39").is_refused(14);
@@ -376,87 +253,4 @@ fn demo_runs_through() {
         assert!(ran.text().contains(part), "{} has no {part}", ran.text());
     }
     assert!(f.has("demo.svg"));
-}
-
-/// No size is as small as this, so that only the heads of the tables are printed.
-#[test]
-fn bench_prints_two_tables() {
-    let rule = "|---|---|---|---|---|";
-    Folder::new("bench").run("bench 1").says(&format!(
-        "| what | core | plain | unit | core's time / plain's |\n{rule}\n\n| what | block | single answers | unit | block's time / single answers' |\n{rule}\n"
-    ));
-}
-
-/// One size under one grid: the questions are asked on its oracle, under which something is far, or nothing.
-#[test]
-fn bench_of_one_size_and_grid() {
-    let f = Folder::new("bench_one");
-    for (args, far) in [("30 16", 1), ("30 1", 0)] {
-        let ran = f.run(&format!("bench {args}"));
-        assert_eq!((ran.code, ran.err.as_str()), (0, ""));
-        let named = format!(", N {} |", args.replace(' ', ", g "));
-        let rows = |what: &str| ran.text().lines().filter(|l| l.starts_with(&format!("| {what}")) && l.contains(&named)).count();
-        assert_eq!(["build", "check an oracle", "far answers", "local answers", "ways", "block of 144"].map(rows), [1, 1, far, 1, 1, 2], "{}", ran.text());
-    }
-    for wrong in ["bench 0 16", "bench 4097 16"] {
-        f.run(wrong).is_wrong("1 to 4096");
-    }
-    for wrong in ["bench 30 0", "bench 30 65"] {
-        f.run(wrong).is_wrong("1 to 64");
-    }
-}
-
-#[test]
-fn help_prints_the_usage() {
-    let f = Folder::new("help");
-    for word in ["help", "--help", "-h"] {
-        let ran = f.run(word);
-        assert_eq!((ran.code, ran.err.as_str()), (0, ""));
-        assert!(ran.text().starts_with("usage: jukesogbi COMMAND"));
-        for command in ["build", "audit", "time", "far", "list", "way", "block", "listing", "sample", "draw", "demo", "bench"] {
-            assert!(ran.text().contains(&format!("\n  {command} ")), "the usage has no {command}");
-        }
-    }
-}
-
-#[test]
-fn wrong_use() {
-    let f = Folder::with_files("wrong");
-    f.run("").is_wrong("usage: ");
-    f.run("fly").is_wrong("wrong use of `fly`");
-    for wrong in [
-        "build", "build line.net 6", "build line.net 6 new more", "audit", "audit line.oracle more", "time", "time line.oracle 0", "time line.oracle 0 1 2",
-        "far", "far line.oracle 0", "list line.oracle", "list line.oracle 0 1", "way", "way line.oracle 1", "listing", "listing line.oracle more",
-        "block", "block line.oracle", "block line.oracle 0", "block line.oracle 0 1 2",
-        "sample 5 1", "draw line.oracle", "draw line.oracle p.svg 0", "demo more", "bench 1 2 3", "help more",
-    ] {
-        let command = wrong.split(' ').next().unwrap();
-        f.run(wrong).is_wrong(&format!("wrong use of `{command}`"));
-    }
-    for wrong in [
-        "build line.net six new", "build line.net -6 new", "build line.net 4294967296 new", "time line.oracle a 0", "time line.oracle 0 1.5", "far line.oracle 0 x",
-        "list line.oracle u", "way line.oracle 0 -1", "block line.oracle a 0", "block line.oracle 0 1,b", "block line.oracle 0,,1 0", "block line.oracle 0 1,",
-        "block line.oracle , 0", "block line.oracle 0;1 2", "block line.oracle 0 4294967296", "sample n 1 net", "sample 5 s net", "draw line.oracle p.svg 0 t",
-        "bench many", "bench 1 many",
-    ] {
-        f.run(wrong).is_wrong("is no number from 0 to 4294967295");
-    }
-    assert!(!f.has("new") && !f.has("net") && !f.has("p.svg"));
-}
-
-#[test]
-fn files_that_cannot_be_read_or_written() {
-    let f = Folder::with_files("files");
-    for command in [
-        "build none 6 new", "audit none", "time none 0 1", "time none", "far none 0 1", "list none 0", "way none 0 1", "block none 0 1", "listing none",
-        "draw none p.svg",
-    ] {
-        f.run(command).is_wrong("cannot read none: ");
-    }
-    // The folder itself is no file.
-    f.run("audit .").is_wrong("cannot read .: ");
-    f.run("build line.net 6 no/such/folder").is_wrong("cannot write no/such/folder: ");
-    f.run("sample 3 1 no/such/folder").is_wrong("cannot write no/such/folder: ");
-    f.run("draw line.oracle no/such/folder").is_wrong("cannot write no/such/folder: ");
-    assert!(!f.has("new") && !f.has("p.svg"));
 }

@@ -28,12 +28,6 @@ fn the_c_example_runs() {
         times from 1 to 2, 1, 0: 9 0 7\n\
         list of 0: 8 bytes from 121 on\n\
         too few words: rule 14\n\
-        open: rule 0\n\
-        times from 0: 0 7 16\n\
-        times from 1: 7 0 9\n\
-        times from 2: 16 9 0\n\
-        way 2 to 0: 3 places, first 2, last 0\n\
-        time 1 to 2 in a block: 9\n\
         far 2 to 0: 16 seconds; 0 to 1: rule 13\n";
     assert_eq!(String::from_utf8_lossy(&run.stdout), text);
 }

@@ -5,7 +5,9 @@
 #![allow(dead_code)]
 
 pub mod networks;
+pub mod program;
 pub mod reference;
+pub mod terminal;
 
 use jukesogbi::core::raw;
 use reference::{bytes_16, Answer, Built, Map, Outcome, Part, Times, SIDE, WORDS};

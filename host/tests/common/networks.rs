@@ -71,6 +71,23 @@ pub fn two_lines() -> Plan {
     }
 }
 
+// ---- The most places ----
+
+/// One place in each cell of a grid of 64, in chains whose neighbours are far from each other: an oracle of 50 megabytes that is built in a moment.
+pub fn chains() -> Plan {
+    Plan {
+        places: (0..4096).map(|i| (100 * (i % 64), 100 * (i / 64))).collect(),
+        roads: (0..4096 - 512).map(|i| (i, i + 512, 5)).collect(),
+        closed: vec![],
+    }
+}
+
+/// The same places and about as many roads as there can be, in no order: building this takes long.
+pub fn dense() -> Plan {
+    let road = |i: u32| ((i * 7919 % 4095) as u16, 4095 - (i * 31 % 2000) as u16, 1 + i);
+    Plan { roads: (0..16_384).map(road).filter(|road| road.0 != road.1).collect(), ..chains() }
+}
+
 // ---- Random networks ----
 
 pub fn pick<T: Copy>(random: &mut Random, from: &[T]) -> T {

@@ -1,0 +1,71 @@
+//! The files that commands are given.
+
+use crate::stop::{fault, Stop};
+use jukesogbi::core::Refused;
+use jukesogbi::files::{looks_like, Kind};
+use jukesogbi::reading;
+use std::ffi::OsStr;
+use std::fs::File;
+use std::io::{self, Read};
+use std::ops::Deref;
+
+/// A file, as far as the core's verdict depends on it (see `reading`), and what the command wants it to be.
+pub struct Input {
+    bytes: Vec<u8>,
+    kind: Kind,
+}
+
+impl Deref for Input {
+    type Target = [u8];
+
+    fn deref(&self) -> &[u8] {
+        &self.bytes
+    }
+}
+
+/// Hands the file of this name, and its size where it is known, to a function that reads.
+fn read<T>(name: &OsStr, get: impl FnOnce(&mut dyn Read, Option<u64>) -> io::Result<T>) -> Result<T, Stop> {
+    let got = if name == "-" {
+        get(&mut io::stdin().lock(), None)
+    } else {
+        File::open(name).and_then(|mut file| {
+            let size = file.metadata().ok().filter(|m| m.is_file()).map(|m| m.len());
+            get(&mut file, size)
+        })
+    };
+    let shown = if name == "-" { OsStr::new("standard input") } else { name };
+    got.or_else(|e| fault(format!("cannot read {}: {e}", shown.display())))
+}
+
+impl Input {
+    pub fn read(name: &OsStr, kind: Kind) -> Result<Input, Stop> {
+        let bytes = read(name, |mut from, size| reading::file(&mut from, kind, size))?;
+        Ok(Input { bytes, kind })
+    }
+
+    /// The first bytes of an oracle, and whether there are more.
+    pub fn first(name: &OsStr, most: usize) -> Result<(Input, bool), Stop> {
+        let mut bytes = read(name, |mut from, _| reading::up_to(&mut from, most + 1))?;
+        let more = bytes.len() > most;
+        bytes.truncate(most);
+        Ok((Input { bytes, kind: Kind::Oracle }, more))
+    }
+
+    /// What the core said of this file, and beside a refusal a word on what it looks like.
+    pub fn judged<T>(&self, verdict: Result<T, Refused>) -> Result<T, Stop> {
+        verdict.map_err(|refused| Stop::Refused(refused, self.note()))
+    }
+
+    /// A word where it is the other kind of file.
+    pub fn note(&self) -> Option<&'static str> {
+        match self.kind {
+            Kind::Oracle if looks_like(self, Kind::Network) => {
+                Some("this looks like a network: `jukesogbi build` makes an oracle of it")
+            }
+            Kind::Network if looks_like(self, Kind::Oracle) => {
+                Some("this looks like an oracle: building wants the network that it is of")
+            }
+            _ => None,
+        }
+    }
+}

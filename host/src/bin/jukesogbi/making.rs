@@ -1,0 +1,47 @@
+//! The commands that make files: oracles, samples, pictures.
+
+use crate::args::Call;
+use crate::output::complain;
+use crate::progress::Clock;
+use crate::questions::{no_way, way_nodes};
+use crate::stop::{slip, Done, Stop};
+use jukesogbi::form::MAX_NODES;
+use jukesogbi::{core, draw, files, sample};
+
+pub fn build(call: &mut Call) -> Done {
+    let g = call.number(1)?;
+    let network = call.network(0)?;
+    let mut work = call.lend.words(&network)?;
+    let mut out = call.lend.room(files::most_room(&network))?;
+    let clock = Clock::start("building");
+    let verdict = core::build(&network, g, &mut work, &mut out);
+    drop(clock);
+    let built = network.judged(verdict)?;
+    call.deliver(2, &out[..built.size], &format!("built {} bytes, {} transit", built.size, built.transit))
+}
+
+/// A sample has as many places as a network may have.
+pub fn sample_size(n: u32) -> Result<usize, Stop> {
+    if (1..=MAX_NODES as u32).contains(&n) { Ok(n as usize) } else { slip(format!("a network has 1 to {MAX_NODES} places")) }
+}
+
+pub fn write_sample(call: &mut Call) -> Done {
+    let (n, seed) = (sample_size(call.number(0)?)?, call.number(1)?);
+    let net = sample::network(n, seed as u64);
+    let report = format!("sample of {} places, {} roads, {} closed", net.nodes.len(), net.edges.len(), net.closed.len());
+    call.deliver(2, &net.to_bytes(), &report)
+}
+
+pub fn draw(call: &mut Call) -> Done {
+    let pair = call.pair_if(2)?;
+    let o = call.oracle(0)?;
+    let way = match pair {
+        Some((s, t)) => way_nodes(call, &o, s, t)?,
+        // The list of node 0 is refused for rules 1 to 11 alone.
+        None => o.judged(core::list(&o, 0)).map(|_| Vec::new())?,
+    };
+    if let (Some((s, t)), []) = (pair, &way[..]) {
+        complain(no_way(s, t));
+    }
+    call.deliver(1, draw::svg(&o, pair, &way).as_bytes(), &format!("drawn {} places", files::node_count(&o)))
+}

@@ -1,0 +1,108 @@
+//! The questions over an oracle, each by one call of the core that checks it.
+
+use crate::answerer::{self, Reply};
+use crate::args::Call;
+use crate::input::Input;
+use crate::output::complain;
+use crate::progress::Clock;
+use crate::stop::{Done, Stop};
+use jukesogbi::form::NUMBER_SIZE;
+use jukesogbi::{core, files, listing};
+
+pub fn audit(call: &mut Call) -> Done {
+    let o = call.oracle(0)?;
+    let mut work = call.lend.words(&o)?;
+    let clock = Clock::start("auditing");
+    let verdict = core::audit(&o, &mut work);
+    drop(clock);
+    o.judged(verdict)?;
+    call.out.line("accepted")
+}
+
+pub fn time(call: &mut Call) -> Done {
+    let Some((s, t)) = call.pair_if(1)? else { return answerer::times(call) };
+    let o = call.oracle(0)?;
+    let mut work = call.lend.words(&o)?;
+    let answer = o.judged(core::time(&o, s, t, &mut work))?;
+    call.out.line(answer_line(&answer))
+}
+
+pub fn far(call: &mut Call) -> Done {
+    let Some((s, t)) = call.pair_if(1)? else { return answerer::fars(call) };
+    let o = call.oracle(0)?;
+    let answer = o.judged(core::far(&o, s, t))?;
+    call.out.line(answer_line(&answer))
+}
+
+pub fn way(call: &mut Call) -> Done {
+    let Some((s, t)) = call.pair_if(1)? else { return answerer::ways(call) };
+    let o = call.oracle(0)?;
+    let reply = way_reply(&way_nodes(call, &o, s, t)?, s, t);
+    reply.note.into_iter().for_each(complain);
+    call.out.line(reply.line)
+}
+
+/// The nodes of the way, none where there is none.
+pub fn way_nodes(call: &Call, o: &Input, s: u32, t: u32) -> Result<Vec<u16>, Stop> {
+    let (mut work, mut out) = (call.lend.words(o)?, call.lend.room(way_size(o))?);
+    let nodes = o.judged(core::way(o, s, t, &mut work, &mut out))?;
+    Ok(files::numbers(&out[..NUMBER_SIZE * nodes]))
+}
+
+/// Bytes enough for a way, which has no node twice.
+pub fn way_size(o: &[u8]) -> usize {
+    NUMBER_SIZE * files::node_count(o)
+}
+
+/// Seconds or `-`, the kind, and the pairs tried.
+pub fn answer_line(a: &core::Answer) -> String {
+    format!("{} {}", listing::answer_text(a), a.pairs)
+}
+
+pub fn way_reply(nodes: &[u16], s: u32, t: u32) -> Reply {
+    Reply { line: nodes_text(nodes), note: nodes.is_empty().then(|| no_way(s, t)) }
+}
+
+pub fn nodes_text(nodes: &[u16]) -> String {
+    nodes.iter().map(u16::to_string).collect::<Vec<_>>().join(" ")
+}
+
+pub fn no_way(s: u32, t: u32) -> String {
+    format!("no way leads from {s} to {t}")
+}
+
+/// A line for each entry.
+pub fn list(call: &mut Call) -> Done {
+    let u = call.number(1)?;
+    let o = call.oracle(0)?;
+    for (index, value) in files::list_entries(o.judged(core::list(&o, u))?) {
+        call.out.line(format_args!("{index} {}", listing::seconds_text(core::seconds(value))))?;
+    }
+    Ok(())
+}
+
+/// A line for each start, with a time for each end.
+pub fn block(call: &mut Call) -> Done {
+    let (starts, ends) = (call.numbers(1)?, call.numbers(2)?);
+    let o = call.oracle(0)?;
+    let mut work = call.lend.words(&o)?;
+    let block = o.judged(core::block(&o, &starts, &ends, &mut work))?;
+    for i in 0..starts.len() {
+        let times: Vec<String> = (0..ends.len()).map(|j| listing::seconds_text(block.seconds(i, j))).collect();
+        call.out.line(times.join(" "))?;
+    }
+    Ok(())
+}
+
+/// What document 01's listing program prints.
+pub fn list_all(call: &mut Call) -> Done {
+    let (o, more) = Input::first(&call.words[0], listing::READ)?;
+    let Err(refused) = call.out.lines(|mut out| listing::write(&o, &mut out))? else { return Ok(()) };
+    complain(refused);
+    o.note().into_iter().for_each(complain);
+    if more {
+        complain(format_args!("a listing reads {} bytes and no more, and this file is longer: `time` answers from all of it", listing::READ));
+    }
+    call.out.flush()?;
+    Err(Stop::Answered { wrong: false })
+}

@@ -1,0 +1,197 @@
+/* The C interface as the header describes it: the file's form, room enough, null pointers, many threads, and how much stack each call takes.
+ * Prints one line for each; the Rust test reads them. */
+#define _POSIX_C_SOURCE 200809L
+#include "jukesogbi.h"
+
+#include <pthread.h>
+#include <stdio.h>
+#include <stdlib.h>
+#include <string.h>
+
+enum { PLACES = JUKESOGBI_PLACES, WORDS = PLACES * JUKESOGBI_WORDS, STACK = 64 * 1024, THREADS = 8 };
+
+static uint8_t *network, *oracle, nodes[2 * PLACES];
+static size_t network_size, oracle_size, room;
+static uint32_t work[WORDS];
+
+static void check(int right, const char *what) {
+    if (!right) {
+        printf("wrong: %s\n", what);
+        exit(1);
+    }
+}
+
+static void put(uint8_t **at, uint32_t value, int bytes) {
+    for (int i = 0; i < bytes; i++) {
+        *(*at)++ = (uint8_t)(value >> (8 * i));
+    }
+}
+
+static uint32_t get(const uint8_t *at, int bytes) {
+    uint32_t value = 0;
+    for (int i = 0; i < bytes; i++) {
+        value |= (uint32_t)at[i] << (8 * i);
+    }
+    return value;
+}
+
+/* As many places as may be, in a row, each joined to the next: the longest way there is. */
+static void make_network(void) {
+    const uint32_t roads = PLACES - 1, lengths[] = {8 * PLACES, 8 * roads, 0};
+    network_size = 29 + lengths[0] + lengths[1];
+    network = malloc(network_size);
+    uint8_t *at = network;
+    uint32_t start = 29;
+    put(&at, 1, 1);
+    put(&at, 3, 1);
+    for (uint32_t k = 0; k < 3; k++) {
+        put(&at, k + 1, 1);
+        put(&at, start, 4);
+        put(&at, lengths[k], 4);
+        start += lengths[k];
+    }
+    for (uint32_t i = 0; i < PLACES; i++) {
+        put(&at, 100 * i, 4);
+        put(&at, 0, 4);
+    }
+    for (uint32_t i = 0; i < roads; i++) {
+        put(&at, i, 2);
+        put(&at, i + 1, 2);
+        put(&at, i % 100 + 1, 4);
+    }
+}
+
+/* N, R and T as the header says where they stand. */
+static void find_numbers(uint32_t transit) {
+    uint32_t first = get(oracle + 39, 4), count = get(oracle + 43, 4) / 2;
+    check(get(oracle + 7, 4) / 8 == PLACES && get(oracle + 16, 4) / 8 == PLACES - 1 && count == transit, "N, R and T");
+    for (uint32_t i = 0; i < count; i++) {
+        uint32_t place = get(oracle + first + 2 * i, 2);
+        check(place < PLACES && (i == 0 || get(oracle + first + 2 * i - 2, 2) < place), "the transit places rise");
+    }
+    printf("N %u R %u T %u\n", PLACES, PLACES - 1, count);
+}
+
+static void null_pointers(void) {
+    const uint32_t here = 0;
+    check(jukesogbi_build(NULL, 0, 6, NULL, 0, NULL, 0).rule == 1, "build of nothing");
+    check(jukesogbi_build(network, network_size, 6, NULL, 0, NULL, 0).rule == 14, "build without words");
+    check(jukesogbi_build(network, network_size, 6, work, WORDS, NULL, 0).rule == 15, "build without output");
+    check(jukesogbi_audit(NULL, 0, NULL, 0) == 1 && jukesogbi_audit(oracle, oracle_size, NULL, 0) == 14, "audit");
+    check(jukesogbi_time(NULL, 0, 0, 0, NULL, 0).rule == 1 && jukesogbi_time(oracle, oracle_size, 0, 0, NULL, 0).rule == 14, "time");
+    check(jukesogbi_far(NULL, 0, 0, 0).rule == 1, "far");
+    check(jukesogbi_list_rule(NULL, 0, 0) == 1 && jukesogbi_list(NULL, 0, 0).size == 0, "list");
+    check(jukesogbi_way(NULL, 0, 0, 0, NULL, 0, NULL, 0).rule == 1, "way over nothing");
+    check(jukesogbi_way(oracle, oracle_size, 0, 9, work, WORDS, NULL, 0).rule == 15, "way without output");
+    check(jukesogbi_block(NULL, 0, NULL, 0, NULL, 0, NULL, 0).rule == 1, "block over nothing");
+    check(jukesogbi_block(oracle, oracle_size, NULL, 0, &here, 1, work, WORDS).rule == 17, "block without starts");
+    check(jukesogbi_block(oracle, oracle_size, &here, 1, NULL, 0, work, WORDS).rule == 17, "block without ends");
+    printf("null pointers\n");
+}
+
+/* ---- threads that share the oracle */
+
+static void *asks(void *number) {
+    uint32_t *words = malloc(sizeof work), s = (uint32_t)(size_t)number;
+    for (uint32_t t = 0; t < 200; t++) {
+        uint32_t seconds = 0;
+        for (uint32_t i = s < t ? s : t; i < (s < t ? t : s); i++) {
+            seconds += i % 100 + 1;
+        }
+        jukesogbi_reply reply = jukesogbi_time(oracle, oracle_size, s, t, words, WORDS);
+        check(reply.rule == 0 && reply.seconds == seconds, "a time in a thread");
+    }
+    free(words);
+    return NULL;
+}
+
+static void many_threads(void) {
+    pthread_t threads[THREADS];
+    for (size_t i = 0; i < THREADS; i++) {
+        check(pthread_create(&threads[i], NULL, asks, (void *)(25 * i)) == 0, "a thread");
+    }
+    for (size_t i = 0; i < THREADS; i++) {
+        pthread_join(threads[i], NULL);
+    }
+    printf("threads %d\n", THREADS);
+}
+
+/* ---- the stack that a call takes: a thread of 64 KB, painted before and looked at afterwards */
+
+static void *nothing(void *unused) { return unused; }
+static void *build(void *unused) {
+    check(jukesogbi_build(network, network_size, 64, work, WORDS, oracle, room).rule == 0, "build");
+    return unused;
+}
+static void *audit(void *unused) {
+    check(jukesogbi_audit(oracle, oracle_size, work, WORDS) == 0, "audit");
+    return unused;
+}
+static void *time_asked(void *unused) {
+    check(jukesogbi_time(oracle, oracle_size, 1, 2, work, WORDS).seconds == 2, "a local time");
+    check(jukesogbi_time(oracle, oracle_size, 0, PLACES - 1, work, WORDS).kind == JUKESOGBI_FAR, "a far time");
+    return unused;
+}
+static void *far_asked(void *unused) {
+    check(jukesogbi_far(oracle, oracle_size, 0, PLACES - 1).rule == 0, "far");
+    return unused;
+}
+static void *list_asked(void *unused) {
+    check(jukesogbi_list_rule(oracle, oracle_size, 9) == 0 && jukesogbi_list(oracle, oracle_size, 9).size > 0, "list");
+    return unused;
+}
+static void *way_asked(void *unused) {
+    check(jukesogbi_way(oracle, oracle_size, 0, PLACES - 1, work, WORDS, nodes, sizeof nodes).nodes == PLACES, "the longest way");
+    return unused;
+}
+static void *block_asked(void *unused) {
+    uint32_t names[JUKESOGBI_SIDE];
+    for (uint32_t i = 0; i < JUKESOGBI_SIDE; i++) {
+        names[i] = 17 * i;
+    }
+    check(jukesogbi_block(oracle, oracle_size, names, JUKESOGBI_SIDE, names, JUKESOGBI_SIDE, work, WORDS).times[0][1] == 153, "a block");
+    return unused;
+}
+
+static size_t stack_of(void *(*call)(void *)) {
+    static _Alignas(4096) uint8_t stack[STACK];
+    pthread_attr_t small;
+    pthread_t thread;
+    memset(stack, 0xa5, STACK);
+    pthread_attr_init(&small);
+    check(pthread_attr_setstack(&small, stack, STACK) == 0 && pthread_create(&thread, &small, call, NULL) == 0, "a thread of 64 KB");
+    pthread_join(thread, NULL);
+    pthread_attr_destroy(&small);
+    size_t untouched = 0;
+    while (untouched < STACK && stack[untouched] == 0xa5) {
+        untouched++;
+    }
+    return STACK - untouched;
+}
+
+static void stacks(void) {
+    const struct {
+        const char *name;
+        void *(*call)(void *);
+    } calls[] = {{"build", build}, {"audit", audit}, {"time", time_asked}, {"far", far_asked}, {"list", list_asked}, {"way", way_asked}, {"block", block_asked}};
+    const size_t empty = stack_of(nothing);
+    for (size_t i = 0; i < sizeof calls / sizeof calls[0]; i++) {
+        printf("stack %s %zu\n", calls[i].name, stack_of(calls[i].call) - empty);
+    }
+}
+
+int main(void) {
+    make_network();
+    room = jukesogbi_room(PLACES, PLACES - 1);
+    oracle = malloc(room);
+    jukesogbi_built built = jukesogbi_build(network, network_size, 64, work, WORDS, oracle, room);
+    check(built.rule == 0 && built.size <= room, "the oracle has room");
+    oracle_size = built.size;
+    find_numbers(built.transit);
+    null_pointers();
+    many_threads();
+    stacks();
+    free(network);
+    free(oracle);
+    return 0;
+}
