@@ -57,6 +57,20 @@ fn run(f: &Folder, args: &str, input: &str, out: Option<Stdio>, err: Option<Stdi
 
 // ---- Standard output ----
 
+/// A standard output that is closed from the start is none.
+#[test]
+fn no_output_at_all() {
+    let f = Folder::with_files("streams_none");
+    for (args, input) in CALLS {
+        f.write("input", input.as_bytes());
+        let ran = f.shell(&format!("exec $J {args} < input >&-"));
+        assert_eq!((ran.code, ran.err.as_str()), (2, "jukesogbi: cannot write standard output: it is closed\n"), "{args}");
+    }
+    // What only says on standard error what is wrong does so, and nothing that is there is taken for standard output.
+    f.shell("exec $J time line.oracle x y >&-").is_wrong("`x` is no number");
+    f.shell("exec $J time line.oracle 0 2 <&- 2>&-").says("16 far 1\n");
+}
+
 /// Nothing is said to be done where it was not written.
 #[test]
 fn output_that_cannot_be_written() {

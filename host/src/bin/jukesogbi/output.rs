@@ -2,6 +2,7 @@
 
 use crate::replace;
 use crate::stop::{fault, Done, Stop};
+use crate::system;
 use std::ffi::OsStr;
 use std::fmt::Display;
 use std::fs::{self, File};
@@ -31,7 +32,13 @@ impl Output {
         Output(BufWriter::new(io::stdout().lock()))
     }
 
+    /// There is one.
+    fn there(&self) -> Done {
+        if system::no_output() { fault("cannot write standard output: it is closed") } else { Ok(()) }
+    }
+
     pub fn line(&mut self, text: impl Display) -> Done {
+        self.there()?;
         writeln!(self.0, "{text}").map_err(line_failed)
     }
 
@@ -47,11 +54,13 @@ impl Output {
 
     /// A file's bytes, all of which must get through.
     fn bytes(&mut self, bytes: &[u8]) -> Done {
+        self.there()?;
         self.0.write_all(bytes).and_then(|()| self.0.flush()).map_err(failed)
     }
 
     /// Lines that another function writes.
     pub fn lines<T>(&mut self, write: impl FnOnce(&mut dyn Write) -> io::Result<T>) -> Result<T, Stop> {
+        self.there()?;
         write(&mut self.0).map_err(line_failed)
     }
 

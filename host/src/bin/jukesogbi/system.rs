@@ -1,10 +1,10 @@
-//! The calls of the C library that std has none for: what happens on a signal. They are all here.
+//! The calls of the C library that std has none for: what happens on a signal, and whether there is a standard output. They are all here.
 
 use std::ffi::{c_char, c_int, CString};
 use std::os::unix::ffi::OsStrExt;
 use std::path::Path;
 use std::ptr;
-use std::sync::atomic::{AtomicPtr, Ordering};
+use std::sync::atomic::{AtomicBool, AtomicPtr, Ordering};
 
 const DEFAULT: usize = 0;
 const IGNORED: usize = 1;
@@ -16,7 +16,11 @@ const ABORT: c_int = 6;
 const TERMINATE: c_int = 15;
 const FILE_TOO_LARGE: c_int = 25;
 
+const OUTPUT: c_int = 1;
+const GET_FLAGS: c_int = 1;
+
 extern "C" {
+    fn fcntl(file: c_int, command: c_int, ...) -> c_int;
     fn signal(number: c_int, handler: usize) -> usize;
     fn raise(number: c_int) -> c_int;
     fn unlink(path: *const c_char) -> c_int;
@@ -73,4 +77,20 @@ pub fn prepare() {
             }
         }
     }
+}
+
+/// Whether the program was begun without a standard output.
+static NO_OUTPUT: AtomicBool = AtomicBool::new(false);
+
+/// Looked at before Rust's own start, which puts /dev/null there: that would take everything.
+extern "C" fn look() {
+    NO_OUTPUT.store(unsafe { fcntl(OUTPUT, GET_FLAGS) } < 0, Ordering::SeqCst);
+}
+
+#[used]
+#[link_section = ".init_array"]
+static LOOK: extern "C" fn() = look;
+
+pub fn no_output() -> bool {
+    NO_OUTPUT.load(Ordering::SeqCst)
 }
