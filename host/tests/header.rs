@@ -13,6 +13,8 @@ fn defined(name: &str) -> &'static str {
 fn the_same_numbers() {
     assert_eq!(defined("JUKESOGBI_WORDS"), form::WORDS.to_string());
     assert_eq!(defined("JUKESOGBI_SIDE"), core::SIDE.to_string());
+    assert_eq!(defined("JUKESOGBI_PLACES"), form::MAX_NODES.to_string());
+    assert_eq!(defined("JUKESOGBI_ROADS"), form::MAX_EDGES.to_string());
     assert_eq!(defined("JUKESOGBI_NO_WALK"), "UINT32_MAX");
     assert_eq!(core::NO_WALK, u32::MAX);
 }
