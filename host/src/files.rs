@@ -113,10 +113,16 @@ pub fn words_needed(f: &[u8]) -> usize {
     WORDS * node_count(f)
 }
 
-/// Bytes enough for the oracle of this network, whatever its grid: all nodes are access nodes of each cell at the most.
+/// Bytes enough for the oracle of this network, whatever its grid.
 pub fn most_room(f: &[u8]) -> usize {
-    let n = node_count(f);
-    entry_at(ORACLE_BODIES) + f.len() + GRID_SIZE + NUMBER_SIZE * n + most_access(n, n) + VALUE_SIZE * n * n
+    room(node_count(f), body(f, EDGES).map_or(0, |edges| edges.len() / EDGE_SIZE), f.len())
+}
+
+/// The same where bodies 1 to 3 have so many bytes: there is a transit node for each edge at the most, and all of them may be in each list.
+/// (`jukesogbi_room` of the header, which counts every road as closed.)
+pub fn room(nodes: usize, edges: usize, bodies: usize) -> usize {
+    let transit = nodes.min(edges);
+    entry_at(ORACLE_BODIES) + bodies + GRID_SIZE + NUMBER_SIZE * transit + most_access(nodes, transit) + VALUE_SIZE * transit * transit
 }
 
 /// The network in a file that the core has accepted.

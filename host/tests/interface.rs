@@ -37,7 +37,13 @@ fn allowed(call: &str) -> usize {
 fn a_c_program_finds_what_the_header_says() {
     let text = output_of(Path::new("tests/c/interface.c"), "interface");
     let mut lines = text.lines();
-    for expected in ["N 4096 R 4095 T 59", "null pointers", "threads 8"] {
+    assert_eq!(lines.next(), Some("N 4096 R 4095 T 59"));
+    let n = form::MAX_NODES / 2;
+    for roads in (0..=form::MAX_EDGES).step_by(1024) {
+        let bodies = form::NODE_SIZE * n + (form::EDGE_SIZE + form::NUMBER_SIZE) * roads;
+        assert_eq!(lines.next(), Some(format!("room {}", files::room(n, roads, bodies)).as_str()));
+    }
+    for expected in ["null pointers", "threads 8"] {
         assert_eq!(lines.next(), Some(expected));
     }
     let mut calls = Vec::new();

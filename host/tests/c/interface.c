@@ -188,6 +188,9 @@ int main(void) {
     check(built.rule == 0 && built.size <= room, "the oracle has room");
     oracle_size = built.size;
     find_numbers(built.transit);
+    for (size_t roads = 0; roads <= JUKESOGBI_ROADS; roads += 1024) {
+        printf("room %zu\n", jukesogbi_room(PLACES / 2, roads));
+    }
     null_pointers();
     many_threads();
     stacks();

@@ -7,34 +7,27 @@ use borrow.Author.Needs.{needs}
 use Rattle.opened.proofs.ways.write_way_from.Statement.{statement}
 use Rattle.opened.proofs.ways.write_way_from.Tie as tie
 
--- src/ways.rt:58:9
 whole-way-requires : tie.Need-whole-way-requires
 whole-way-requires c κs = search needs
 
--- src/ways.rt:60:9
 returns : tie.Need-returns
 returns c = given-short _ _ (c .before .whole-way .ensures .0 .0) _ (c .if1 .taken)
 
--- src/ways.rt:62:10
 array-share-prefix-nodes : tie.Need-array-share-prefix-nodes
 array-share-prefix-nodes c = let w = c .before .whole-way in found-room _ _ (w .ensures .0 .0)
     (c .before .before .before .before .before .before .before .args .out .now) _ _ (w .ensures .1)
 
--- src/ways.rt:62:10
 slice-aggregate-copy : tie.Need-slice-aggregate-copy
 slice-aggregate-copy c = let w = c .before .before .whole-way in sym (length-take-le (w .result) (w .last .1 .1 .1 .1 .1 .0)
     (found-room _ _ (w .ensures .0 .0) (c .before .before .before .before .before .before .before .before .args .out .now) _ _ (w .ensures .1)))
 
--- src/ways.rt:62:26
 slice-relend-prefix-copy : tie.Need-slice-relend-prefix-copy
 slice-relend-prefix-copy c = search needs
 
--- src/ways.rt:62:26
 slice-aggregate-copy-2 : tie.Need-slice-aggregate-copy-2
 slice-aggregate-copy-2 c = sym (length-take-le (c .before .before .before .whole-way .result)
     (c .before .before .before .before .before .before .before .before .before .args .out .now) (omega (arith, c .before .before .if1 .left)))
 
--- src/ways.rt:62:5
 copy-requires : tie.Need-copy-requires
 copy-requires c κs =
     let w = c .before .before .before .whole-way in
@@ -42,15 +35,12 @@ copy-requires c κs =
     (omega (arith, c .before .before .if1 .left)) ∙ sym (length-take-le (w .result) (w .last .1 .1 .1 .1 .1 .0)
     (found-room _ _ (w .ensures .0 .0) (c .before .before .before .before .before .before .before .before .before .args .out .now) _ _ (w .ensures .1)))
 
--- src/ways.rt:65:16
 cast-t17 : tie.Need-cast-t17
 cast-t17 c = search needs
 
--- src/ways.rt:52:1
 same-length : tie.Need-same-length
 same-length c = search needs
 
--- src/ways.rt:52:1
 returns-2 : tie.Need-returns-2
 returns-2 c =
     let w = c .before .before .before .before .before .before .whole-way in

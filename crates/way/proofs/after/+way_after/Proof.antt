@@ -27,8 +27,9 @@ abbrev way-after-below : ℕ → In 7 way-after-kinds.ps
 way-after-below t =
     and 7 way-after-kinds.ps (falls 7 way-after-kinds.ps _<_ μ-way-after t) way-after.Pre
 
--- src/after.rt:39:9
-way-after-next-node-requires : (t : ℕ) → way-after-lts.Need-next-node-requires (
+-- What the calls ask and tell; its own of a call with less time left.
+abbrev claims : ℕ → way-after-lts.Claims
+claims t = (
   next-node-reads.Asked,
   next-node-reads.Learnt,
   write16-reads.Asked,
@@ -37,36 +38,18 @@ way-after-next-node-requires : (t : ℕ) → way-after-lts.Need-next-node-requir
   time-of-reads.Learnt,
   way-after-below t,
   way-after.Post,
-) (way-after-at t) way-after.Post
+)
+
+way-after-next-node-requires : (t : ℕ) → way-after-lts.Need-next-node-requires (claims t) (way-after-at t) way-after.Post
 way-after-next-node-requires t c κs = search needs
 
--- src/after.rt:41:9
-way-after-returns : (t : ℕ) → way-after-lts.Need-returns (
-  next-node-reads.Asked,
-  next-node-reads.Learnt,
-  write16-reads.Asked,
-  write16-reads.Learnt,
-  time-of-reads.Asked,
-  time-of-reads.Learnt,
-  way-after-below t,
-  way-after.Post,
-) (way-after-at t) way-after.Post
+way-after-returns : (t : ℕ) → way-after-lts.Need-returns (claims t) (way-after-at t) way-after.Post
 way-after-returns t c =
     let p = c .before .before .before .before .before .pre in
     let e = stops _ _ _ _ (p .1 .0 .2) (p .1 .1 .1) _ _ (p .1 .0 .0) _ (c .before .next-node .ensures) (c .if1 .taken) in
     (omega (arith, ap length e), splice-none _ _ _ e)
 
--- src/after.rt:43:24
-way-after-cast-write16 : (t : ℕ) → way-after-lts.Need-cast-write16 (
-  next-node-reads.Asked,
-  next-node-reads.Learnt,
-  write16-reads.Asked,
-  write16-reads.Learnt,
-  time-of-reads.Asked,
-  time-of-reads.Learnt,
-  way-after-below t,
-  way-after.Post,
-) (way-after-at t) way-after.Post
+way-after-cast-write16 : (t : ℕ) → way-after-lts.Need-cast-write16 (claims t) (way-after-at t) way-after.Post
 way-after-cast-write16 t c =
     let p = c .before .before .before .before .before .before .pre in
     omega (
@@ -76,17 +59,7 @@ way-after-cast-write16 t c =
           .0 .1,
     )
 
--- src/after.rt:43:5
-way-after-write16-requires : (t : ℕ) → way-after-lts.Need-write16-requires (
-  next-node-reads.Asked,
-  next-node-reads.Learnt,
-  write16-reads.Asked,
-  write16-reads.Learnt,
-  time-of-reads.Asked,
-  time-of-reads.Learnt,
-  way-after-below t,
-  way-after.Post,
-) (way-after-at t) way-after.Post
+way-after-write16-requires : (t : ℕ) → way-after-lts.Need-write16-requires (claims t) (way-after-at t) way-after.Post
 way-after-write16-requires t c κs =
     let p = c .before .before .before .before .before .before .pre in
     omega (
@@ -96,17 +69,7 @@ way-after-write16-requires t c κs =
       p .1 .1 .0,
     )
 
--- src/after.rt:44:9
-way-after-time-of-requires : (t : ℕ) → way-after-lts.Need-time-of-requires (
-  next-node-reads.Asked,
-  next-node-reads.Learnt,
-  write16-reads.Asked,
-  write16-reads.Learnt,
-  time-of-reads.Asked,
-  time-of-reads.Learnt,
-  way-after-below t,
-  way-after.Post,
-) (way-after-at t) way-after.Post
+way-after-time-of-requires : (t : ℕ) → way-after-lts.Need-time-of-requires (claims t) (way-after-at t) way-after.Post
 way-after-time-of-requires t c κs =
     let p = c .before .before .before .before .before .before .before .before .pre in (
       omega arith,
@@ -114,47 +77,17 @@ way-after-time-of-requires t c κs =
           (c .before .before .before .if1 .left) _ refl .inside,
     )
 
--- src/after.rt:45:55
-way-after-add-way-after : (t : ℕ) → way-after-lts.Need-add-way-after (
-  next-node-reads.Asked,
-  next-node-reads.Learnt,
-  write16-reads.Asked,
-  write16-reads.Learnt,
-  time-of-reads.Asked,
-  time-of-reads.Learnt,
-  way-after-below t,
-  way-after.Post,
-) (way-after-at t) way-after.Post
+way-after-add-way-after : (t : ℕ) → way-after-lts.Need-add-way-after (claims t) (way-after-at t) way-after.Post
 way-after-add-way-after t c = search needs
 
--- src/after.rt:45:5
-way-after-way-after-requires : (t : ℕ) → way-after-lts.Need-way-after-requires (
-  next-node-reads.Asked,
-  next-node-reads.Learnt,
-  write16-reads.Asked,
-  write16-reads.Learnt,
-  time-of-reads.Asked,
-  time-of-reads.Learnt,
-  way-after-below t,
-  way-after.Post,
-) (way-after-at t) way-after.Post
+way-after-way-after-requires : (t : ℕ) → way-after-lts.Need-way-after-requires (claims t) (way-after-at t) way-after.Post
 way-after-way-after-requires t c κs =
     let p = c .before .before .before .before .before .before .before .before .before .before .pre in
     let s = goes _ _ _ _ (p .1 .0 .2) (p .1 .1 .1) _ _ (p .1 .0 .0) _ (c .before .before .before .before .before .before .next-node .ensures)
     (c .before .before .before .before .before .if1 .left) _ (c .before .time-of .ensures .1) in
     (omega (arith, s .less), ((s .time, p .1 .0 .1, p .1 .0 .2), (omega (arith, ap length (s .on), p .1 .1 .0), p .1 .1 .1)))
 
--- src/after.rt:23:1
-way-after-returns-2 : (t : ℕ) → way-after-lts.Need-returns-2 (
-  next-node-reads.Asked,
-  next-node-reads.Learnt,
-  write16-reads.Asked,
-  write16-reads.Learnt,
-  time-of-reads.Asked,
-  time-of-reads.Learnt,
-  way-after-below t,
-  way-after.Post,
-) (way-after-at t) way-after.Post
+way-after-returns-2 : (t : ℕ) → way-after-lts.Need-returns-2 (claims t) (way-after-at t) way-after.Post
 way-after-returns-2 t c =
     let p = c .before .before .before .before .before .before .before .before .before .before .before .pre in
     let s = goes _ _ _ _ (p .1 .0 .2) (p .1 .1 .1) _ _ (p .1 .0 .0) _ (c .before .before .before .before .before .before .before .next-node .ensures)
@@ -165,16 +98,7 @@ way-after-returns-2 t c =
     )
 
 pub +way-after-spec : {M : Type 1} → statement M
-+way-after-spec = close μ-way-after λ t. way-after-lts.spec (
-  next-node-reads.Asked,
-  next-node-reads.Learnt,
-  write16-reads.Asked,
-  write16-reads.Learnt,
-  time-of-reads.Asked,
-  time-of-reads.Learnt,
-  way-after-below t,
-  way-after.Post,
-)
++way-after-spec = close μ-way-after λ t. way-after-lts.spec (claims t)
     (way-after-at t)
     way-after.Post
     (way-after-next-node-requires t)

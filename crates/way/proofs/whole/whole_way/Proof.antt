@@ -14,11 +14,9 @@ use Rattle.codec.proofs.bytes.write16.Reads as write16-reads
 use Rattle.way.proofs.after.way_after.Reads as way-after-reads
 use Rattle.words.proofs.times.time_of.Reads as time-of-reads
 
--- src/whole.rt:25:9
 time-of-requires : tie.Need-time-of-requires
 time-of-requires c κs = search needs
 
--- src/whole.rt:27:9
 returns : tie.Need-returns
 returns c =
     let p = c .before .before .before .before .before .pre in
@@ -26,15 +24,12 @@ returns c =
     let e = no-way (a .n) (a .t4 .now) (arcsIn (a .t1 .now) (a .t2 .now)) (a .s) _ (p .0 .2) (p .0 .0) (c .before .time-of .ensures .1) (c .if1 .taken) in
     ((omega (arith, ap length e), omega arith), splice-none 0 _ _ e)
 
--- src/whole.rt:29:23
 cast-write16 : tie.Need-cast-write16
 cast-write16 c = search needs
 
--- src/whole.rt:29:5
 write16-requires : tie.Need-write16-requires
 write16-requires c κs = search needs
 
--- src/whole.rt:30:5
 way-after-requires : tie.Need-way-after-requires
 way-after-requires c κs =
     let p = c .before .before .before .before .before .before .before .before .before .before .before .pre in
@@ -43,7 +38,6 @@ way-after-requires c κs =
     (c .before .before .before .before .before .before .before .time-of .ensures .1) (c .before .before .before .before .before .before .if1 .left) in
     ((e, p .0 .1, p .0 .2), (room _ _ _ _ (p .0 .2) (p .1) (p .0 .1) _ _ (p .0 .0) e, p .1))
 
--- src/whole.rt:19:1
 returns-2 : tie.Need-returns-2
 returns-2 c =
     let p = c .before .before .before .before .before .before .before .before .before .before .before .before .pre in
