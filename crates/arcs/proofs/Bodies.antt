@@ -1,8 +1,8 @@
--- The arcs of a network's bodies: what the rules give of them, and which leave a node. Assumes nothing.
+-- The arcs of a network's bodies, as they are and under a sheet: what the rules give of them, and which leave a node. Assumes nothing.
 use Prim.Native.Nat.{ℕ}
 use mathlib.Core.Path.{_≡_}
 use mathlib.Core.Bool.{false}
-use mathlib.Core.List.{List}
+use mathlib.Core.List.{List, []}
 use borrow.Author.Tests.{eq-eqb, eqb-true}
 use Rattle.model.specs.Bytes.{Bytes, words16}
 use Rattle.model.specs.Walk.{Arc}
@@ -11,7 +11,12 @@ use Rattle.theory.specs.Members.{filter→, →filter}
 use Rattle.theory.specs.Sound as sound
 use Rattle.theory.specs.Walks.{Within, Costs, Positive}
 use Rattle.algorithms.specs.Dijkstra.{Out}
+use Rattle.index.specs.Index.{IndexedEdges}
+use Rattle.sheet.specs.ArcsUnder.{arcsUnder}
+use Rattle.sheet.proofs.Noting.{spanned-none}
+use Rattle.sheet.proofs.Ground as ground
 use Rattle.arcs.specs.Arcs.{arcsIn, leaves, leaving}
+use Rattle.arcs.specs.Leaving.{EdgesUnder}
 
 module _ (n : ℕ) (b : Bytes) (h : someEdgeBroken n b ≡ false) (closed : Bytes) where
   pub arcs-within : Within n (arcsIn b closed)
@@ -25,6 +30,29 @@ module _ (n : ℕ) (b : Bytes) (h : someEdgeBroken n b ≡ false) (closed : Byte
   pub arcs-positive : Positive (arcsIn b closed)
   unfolding arcsIn
   arcs-positive = sound.arcs-positive n (openEdges b (words16 closed)) (sound.open-fine n b (words16 closed) h)
+
+-- The same of the arcs under a sheet, together.
+pub record Bounded (n : ℕ) (arcs : List Arc) : Type 0 where
+  pub within : Within n arcs
+  pub cost : Costs maxSeconds arcs
+  pub positive : Positive arcs
+
+pub arcs-bounded : (edges closed lines : Bytes) (n : ℕ) (w : List ℕ) → EdgesUnder edges closed lines n w → Bounded n (arcsUnder edges closed lines)
+arcs-bounded edges closed lines n w g =
+    let e = g .roads .ends in
+    record {
+      within = ground.arcs-within edges closed lines n e (g .quick);
+      cost = ground.arcs-cost edges closed lines n e (g .quick);
+      positive = ground.arcs-positive edges closed lines n e (g .quick);
+    }
+
+-- ---- no sheet: no lines
+pub plain : (edges closed : Bytes) (n : ℕ) (w : List ℕ) → IndexedEdges edges closed n w → EdgesUnder edges closed [] n w
+plain edges closed n w r = record { roads = r; spanned = spanned-none n w; quick = ground.plain-slow edges closed n (r .ends) }
+
+pub plain-arcs : (edges closed : Bytes) → arcsUnder edges closed [] ≡ arcsIn edges closed
+unfolding arcsIn
+plain-arcs edges closed = ground.no-lines edges closed
 
 pub leaving-out : (u : ℕ) (arcs : List Arc) → Out arcs u (leaving u arcs)
 unfolding leaving leaves

@@ -1,15 +1,18 @@
--- The words before the index are changed: a walk goes on as it was. Assumes nothing.
+-- Words of a search are changed: a walk goes on as it was. Assumes nothing.
 use Prim.Native.Nat.{ℕ}
+use native.Mathlib.Omega.{arith}
 use mathlib.Core.List.{List}
 use Rattle.model.specs.Bytes.{Bytes}
 use Rattle.model.specs.Walk.{Arc}
 use Rattle.words.specs.Frames.{KeptFrom}
-use Rattle.words.specs.Regions.{indexAt}
-use Rattle.index.proofs.Laid.{same-index}
+use Rattle.words.specs.Regions.{searchWords, gridAt, spansAt, indexAt}
+use Rattle.words.proofs.Stays.{kept-more}
+use Rattle.index.proofs.Laid.{same-index, roads-kept}
+use Rattle.sheet.proofs.Noting.{spanned-kept}
 use Rattle.arcs.specs.declared.cursor.Cursor.{Cursor}
 use Rattle.arcs.specs.declared.leaving.ArcAt.{ArcAt}
 use Rattle.arcs.specs.Cursor.{Valid, PassedEdges}
-use Rattle.arcs.specs.Leaving.{cursorOf, ValidArc, PassedArcs}
+use Rattle.arcs.specs.Leaving.{EdgesUnder, cursorOf, ValidArc, PassedArcs}
 
 module _ (edges closed : Bytes) (n : ℕ) (w w′ : List ℕ) (e : KeptFrom (indexAt n) w w′) (u : ℕ) where
   module _ (c : Cursor) where
@@ -28,14 +31,30 @@ module _ (edges closed : Bytes) (n : ℕ) (w w′ : List ℕ) (e : KeptFrom (ind
     pub passing-kept : (done : List ℕ) → PassedEdges edges closed n w u done c → PassedEdges edges closed n w′ u done c
     passing-kept done p = let f = same-index n w w′ e in record { valid = valid-kept (p .valid); real = p .real; full = rw f (p .full) }
 
-  module _ (a : ArcAt) where
-    pub arc-kept : ValidArc edges closed n w u a → ValidArc edges closed n w′ u a
-    arc-kept v = record { cursor = valid-kept (cursorOf a) (v .cursor); found = v .found }
+-- The spans and the index stand behind the grid, and that behind the words of a search.
+pub edges-behind : (edges closed lines : Bytes) (n : ℕ) (w w′ : List ℕ) → KeptFrom (gridAt n) w w′ → EdgesUnder edges closed lines n w
+    → EdgesUnder edges closed lines n w′
+edges-behind edges closed lines n w w′ e g = record {
+  roads = roads-kept edges closed n w w′ (kept-more (gridAt n) (indexAt n) w w′ (omega arith) e) (g .roads);
+  spanned = spanned-kept lines n w w′ (kept-more (gridAt n) (spansAt n) w w′ (omega arith) e) (g .spanned);
+  quick = g .quick;
+}
 
-    pub passes-kept : (done : List Arc) → PassedArcs edges closed n w u done a → PassedArcs edges closed n w′ u done a
+module _ (edges closed lines : Bytes) (n : ℕ) (w w′ : List ℕ) (e : KeptFrom (searchWords n) w w′) where
+  same : KeptFrom (indexAt n) w w′
+  same = kept-more (searchWords n) (indexAt n) w w′ (omega arith) e
+
+  pub edges-kept : EdgesUnder edges closed lines n w → EdgesUnder edges closed lines n w′
+  edges-kept = edges-behind edges closed lines n w w′ (kept-more (searchWords n) (gridAt n) w w′ (omega arith) e)
+
+  module _ (u : ℕ) (a : ArcAt) where
+    arc-kept : ValidArc edges closed lines n w u a → ValidArc edges closed lines n w′ u a
+    arc-kept v = record { cursor = valid-kept edges closed n w w′ same u (cursorOf a) (v .cursor); found = v .found }
+
+    pub passes-kept : (done : List Arc) → PassedArcs edges closed lines n w u done a → PassedArcs edges closed lines n w′ u done a
     passes-kept done p = record {
       over = p .over;
-      passing = passing-kept (cursorOf a) (p .over) (p .passing);
+      passing = passing-kept edges closed n w w′ same u (cursorOf a) (p .over) (p .passing);
       same = p .same;
       valid = arc-kept (p .valid);
       low = p .low;

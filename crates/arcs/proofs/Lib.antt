@@ -5,3 +5,4 @@ pub mod Step
 pub mod Same
 pub mod Passes
 pub mod Kept
+pub mod Tests

@@ -1,27 +1,38 @@
--- From the cursor over the open edges at u to the arcs out of u. Assumes nothing.
-use Prim.Native.Nat.{ℕ, _<_, _≤_}
+-- From the cursor over the open edges at u to the arcs out of u that a sheet leaves: edges that it closes are passed over. Assumes nothing.
+use Prim.Native.Nat.{ℕ, _+_, _<_, _≤_}
 use native.Mathlib.Decide.{ℕ-discrete, decLt}
+use native.Mathlib.Nat.{add-zero}
 use native.Mathlib.Omega.{arith}
 use mathlib.Core.Path.{_≡_, refl, sym, ap, _∙_, subst}
-use mathlib.Core.Bool.{false}
+use mathlib.Core.Bool.{Bool, true, false, cond}
 use mathlib.Core.List.{List, [], _∷_, _++_, append-nil, append-assoc, List·Memᴰ, List·Memᴰ·head}
 use mathlib.Core.Logic.{_⊎_, inl, inr}
+use lib.ListN.{length}
+use lib.Dec.{eqb}
 use borrow.Author.Tests.{eq-eqb, ne-eqb}
-use Rattle.model.specs.Lists.{filter, concatMap}
-use Rattle.model.specs.Bytes.{Bytes}
+use Rattle.model.specs.Lists.{range, filter, concatMap, member}
+use Rattle.model.specs.Bytes.{Bytes, words16}
 use Rattle.model.specs.Walk.{Arc}
-use Rattle.model.specs.Network.{Edge, edge, edgeCount, arcsOf, someEdgeBroken}
-use Rattle.theory.specs.Members.{filter→, →filter}
-use Rattle.arcs.specs.Arcs.{arcsIn, leaves, leaving}
-use Rattle.theory.specs.Sound.{edge-fine}
+use Rattle.model.specs.Network.{Edge, edge, edgeCount, arcsOf, someEdgeBroken, maxSeconds, isOpen}
+use Rattle.model.specs.Oracle.{noWalk}
+use Rattle.sheet.specs.Sheet.{Effect, Effect.delayed, lineCount, linesIn, holds}
+use Rattle.sheet.specs.Under.{left, leftOf}
+use Rattle.sheet.specs.ArcsUnder.{arcsUnder, arcsLeft}
+use Rattle.sheet.specs.Spans.{leftIn}
+use Rattle.sheet.proofs.Lasts.{none-held}
+use Rattle.sheet.proofs.Ground.{left→, not-slow, plain-slow}
+use Rattle.sheet.proofs.Seconds.{as-was}
+use Rattle.arcs.specs.Arcs.{leaves, leaving}
+use Rattle.theory.specs.Sound.{Fine, edge-fine}
 use Rattle.arcs.specs.declared.cursor.Cursor.{Cursor}
 use Rattle.arcs.specs.declared.leaving.ArcAt.{ArcAt}
-use Rattle.arcs.specs.Cursor.{PassedEdges, Stepped}
-use Rattle.arcs.specs.Leaving.{cursorOf, arcHere, arcsOver, Found, PassedArcs, arcRank, SteppedArc}
-use Rattle.arcs.proofs.Same.{passing-all, open-arc, arcs-same→, →arcs-same}
+use Rattle.arcs.specs.Cursor.{Valid, PassedEdges, Stepped}
+use Rattle.arcs.specs.Leaving.{EdgesUnder, cursorOf, arcHere, arcsOver, maxCost, EndAt, LeftAt, Found, PassedArcs, SkippedTo, FirstArc, arcRank}
+use Rattle.arcs.specs.Leaving.{SteppedArc}
+use Rattle.arcs.proofs.Same.{passing-all, left-arc, arcs-same→, →arcs-same}
 
 -- ---- the arc of an edge e that leaves u, one of its two ends: `first`, `second`, v and s are as the code has read them
-abbrev Other : ℕ → ℕ → ℕ → ℕ → Type 0
+abbrev pub Other : ℕ → ℕ → ℕ → ℕ → Type 0
 Other first second u v = (first ≡ u → v ≡ second) × ((first ≡ u → ⊥) → v ≡ first)
 
 module _ (u : ℕ) (e : Edge) (apart : e .first ≡ e .second → ⊥) (v s : ℕ) (r : s ≡ e .seconds) where
@@ -49,32 +60,231 @@ other-in n u first second v h l o = pick (ℕ-discrete first u)
     pick (yes f) = omega (arith, o .0 f)
     pick (no f) = omega (arith, o .1 f)
 
-module _ (edges : Bytes) (n u : ℕ) (c : Cursor) where
-  pub found-none : edgeCount edges ≤ c .edge → Found edges n u (record { to = n; cost = 0; edge = c .edge; stop = c .stop; link = c .link; size = c .size })
-  found-none h = record { inside = λ l. absurd (omega arith); arc = λ l. absurd (omega arith); ended = λ l. refl; low = omega arith }
+-- ---- the edges passed
+pub over-more : (b lines : Bytes) (u : ℕ) (done : List ℕ) (j : ℕ) → arcsOver b lines u (done ++ j ∷ []) ≡ arcsOver b lines u done ++ leaving u
+    (arcsLeft b lines j)
+unfolding arcsOver concatMap
+over-more b lines u [] j = append-nil (leaving u (arcsLeft b lines j))
+over-more b lines u (x ∷ done) j =
+    ap (λ (l : List Arc). leaving u (arcsLeft b lines x) ++ l) (over-more b lines u done j)
+    ∙ sym (append-assoc (leaving u (arcsLeft b lines x)) (arcsOver b lines u done) (leaving u (arcsLeft b lines j)))
 
-  pub found-arc : someEdgeBroken n edges ≡ false → c .edge < edgeCount edges → (edge edges (c .edge) .first ≡ u) ⊎ (edge edges (c .edge) .second ≡ u)
+-- An edge with other seconds leads to where it led.
+abbrev fromOf : List Arc → ℕ
+fromOf [] = 0
+fromOf (a ∷ as′) = a .from
+
+abbrev toOf : List Arc → ℕ
+toOf [] = 0
+toOf (a ∷ as′) = a .to
+
+recost : (u : ℕ) (e : Edge) (v k s : ℕ) → leaving u (arcsOf e) ≡ record { from = u; to = v; cost = k } ∷ []
+    → leaving u (arcsOf (record { first = e .first; second = e .second; seconds = s })) ≡ record { from = u; to = v; cost = s } ∷ []
+unfolding leaving leaves filter arcsOf
+recost u e v k s = pick (eqb (e .first) u) (eqb (e .second) u)
+  where
+    there : ℕ → Arc
+    there x = record { from = e .first; to = e .second; cost = x }
+
+    back : ℕ → Arc
+    back x = record { from = e .second; to = e .first; cost = x }
+
+    pick : (a b : Bool) → cond a (there (e .seconds) ∷ cond b (back (e .seconds) ∷ []) []) (cond b (back (e .seconds) ∷ []) []) ≡ record
+        { from = u; to = v; cost = k } ∷ []
+        → cond a (there s ∷ cond b (back s ∷ []) []) (cond b (back s ∷ []) []) ≡ record { from = u; to = v; cost = s } ∷ []
+    pick true true h = absurd (omega (arith, ap (λ (l : List Arc). length l) h))
+    pick true false h = rw (ap fromOf h, ap toOf h)
+    pick false true h = rw (ap fromOf h, ap toOf h)
+    pick false false h = absurd (omega (arith, ap (λ (l : List Arc). length l) h))
+
+-- ---- what the lines leave of an edge e: s is its seconds as the code has read them, 'no walk' for nothing
+left-low : (f : Effect) (e : Edge) (s : ℕ) → left f e ≡ leftIn s e → (s ≡ noWalk → ⊥) → ((x : ℕ) → f ≡ delayed x → e .seconds + x ≤ maxSeconds)
+    → s ≤ maxSeconds
+unfolding leftIn
+left-low f e s p d most =
+    let here : List·Memᴰ (record { first = e .first; second = e .second; seconds = s }) (left f e) = rw (p, ne-eqb s noWalk d) (List·Memᴰ·head refl) in
+    let (x, q, r) = left→ f e here in
+    omega (arith, ap (λ (e : Edge). e .seconds) r, most x q)
+
+left-leaving : (f : Effect) (e : Edge) (s u : ℕ) (l : List Arc) → left f e ≡ leftIn s e
+    → ((s ≡ noWalk → ⊥) → leaving u (arcsOf (record { first = e .first; second = e .second; seconds = s })) ≡ l)
+    → leaving u (concatMap arcsOf (left f e)) ≡ cond (eqb s noWalk) [] l
+left-leaving f e s u l p h = rw p (pick (ℕ-discrete s noWalk))
+  where
+    pick : Dec (s ≡ noWalk) → leaving u (concatMap arcsOf (leftIn s e)) ≡ cond (eqb s noWalk) [] l
+    pick (yes q) = unfold leftIn concatMap leaving filter in rw (eq-eqb s noWalk q)
+    pick (no d) = unfold leftIn concatMap arcsOf in rw (ne-eqb s noWalk d) (unfold arcsOf in h d)
+
+pub none-left : (edges lines : Bytes) (u i s : ℕ) → s ≡ noWalk → left (holds (linesIn lines) i) (edge edges i) ≡ leftIn s (edge edges i)
+    → leaving u (arcsLeft edges lines i) ≡ []
+unfolding arcsLeft leftOf
+none-left edges lines u i s z p = left-leaving (holds (linesIn lines) i) (edge edges i) s u [] p (λ d. absurd (d z)) ∙ rw (eq-eqb s noWalk z)
+
+module _ (edges lines : Bytes) (n u : ℕ) (c : Cursor) where
+  pub left-none : edgeCount edges ≤ c .edge
+      → LeftAt edges lines n u c (record { to = n; cost = 0; edge = c .edge; stop = c .stop; link = c .link; size = c .size })
+  left-none h = record {
+    cursor = refl;
+    inside = λ l. absurd (omega arith);
+    arc = λ l. absurd (omega arith);
+    ended = λ l. (refl, refl);
+    low = λ d. omega arith;
+  }
+
+  pub left-some : someEdgeBroken n edges ≡ false → c .edge < edgeCount edges → EndAt edges lines u (c .edge)
       → (first second v s : ℕ) → first ≡ edge edges (c .edge) .first → second ≡ edge edges (c .edge) .second → Other first second u v
-      → s ≡ edge edges (c .edge) .seconds
-      → Found edges n u (record { to = v; cost = s; edge = c .edge; stop = c .stop; link = c .link; size = c .size })
-  found-arc ends h end first second v s p q o r =
+      → left (holds (linesIn lines) (c .edge)) (edge edges (c .edge)) ≡ leftIn s (edge edges (c .edge))
+      → LeftAt edges lines n u c (record { to = v; cost = s; edge = c .edge; stop = c .stop; link = c .link; size = c .size })
+  left-some ends h end first second v s p q o r =
+      let e = edge edges (c .edge) in
       let f = edge-fine n edges ends (c .edge) h in
       record {
+        cursor = refl;
         inside = λ l. other-in n u first second v (omega (arith, f .first-in)) (omega (arith, f .second-in)) o;
-        arc = λ l. by-other u (edge edges (c .edge)) (f .apart) v s r first second p q o end;
+        arc = λ l. unfold arcsLeft leftOf in left-leaving (holds (linesIn lines) (c .edge)) e s u (record { from = u; to = v; cost = s } ∷ []) r
+            (λ d. by-other u (record { first = e .first; second = e .second; seconds = s }) (f .apart) v s refl first second p q o (end .end));
         ended = λ l. absurd (omega arith);
-        low = omega (arith, f .at-most);
+        low = λ d. left-low (holds (linesIn lines) (c .edge)) e s r d (end .limit);
       }
 
--- ---- what is passed
-over-more : (b : Bytes) (u : ℕ) (done : List ℕ) (j : ℕ) → arcsOver b u (done ++ j ∷ []) ≡ arcsOver b u done ++ leaving u (arcsOf (edge b j))
-unfolding arcsOver concatMap
-over-more b u [] j = append-nil (leaving u (arcsOf (edge b j)))
-over-more b u (x ∷ done) j =
-    ap (λ (l : List Arc). leaving u (arcsOf (edge b x)) ++ l) (over-more b u done j)
-    ∙ sym (append-assoc (leaving u (arcsOf (edge b x))) (arcsOver b u done) (leaving u (arcsOf (edge b j))))
+-- Without lines an edge is as it was.
+pub no-bytes : (lines : Bytes) → length lines ≡ 0 → lines ≡ []
+no-bytes [] e = refl
+no-bytes (x ∷ lines) e = absurd (omega (arith, e))
 
-module _ (edges closed : Bytes) (n : ℕ) (w : List ℕ) (u : ℕ) (a : ArcAt) (f : Found edges n u a) where
+all-open : (i : ℕ) → isOpen (words16 []) i ≡ true
+unfolding isOpen member words16 range
+all-open i = refl
+
+-- Its arcs are all left.
+plain-left : (edges : Bytes) (i : ℕ) → arcsLeft edges [] i ≡ arcsOf (edge edges i)
+unfolding arcsLeft leftOf left concatMap arcsOf lineCount
+plain-left edges i = rw (none-held [] (omega arith) i, add-zero)
+
+pub plain-some : (edges : Bytes) (n u : ℕ) (c : Cursor) → someEdgeBroken n edges ≡ false → c .edge < edgeCount edges
+    → (edge edges (c .edge) .first ≡ u) ⊎ (edge edges (c .edge) .second ≡ u)
+    → (first second v s : ℕ) → first ≡ edge edges (c .edge) .first → second ≡ edge edges (c .edge) .second → Other first second u v
+    → s ≡ edge edges (c .edge) .seconds
+    → LeftAt edges [] n u c (record { to = v; cost = s; edge = c .edge; stop = c .stop; link = c .link; size = c .size })
+unfolding lineCount
+plain-some edges n u c ends h end first second v s p q o r =
+    let f = edge-fine n edges ends (c .edge) h in
+    let held = none-held [] (omega arith) (c .edge) in
+    let limit = not-slow edges [] [] (plain-slow edges [] n ends) (c .edge) h (all-open (c .edge)) in
+    left-some edges [] n u c ends h (record { end = end; limit = limit }) first second v s p q o (as-was _ s (edge edges (c .edge)) held r (f .at-most))
+
+-- The edge of an arc is the cursor's.
+pub same-edge : (edges lines : Bytes) (n u : ℕ) (c : Cursor) (a : ArcAt) → LeftAt edges lines n u c a → a .edge ≡ c .edge
+same-edge edges lines n u c a g = ap (λ (z : Cursor). z .edge) (g .cursor)
+
+-- At the end the lines change nothing.
+pub left-over : (edges lines : Bytes) (n u : ℕ) (c : Cursor) (a : ArcAt) → LeftAt edges [] n u c a → edgeCount edges ≤ a .edge → LeftAt edges lines n u c a
+left-over edges lines n u c a g h = record {
+  cursor = g .cursor;
+  inside = g .inside;
+  arc = λ l. absurd (omega arith);
+  ended = g .ended;
+  low = g .low;
+}
+
+-- The arc a of the edge, read without the lines; s is what they leave of its seconds.
+pub left-recost : (edges lines : Bytes) (n u : ℕ) (c : Cursor) (a : ArcAt) → LeftAt edges [] n u c a → a .cost ≤ maxCost → a .edge < edgeCount edges
+    → EndAt edges lines u (a .edge) → (s : ℕ) → left (holds (linesIn lines) (a .edge)) (edge edges (a .edge)) ≡ leftIn s (edge edges (a .edge))
+    → LeftAt edges lines n u c (record { to = a .to; cost = s; edge = a .edge; stop = a .stop; link = a .link; size = a .size })
+unfolding arcsLeft leftOf
+left-recost edges lines n u c a g low h end s r =
+    let e = edge edges (a .edge) in
+    let plain : leaving u (arcsOf e) ≡ arcHere u a ∷ [] =
+    ap (leaving u) (sym (plain-left edges (a .edge))) ∙ (g .arc h ∙ rw (ne-eqb (a .cost) noWalk (λ z. omega arith))) in
+    record {
+      cursor = g .cursor;
+      inside = g .inside;
+      arc = λ l. left-leaving (holds (linesIn lines) (a .edge)) e s u (record { from = u; to = a .to; cost = s } ∷ []) r
+          (λ d. recost u e (a .to) (a .cost) s plain);
+      ended = λ l. absurd (omega arith);
+      low = λ d. left-low (holds (linesIn lines) (a .edge)) e s r d (end .limit);
+    }
+
+-- An edge between two nodes.
+pub two-ends : {n : ℕ} {e : Edge} → Fine n e → 2 ≤ n
+two-ends {n} {e} f = let z : ¬ (e .first ≡ e .second) = f .apart in omega (arith, f .first-in, f .second-in, z)
+
+-- What is known of the edge that a cursor has found.
+pub end-at : (edges closed lines : Bytes) (n : ℕ) (w : List ℕ) (u : ℕ) (c : Cursor) → EdgesUnder edges closed lines n w → Valid edges closed n w u c
+    → c .edge < edgeCount edges → EndAt edges lines u (c .edge)
+end-at edges closed lines n w u c g v l =
+    let o = v .here l in
+    record { end = o .end; limit = not-slow edges closed lines (g .quick) (c .edge) l (o .unclosed) }
+
+-- ---- where a sheet may close edges
+
+-- What is left is read where the cursor stands.
+pub own-left : (edges lines : Bytes) (n u : ℕ) (c : Cursor) (a : ArcAt) → LeftAt edges lines n u c a → LeftAt edges lines n u (cursorOf a) a
+own-left edges lines n u c a g = subst (λ (z : Cursor). LeftAt edges lines n u z a) (sym (g .cursor)) g
+
+pub at-own : (edges closed lines : Bytes) (n : ℕ) (w : List ℕ) (u : ℕ) (b c : Cursor) (a : ArcAt) → Stepped edges closed n w u b c → LeftAt edges lines n u c a
+    → Stepped edges closed n w u b (cursorOf a) × LeftAt edges lines n u (cursorOf a) a
+at-own edges closed lines n w u b c a s g = subst (λ (z : Cursor). Stepped edges closed n w u b z × LeftAt edges lines n u z a) (sym (g .cursor)) (s, g)
+
+module _ (edges lines : Bytes) (n u : ℕ) (a : ArcAt) (g : LeftAt edges lines n u (cursorOf a) a) where
+  -- Nothing is left: the cursor has found an edge.
+  pub shut-edge : a .cost ≡ noWalk → a .edge < edgeCount edges
+  shut-edge z = pick (decLt (a .edge) (edgeCount edges))
+    where
+      pick : Dec (a .edge < edgeCount edges) → a .edge < edgeCount edges
+      pick (yes h) = h
+      pick (no h) = absurd (omega (arith, g .ended (omega arith) .1))
+
+  shut-none : a .cost ≡ noWalk → leaving u (arcsLeft edges lines (a .edge)) ≡ []
+  shut-none z = g .arc (shut-edge z) ∙ rw (eq-eqb (a .cost) noWalk z)
+
+  -- The arc is left.
+  left-found : (a .cost ≡ noWalk → ⊥) → Found edges lines n u a
+  left-found d = record {
+    inside = g .inside;
+    arc = λ h. g .arc h ∙ rw (ne-eqb (a .cost) noWalk d);
+    ended = λ h. g .ended h .0;
+    low = g .low d;
+  }
+
+  module _ (closed : Bytes) (w : List ℕ) where
+    pub skip-more : (c : Cursor) → SkippedTo edges closed lines n w u c (cursorOf a) → a .cost ≡ noWalk
+        → (c′ : Cursor) → Stepped edges closed n w u (cursorOf a) c′ → SkippedTo edges closed lines n w u c c′
+    skip-more c k z c′ s = record {
+      valid = s .valid;
+      passing = λ over p. let r = k .passing over p in (
+        r .0 ++ a .edge ∷ [],
+        s .passing (r .0) (r .1),
+        over-more edges lines u (r .0) (a .edge) ∙ ap (λ (l : List Arc). arcsOver edges lines u (r .0) ++ l) (shut-none z)
+            ∙ append-nil (arcsOver edges lines u (r .0)) ∙ r .2,
+      );
+      less = omega (arith, s .less, k .less);
+    }
+
+    pub first-arc : (c : Cursor) → SkippedTo edges closed lines n w u c (cursorOf a) → (a .cost ≡ noWalk → ⊥)
+        → FirstArc edges closed lines n w u c a
+    first-arc c k d = record { skipped = k; found = left-found d }
+
+pub skip-none : (edges closed lines : Bytes) (n : ℕ) (w : List ℕ) (u : ℕ) (c : Cursor) → Valid edges closed n w u c
+    → SkippedTo edges closed lines n w u c c
+skip-none edges closed lines n w u c v = record { valid = v; passing = λ over p. (over, p, refl); less = omega arith }
+
+-- What is left was read at c.
+module _ (edges closed lines : Bytes) (n : ℕ) (w : List ℕ) (u : ℕ) (c : Cursor) (a : ArcAt) (g : LeftAt edges lines n u c a) where
+  pub own-valid : Valid edges closed n w u c → Valid edges closed n w u (cursorOf a)
+  own-valid v = subst (λ (z : Cursor). Valid edges closed n w u z) (sym (g .cursor)) v
+
+  pub first-arc-here : Valid edges closed n w u c → (a .cost ≡ noWalk → ⊥) → FirstArc edges closed lines n w u c a
+  first-arc-here v d =
+      subst (λ (z : Cursor). FirstArc edges closed lines n w u z a) (g .cursor)
+      (first-arc edges lines n u a (own-left edges lines n u c a g) closed w (cursorOf a)
+      (skip-none edges closed lines n w u (cursorOf a) (own-valid v)) d)
+
+  pub first-arc-from : (b : ArcAt) → FirstArc edges closed lines n w u (cursorOf a) b → FirstArc edges closed lines n w u c b
+  first-arc-from b f = subst (λ (z : Cursor). FirstArc edges closed lines n w u z b) (g .cursor) f
+
+-- ---- what is passed
+module _ (edges closed lines : Bytes) (n : ℕ) (w : List ℕ) (u : ℕ) (a : ArcAt) (f : Found edges lines n u a) where
   pub found-edge : a .to < n → a .edge < edgeCount edges
   found-edge l = pick (decLt (a .edge) (edgeCount edges))
     where
@@ -90,15 +300,13 @@ module _ (edges closed : Bytes) (n : ℕ) (w : List ℕ) (u : ℕ) (a : ArcAt) (
       pick (no h) = omega arith
 
   module _ (over : List ℕ) (p : PassedEdges edges closed n w u over (cursorOf a)) where
-    leaves-here : a .to < n → List·Memᴰ (arcHere u a) (leaving u (arcsIn edges closed))
-    unfolding leaving
+    leaves-here : a .to < n → List·Memᴰ (arcHere u a) (leaving u (arcsUnder edges closed lines))
     leaves-here l =
         let h = found-edge l in
-        let j = a .edge in
-        let m = filter→ (leaves u) (arcsOf (edge edges j)) (subst (λ (z : List Arc). List·Memᴰ (arcHere u a) z) (sym (f .arc h)) (List·Memᴰ·head refl)) in
-        →filter (leaves u) (arcsIn edges closed) (open-arc edges closed u over j (arcHere u a) (p .valid .here h) (m .0)) (m .1)
+        left-arc edges closed u over lines (a .edge) (arcHere u a) (p .valid .here h)
+        (subst (λ (z : List Arc). List·Memᴰ (arcHere u a) z) (sym (f .arc h)) (List·Memᴰ·head refl))
 
-    passes : PassedArcs edges closed n w u (arcsOver edges u over) a
+    passes : PassedArcs edges closed lines n w u (arcsOver edges lines u over) a
     passes = record {
       over = over;
       passing = p;
@@ -107,25 +315,29 @@ module _ (edges closed : Bytes) (n : ℕ) (w : List ℕ) (u : ℕ) (a : ArcAt) (
       low = f .low;
       here = leaves-here;
       all = λ l x. let all = passing-all edges closed u over n w (cursorOf a) (found-end l) p in
-          (arcs-same→ edges closed u over all x, →arcs-same edges closed u over all x);
+          (arcs-same→ edges closed u over lines all x, →arcs-same edges closed u over lines all x);
     }
 
--- c is what the edge cursor has found, and a the arc as it was read there.
-module _ (edges closed : Bytes) (n : ℕ) (w : List ℕ) (u : ℕ) (c : Cursor) (a : ArcAt) (g : (cursorOf a ≡ c) × Found edges n u a) where
-  pub passes-first : PassedEdges edges closed n w u [] c → PassedArcs edges closed n w u [] a
-  unfolding arcsOver concatMap
-  passes-first p = passes edges closed n w u a (g .1) [] (subst (λ (z : Cursor). PassedEdges edges closed n w u [] z) (sym (g .0)) p)
+-- c is what the edge cursor has found, and a the first arc from there on.
+module _ (edges closed lines : Bytes) (n : ℕ) (w : List ℕ) (u : ℕ) (c : Cursor) (a : ArcAt) (g : FirstArc edges closed lines n w u c a) where
+  -- What was passed with c is passed with a.
+  from-edges : (over : List ℕ) → PassedEdges edges closed n w u over c → PassedArcs edges closed lines n w u (arcsOver edges lines u over) a
+  from-edges over p =
+      let r = g .skipped .passing over p in
+      subst (λ (z : List Arc). PassedArcs edges closed lines n w u z a) (r .2) (passes edges closed lines n w u a (g .found) (r .0) (r .1))
 
-  pub passes-next : (b : ArcAt) → Found edges n u b → b .to < n → Stepped edges closed n w u (cursorOf b) c → SteppedArc edges closed n w u b a
+  pub passes-first : PassedEdges edges closed n w u [] c → PassedArcs edges closed lines n w u [] a
+  unfolding arcsOver concatMap
+  passes-first p = from-edges [] p
+
+  pub passes-next : (b : ArcAt) → Found edges lines n u b → b .to < n → Stepped edges closed n w u (cursorOf b) c → SteppedArc edges closed lines n w u b a
   unfolding arcRank
-  passes-next b f l s = record { passes = more; less = rw (g .0) (s .less) }
+  passes-next b f l s = record { passes = more; less = omega (arith, g .skipped .less, s .less) }
     where
-      more : (done : List Arc) → PassedArcs edges closed n w u done b → PassedArcs edges closed n w u (done ++ arcHere u b ∷ []) a
+      more : (done : List Arc) → PassedArcs edges closed lines n w u done b → PassedArcs edges closed lines n w u (done ++ arcHere u b ∷ []) a
       more done p =
           let j = b .edge in
-          let e : arcsOver edges u (p .over ++ j ∷ []) ≡ done ++ arcHere u b ∷ [] =
-          over-more edges u (p .over) j ∙ ap (λ (z : List Arc). z ++ leaving u (arcsOf (edge edges j))) (sym (p .same))
-          ∙ ap (λ (z : List Arc). done ++ z) (f .arc (found-edge edges closed n w u b f l)) in
-          let on = p .over ++ j ∷ [] in
-          let q = subst (λ (z : Cursor). PassedEdges edges closed n w u on z) (sym (g .0)) (s .passing (p .over) (p .passing)) in
-          subst (λ (z : List Arc). PassedArcs edges closed n w u z a) e (passes edges closed n w u a (g .1) on q)
+          let e : arcsOver edges lines u (p .over ++ j ∷ []) ≡ done ++ arcHere u b ∷ [] =
+          over-more edges lines u (p .over) j ∙ ap (λ (z : List Arc). z ++ leaving u (arcsLeft edges lines j)) (sym (p .same))
+          ∙ ap (λ (z : List Arc). done ++ z) (f .arc (found-edge edges closed lines n w u b f l)) in
+          subst (λ (z : List Arc). PassedArcs edges closed lines n w u z a) e (from-edges (p .over ++ j ∷ []) (s .passing (p .over) (p .passing)))

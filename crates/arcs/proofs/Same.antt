@@ -1,16 +1,21 @@
--- The edges that a cursor has passed, at the end, are the open edges at the node, and their arcs are those that leave it. Assumes nothing.
+-- The edges that a cursor has passed, at the end, are the open edges at the node, and the arcs of what the lines leave of them are those that leave it.
+-- Assumes nothing.
 use Prim.Native.Nat.{ℕ, _≤_}
 use native.Mathlib.Omega.{arith}
-use mathlib.Core.Path.{_≡_, sym, ap, _∙_, subst}
+use mathlib.Core.Path.{_≡_, sym, ap, _∙_}
 use mathlib.Core.List.{List, List·Memᴰ, List·Memᴰ·not-nil, List·Memᴰ·cases-cons}
 use mathlib.Core.Logic.{_⊎_, inl, inr, ⊎-elim}
 use borrow.Author.Tests.{eqb-true}
-use Rattle.model.specs.Lists.{filter, concatMap, upTo}
+use Rattle.model.specs.Lists.{concatMap}
 use Rattle.model.specs.Bytes.{Bytes, words16}
 use Rattle.model.specs.Walk.{Arc}
-use Rattle.model.specs.Network.{Edge, edge, edgeCount, isOpen, openEdges, arcsOf}
-use Rattle.theory.specs.Members.{filter→, →filter, map→, →map, concatMap→, →concatMap, →upTo, range→}
-use Rattle.arcs.specs.Arcs.{arcsIn, leaves, leaving}
+use Rattle.model.specs.Network.{Edge, edge, edgeCount, arcsOf}
+use Rattle.theory.specs.Members.{filter→, →filter, concatMap→, →concatMap}
+use Rattle.sheet.specs.Sheet.{Effect, linesIn, holds}
+use Rattle.sheet.specs.Under.{leftOf, edgesUnder}
+use Rattle.sheet.specs.ArcsUnder.{leftUnder, arcsUnder, arcsLeft}
+use Rattle.sheet.proofs.Ground.{left→, under→, →under}
+use Rattle.arcs.specs.Arcs.{leaves, leaving}
 use Rattle.index.specs.Index.{OpenAt}
 use Rattle.arcs.specs.declared.cursor.Cursor.{Cursor}
 use Rattle.arcs.specs.Cursor.{PassedEdges}
@@ -21,6 +26,15 @@ pub record AllOf (edges closed : Bytes) (u : ℕ) (done : List ℕ) : Type 0 whe
   pub real : (j : ℕ) → List·Memᴰ j done → OpenAt edges closed u j
   pub full : (j : ℕ) → OpenAt edges closed u j → List·Memᴰ j done
 
+-- The edge of an arc that leaves u has an end there.
+end-there : (u : ℕ) (e : Edge) (a : Arc) → List·Memᴰ a (arcsOf e) → a .from ≡ u → (e .first ≡ u) ⊎ (e .second ≡ u)
+unfolding arcsOf
+end-there u e a m q =
+    ⊎-elim
+    (λ p. inl (sym (ap (λ (x : Arc). x .from) p) ∙ q))
+    (λ k. ⊎-elim (λ p. inr (sym (ap (λ (x : Arc). x .from) p) ∙ q)) (λ z. absurd (List·Memᴰ·not-nil z)) (List·Memᴰ·cases-cons k))
+    (List·Memᴰ·cases-cons m)
+
 module _ (edges closed : Bytes) (u : ℕ) (done : List ℕ) where
   pub passing-all : (n : ℕ) (w : List ℕ) (c : Cursor) → edgeCount edges ≤ c .edge → PassedEdges edges closed n w u done c → AllOf edges closed u done
   passing-all n w c h p = record {
@@ -29,40 +43,37 @@ module _ (edges closed : Bytes) (u : ℕ) (done : List ℕ) where
         (λ r. ⊎-elim (λ e. absurd (omega (arith, o .below))) (λ a. absurd (p .valid .over h j a)) r) (p .full j o);
   }
 
-  -- The edge of an arc that leaves u has an end there.
-  end-there : (j : ℕ) (a : Arc) → List·Memᴰ a (arcsOf (edge edges j)) → a .from ≡ u → (edge edges j .first ≡ u) ⊎ (edge edges j .second ≡ u)
-  unfolding arcsOf
-  end-there j a m e =
-      ⊎-elim
-      (λ p. inl (sym (ap (λ (x : Arc). x .from) p) ∙ e))
-      (λ k. ⊎-elim (λ p. inr (sym (ap (λ (x : Arc). x .from) p) ∙ e)) (λ z. absurd (List·Memᴰ·not-nil z)) (List·Memᴰ·cases-cons k))
-      (List·Memᴰ·cases-cons m)
+  module _ (lines : Bytes) where
+    abbrev effect : ℕ → Effect
+    effect = holds (linesIn lines)
 
-  -- The arcs of an open edge are arcs of the network.
-  pub open-arc : (j : ℕ) (a : Arc) → OpenAt edges closed u j → List·Memᴰ a (arcsOf (edge edges j)) → List·Memᴰ a (arcsIn edges closed)
-  unfolding arcsIn openEdges
-  open-arc j a o m =
-      let e = →map (edge edges) (filter (isOpen (words16 closed)) (upTo (edgeCount edges)))
-      (→filter (isOpen (words16 closed)) (upTo (edgeCount edges)) (→upTo (edgeCount edges) j (o .below)) (o .unclosed)) in
-      →concatMap arcsOf (openEdges edges (words16 closed)) e m
+    abbrev under : List Edge
+    under = edgesUnder effect edges (words16 closed)
 
-  module _ (all : AllOf edges closed u done) (a : Arc) where
-    pub arcs-same→ : List·Memᴰ a (arcsOver edges u done) → List·Memᴰ a (leaving u (arcsIn edges closed))
-    unfolding arcsOver leaving
-    arcs-same→ m =
-        let (j, k, l) = concatMap→ (λ j. leaving u (arcsOf (edge edges j))) done m in
-        let o = all .real j k in
-        let f = filter→ (leaves u) (arcsOf (edge edges j)) l in
-        →filter (leaves u) (arcsIn edges closed) (open-arc j a o (f .0)) (f .1)
+    -- What is left of an open edge at u is in the network that the lines leave.
+    pub left-arc : (j : ℕ) (a : Arc) → OpenAt edges closed u j → List·Memᴰ a (leaving u (arcsLeft edges lines j))
+        → List·Memᴰ a (leaving u (arcsUnder edges closed lines))
+    unfolding leaving arcsLeft arcsUnder leftUnder
+    left-arc j a o l =
+        let f = filter→ (leaves u) (arcsLeft edges lines j) l in
+        let (e, p, q) = concatMap→ arcsOf (leftOf effect edges j) (f .0) in
+        →filter (leaves u) (concatMap arcsOf under)
+        (→concatMap arcsOf under (→under effect edges (words16 closed) (o .below) (o .unclosed) p) q) (f .1)
 
-    pub →arcs-same : List·Memᴰ a (leaving u (arcsIn edges closed)) → List·Memᴰ a (arcsOver edges u done)
-    unfolding arcsOver leaving arcsIn openEdges leaves
-    →arcs-same m =
-        let f = filter→ (leaves u) (concatMap arcsOf (openEdges edges (words16 closed))) m in
-        let (e, k, l) = concatMap→ arcsOf (openEdges edges (words16 closed)) (f .0) in
-        let (j, p, q) = map→ (edge edges) (filter (isOpen (words16 closed)) (upTo (edgeCount edges))) k in
-        let g = filter→ (isOpen (words16 closed)) (upTo (edgeCount edges)) p in
-        let r = range→ 0 (edgeCount edges) j (g .0) in
-        let b : List·Memᴰ a (arcsOf (edge edges j)) = subst (λ (z : Edge). List·Memᴰ a (arcsOf z)) q l in
-        let o : OpenAt edges closed u j = record { below = omega (arith, r .1); unclosed = g .1; end = end-there j a b (eqb-true (a .from) u (f .1)) } in
-        →concatMap (λ j. leaving u (arcsOf (edge edges j))) done (all .full j o) (→filter (leaves u) (arcsOf (edge edges j)) b (f .1))
+    module _ (all : AllOf edges closed u done) (a : Arc) where
+      pub arcs-same→ : List·Memᴰ a (arcsOver edges lines u done) → List·Memᴰ a (leaving u (arcsUnder edges closed lines))
+      unfolding arcsOver
+      arcs-same→ m = let (j, k, l) = concatMap→ (λ j. leaving u (arcsLeft edges lines j)) done m in left-arc j a (all .real j k) l
+
+      pub →arcs-same : List·Memᴰ a (leaving u (arcsUnder edges closed lines)) → List·Memᴰ a (arcsOver edges lines u done)
+      unfolding arcsOver leaving arcsLeft arcsUnder leftUnder leaves leftOf
+      →arcs-same m =
+          let f = filter→ (leaves u) (concatMap arcsOf under) m in
+          let (e, k, l) = concatMap→ arcsOf under (f .0) in
+          let (j, h, open-one, q) = under→ effect edges (words16 closed) k in
+          let (n, _, z) = left→ (effect j) (edge edges j) q in
+          let end : (edge edges j .first ≡ u) ⊎ (edge edges j .second ≡ u) =
+          rw z at (end-there u e a l (eqb-true (a .from) u (f .1))) in
+          let o : OpenAt edges closed u j = record { below = h; unclosed = open-one; end = end } in
+          →concatMap (λ j. leaving u (arcsLeft edges lines j)) done (all .full j o)
+          (→filter (leaves u) (arcsLeft edges lines j) (→concatMap arcsOf (leftOf effect edges j) q l) (f .1))

@@ -17,11 +17,11 @@ use Rattle.arcs.specs.Cursor.{After, Valid, PassedEdges, Stepped, rank}
 use Rattle.arcs.specs.Seeking.{ending, AtEntry, From, Seeking, FoundFrom}
 
 -- ---- members of a list with one more
-pub mem-left : {x : ℕ} (xs ys : List ℕ) → List·Memᴰ x xs → List·Memᴰ x (xs ++ ys)
+mem-left : {x : ℕ} (xs ys : List ℕ) → List·Memᴰ x xs → List·Memᴰ x (xs ++ ys)
 mem-left (y ∷ xs) ys (List·Memᴰ·head e) = List·Memᴰ·head e
 mem-left (y ∷ xs) ys (List·Memᴰ·tail m) = List·Memᴰ·tail (mem-left xs ys m)
 
-pub mem-last : (x : ℕ) (xs : List ℕ) → List·Memᴰ x (xs ++ x ∷ [])
+mem-last : (x : ℕ) (xs : List ℕ) → List·Memᴰ x (xs ++ x ∷ [])
 mem-last x [] = List·Memᴰ·head refl
 mem-last x (y ∷ xs) = List·Memᴰ·tail (mem-last x xs)
 
@@ -101,7 +101,7 @@ module _ (edges closed : Bytes) (n : ℕ) (w : List ℕ) (u : ℕ) (roads : Inde
         less = unfold rank in omega (arith, suc-mul (next ix p) (edgeCount edges + 1), mul-le-mul-right (edgeCount edges + 1) next-down);
       }
 
-    pub sought-listed : (c : Cursor) → AtEntry edges n ix (c₀ .link) c → FoundFrom edges closed n w u c₀ c
+    sought-listed : (c : Cursor) → AtEntry edges n ix (c₀ .link) c → FoundFrom edges closed n w u c₀ c
     sought-listed c l = pick (decLt (c₀ .link) n)
       where
         pick : Dec (c₀ .link < n) → FoundFrom edges closed n w u c₀ c

@@ -4,14 +4,14 @@ use native.Mathlib.Omega.{arith}
 use mathlib.Core.Path.{_≡_, sym, _∙_, ap, subst}
 use mathlib.Core.Logic.{_↔_}
 use mathlib.Core.Bool.{true}
-use mathlib.Core.List.{List, [], _++_, map, List·Memᴰ}
+use mathlib.Core.List.{List, [], map, List·Memᴰ}
 use lib.ListN.{length, getD, drop, length-take, length-drop}
 use borrow.Author.Tests.{ne-eqb, eqb-true, leb-false}
 use Rattle.model.specs.Lists.{Part, concatMap, indexOf}
 use Rattle.model.specs.Bytes.{Bytes, bytes16, words16, cut}
 use Rattle.model.specs.Contents.{body, bodyPart, nodeBody, edgeBody, closedBody, gridBody, transitBody, accessBody, tableBody}
 use Rattle.model.specs.Walk.{Walk, Least}
-use Rattle.model.specs.Distance.{Distance, unreachable, finite, IsLeast}
+use Rattle.model.specs.Distance.{IsLeast}
 use Rattle.model.specs.Network.{network, nodeCount, order, arcs, distance}
 use Rattle.model.specs.Grid.{Cell, division}
 use Rattle.model.specs.Access.{accessNodes}
@@ -36,7 +36,7 @@ use Rattle.theory.specs.FarModel.{exact}
 use Rattle.theory.specs.AccessLaws.{AccessNode, access-exact}
 use Rattle.theory.specs.Transit.{allCells, transit-all}
 use Rattle.theory.specs.Firsts.{split}
-use Rattle.theory.specs.Passed.{Sound, all-passed, all-shaped, shape-counted}
+use Rattle.theory.specs.Passed.{all-passed, all-shaped, shape-counted}
 use Rattle.theory.specs.Sound.{ends, count-nodes}
 use Rattle.theory.specs.Accepted.{good, g-above}
 use Rattle.theory.specs.Built as built
@@ -44,9 +44,11 @@ use Rattle.theory.specs.WellShaped as shape
 use Rattle.theory.specs.Audits as audits
 use Rattle.theory.specs.Times as times
 use Rattle.theory.specs.BuiltCalls as calls
+use Rattle.theory.specs.NetWays.{Sane}
 use Rattle.theory.specs.Ways as ways
 use Rattle.demands.specs.Outcomes.{FirstOf, Refuses, handed, FarCells, cellIn, pairsTried, Answers, FarSum, Agree, WayWritten}
 use Rattle.demands.specs.CallLaws as laws
+use Rattle.demands.specs.Written as written
 use Rattle.demands.specs.AnswerLaws.{answers, kind-answers, time-answers, least-of, far-cells}
 use Rattle.demands.specs.FarSums.{far-least-sum}
 use Rattle.demands.specs.FarBodies.{one-far-answer, far-body-answer, kind-alike}
@@ -158,11 +160,11 @@ module _ (o : Bytes) (shaped : wellShaped o ≡ true) where
       result : route ≡ routeAfter 0 (way (network o) s t)
       result = query .result ∙ rw kept
 
-      written : room′ ≡ concatMap bytes16 (way (network o) s t) ++ drop (length (concatMap bytes16 (way (network o) s t))) room
-      written = query .bytes ∙ rw kept (laws.bytes-done (concatMap bytes16 (way (network o) s t)) room)
+      bytes : room′ ≡ outputAfter 0 (concatMap bytes16 (way (network o) s t)) room
+      bytes = query .bytes ∙ rw kept
 
-      sound : Sound o
-      sound = all-shaped o shaped .sound
+      sane : Sane (network o)
+      sane = ways.sane o (all-shaped o shaped .sound)
 
       below : t < order (network o)
       below = rw (count-nodes o) ht
@@ -171,27 +173,13 @@ module _ (o : Bytes) (shaped : wellShaped o ≡ true) where
       way-succeeds = ap (λ (r : Route). r .rule) result ∙ laws.route-rule 0 (way (network o) s t)
 
       pub way-least : (n : ℕ) → Least (arcs (network o)) s t n → WayWritten (arcs (network o)) s t n room route room′
-      way-least n l =
-          let (w, e) = ways.way-least o sound t below l in
-          record {
-            walk = w;
-            least = l .least;
-            nodes = ap (λ (r : Route). r .nodes) result ∙ (unfold routeAfter in ap length (sym e));
-            bytes = rw e written;
-            first = λ v. rw e (ways.way-earliest o sound t below l v);
-          }
+      way-least = written.way-least (network o) sane s t below result bytes
 
       pub way-first : {m : ℕ} → Walk (arcs (network o)) s t m → (n : ℕ) × WayWritten (arcs (network o)) s t n room route room′
-      way-first {m} w = step (distance (network o) s t) (ways.to o sound t below s)
-        where
-          step : (d : Distance) → IsLeast (Walk (arcs (network o)) s t) d → (n : ℕ) × WayWritten (arcs (network o)) s t n room route room′
-          step unreachable h = absurd (h m w)
-          step (finite n) h = (n, way-least n h)
+      way-first = written.way-first (network o) sane s t below result bytes
 
       pub way-none : ((n : ℕ) → Walk (arcs (network o)) s t n → ⊥) → (route .nodes ≡ 0) × (room′ ≡ room)
-      way-none h =
-          let e = ways.way-empty o sound t below h in
-          (ap (λ (r : Route). r .nodes) result ∙ (unfold routeAfter in ap length e), written ∙ (unfold concatMap in rw e))
+      way-none = written.way-none (network o) sane s t below result bytes
 
       pub way-local : {others others′ : List ℕ} {a : Answer} → TimeCall o s t others a others′ → wordsNeeded o ≤ length others → kindBetween o s t ≡ Local
           → {n pairs : ℕ} {kind : Kind} → a ≡ Time n kind pairs → WayWritten (arcs (network o)) s t n room route room′
@@ -312,14 +300,14 @@ module _ {f : Bytes} {dv : Division} {work work′ : List ℕ} {out out′ : Byt
   pub handed-shape : wellShaped o ≡ true
   handed-shape = rw handed-is (shape.built-well-shaped f dv ok)
 
-  handed-count : nodeCount (nodeBody o) ≡ N
+  pub handed-count : nodeCount (nodeBody o) ≡ N
   handed-count = ap nodeCount (built-own .0)
 
-  handed-words : wordsNeeded o ≡ wordsNeeded f
+  pub handed-words : wordsNeeded o ≡ wordsNeeded f
   unfolding wordsNeeded
   handed-words = ap workWords handed-count
 
-  handed-network : network o ≡ network f
+  pub handed-network : network o ≡ network f
   handed-network = rw handed-is (built.same-network f dv (good f dv (all-passed f dv ok)))
 
   pub list-succeeds : (u : ℕ) → u < N → listRefusal o u ≡ 0
@@ -332,7 +320,7 @@ module _ {f : Bytes} {dv : Division} {work work′ : List ℕ} {out out′ : Byt
     pub kind-built : (kindBetween o s t ≡ Far) ↔ FarCells (cellIn f dv s) (cellIn f dv t)
     kind-built = rw (handed-is, built.same-kind f dv (good f dv (all-passed f dv ok)) s t) (far-cells dv (network f .nodes) (cellIn f dv s) (cellIn f dv t))
 
-    least : IsLeast (Walk (arcs (network f)) s t) (distanceOf (timeAnswer o s t))
+    pub least : IsLeast (Walk (arcs (network f)) s t) (distanceOf (timeAnswer o s t))
     least = rw handed-is (times.time-least f dv ok s t (below-order hs) (below-order ht))
 
     pub time-built : {words words′ : List ℕ} {a : Answer} → TimeCall o s t words a words′ → wordsNeeded f ≤ length words

@@ -1,5 +1,6 @@
 pub mod Outcomes
 pub mod CallLaws
+pub mod Written
 pub mod FarSums
 pub mod FarBodies
 pub mod AnswerLaws

@@ -23,7 +23,7 @@ use Rattle.marks.specs.Ordered.{Ordered}
 
 -- ---- a node is due for a reason
 module _ (arcs : List Arc) (times want marks : List ℕ) (v : ℕ) where
-  pub due→ : due arcs times want marks v ≡ true → Reason arcs (at times) (Flagged want) marks v
+  due→ : due arcs times want marks v ≡ true → Reason arcs (at times) (Flagged want) marks v
   unfolding due leading
   due→ h = pick (ltb 0 (at want v)) refl h
     where
@@ -35,7 +35,7 @@ module _ (arcs : List Arc) (times want marks : List ℕ) (v : ℕ) where
           let q = both {b = ltb 0 (at marks (a .to))} (p .1) in
           onward a m (eqb-true _ _ (p .0)) (eqb-true _ _ (q .1)) (ltb-true _ _ (q .0))
 
-  pub →due : Reason arcs (at times) (Flagged want) marks v → due arcs times want marks v ≡ true
+  →due : Reason arcs (at times) (Flagged want) marks v → due arcs times want marks v ≡ true
   unfolding due leading
   →due (wanted g) = rw (lt-ltb 0 (at want v) g)
   →due (onward a m e t h) =
@@ -47,7 +47,7 @@ module _ (arcs : List Arc) (times want marks : List ℕ) (v : ℕ) where
 pub record Passing (arcs : List Arc) (n : ℕ) (times want order rest marks : List ℕ) : Type 0 where
   pub part : (v : ℕ) → List·Memᴰ v rest → List·Memᴰ v order
   pub ahead : Ordered n times rest
-  pub upto : Upto arcs times (Flagged want) order n rest marks
+  upto : Upto arcs times (Flagged want) order n rest marks
 
 module _ (arcs : List Arc) (n : ℕ) (times want order : List ℕ) where
   pass-first : Ordered n times order → Passing arcs n times want order order (replicate n 0)

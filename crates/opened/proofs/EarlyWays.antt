@@ -7,13 +7,15 @@ use mathlib.Core.List.{List, [], _∷_, map, List·Memᴰ, List·Memᴰ·head, L
 use mathlib.Core.Logic.{⊎-elim}
 use lib.Dec.{eqb}
 use borrow.Author.Tests.{eqb-true}
-use Rattle.model.specs.Lists.{filter, leastOf}
+use Rattle.model.specs.Lists.{any, filter, member, leastOf}
 use Rattle.model.specs.Walk.{Arc, Mem}
 use Rattle.model.specs.Distance.{Distance, finite, plus, agree}
 use Rattle.model.specs.Query.{nexts, onward, wayAfter}
 use Rattle.theory.specs.Tests.{both}
 use Rattle.theory.specs.Extremes.{leastOf-mem}
 use Rattle.theory.specs.Members.{map→, filter→}
+use Rattle.sheet.specs.Under.{stillDriven}
+use Rattle.way.proofs.Drives.{driving, some-drives}
 
 -- ---- a number is in a list or not
 pub in-list : (v : ℕ) (l : List ℕ) → Dec (List·Memᴰ v l)
@@ -30,6 +32,31 @@ filter-same : (f g : Arc → Bool) (es : List Arc) → ((a : Arc) → Mem a es �
 unfolding filter
 filter-same f g [] h = refl
 filter-same f g (a ∷ es) h = rw (h a (List·Memᴰ·head refl), filter-same f g es (λ x m. h x (List·Memᴰ·tail m)))
+
+-- Whether v is a next node of u goes by the distances of the two alone.
+module _ (d e : ℕ → Distance) where
+  and-false : (b : Bool) → b && false ≡ false
+  and-false true = refl
+  and-false false = refl
+
+  pub member-same : (es : List Arc) (u v : ℕ) → d u ≡ e u → d v ≡ e v → member v (nexts d es u) ≡ member v (nexts e es u)
+  unfolding any
+  member-same es u v p q = sym (some-drives d u v es) ∙ (each es ∙ some-drives e u v es)
+    where
+      one : (a : Arc) → driving d u v a ≡ driving e u v a
+      one a = pick (eqb v (a .to)) refl
+        where
+          pick : (b : Bool) → eqb v (a .to) ≡ b → driving d u v a ≡ driving e u v a
+          pick true z = let f : v ≡ a .to = eqb-true v (a .to) z in rw (← f, p, q)
+          pick false z = rw (
+            z,
+            and-false (eqb (a .from) u && agree (plus (finite (a .cost)) (d (a .to))) (d u)),
+            and-false (eqb (a .from) u && agree (plus (finite (a .cost)) (e (a .to))) (e u)),
+          )
+
+      each : (es : List Arc) → any (driving d u v) es ≡ any (driving e u v) es
+      each [] = refl
+      each (a ∷ es) = rw (one a, each es)
 
 -- d and e agree on the settled nodes, and by neither does a tight arc lead from a settled node to another.
 module _ (es : List Arc) (d e : ℕ → Distance) (settled : List ℕ) where
@@ -84,3 +111,19 @@ module _ (es : List Arc) (d e : ℕ → Distance) (settled : List ℕ) where
             → onward l (λ v. v ∷ wayAfter d es left v) ≡ onward l (λ v. v ∷ wayAfter e es left v)
         pick [] h go = refl
         pick (v ∷ vs) h go = ap (λ (w : List ℕ). leastOf v vs ∷ w) (go (leastOf v vs) (h (leastOf v vs) r (leastOf-mem v vs)))
+
+    -- Its steps are driven alike, over any arcs.
+    pub driven-same : (new : List Arc) (left u : ℕ) → List·Memᴰ u settled
+        → stillDriven d new (u ∷ wayAfter d es left u) ≡ stillDriven e new (u ∷ wayAfter e es left u)
+    unfolding wayAfter onward stillDriven
+    driven-same new zero u r = refl
+    driven-same new (suc left) u r = rw (nexts-same u r) (pick (nexts e es u) (next-settled u) (λ v k. driven-same new left v k))
+      where
+        pick : (l : List ℕ) → ((v : ℕ) → List·Memᴰ u settled → List·Memᴰ v l → List·Memᴰ v settled)
+            → ((v : ℕ) → List·Memᴰ v settled → stillDriven d new (v ∷ wayAfter d es left v) ≡ stillDriven e new (v ∷ wayAfter e es left v))
+            → stillDriven d new (u ∷ onward l (λ v. v ∷ wayAfter d es left v)) ≡ stillDriven e new (u ∷ onward l (λ v. v ∷ wayAfter e es left v))
+        pick [] h go = refl
+        pick (v ∷ vs) h go =
+            let w = leastOf v vs in
+            let k = h w r (leastOf-mem v vs) in
+            rw (member-same d e new u w (same u r) (same w k)) (ap (λ (b : Bool). member w (nexts e new u) && b) (go w k))

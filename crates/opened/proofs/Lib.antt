@@ -1,8 +1,9 @@
 -- The laws that the proofs cite; those of `pub` modules are for callers too.
 pub mod SearchWords
 pub mod OpenLaws
+pub mod Routes
 mod GridWords
 mod EarlyWays
-mod StoppedWays
-mod WayLaws
+pub mod StoppedWays
+pub mod WayLaws
 mod WayNodes

@@ -2,14 +2,14 @@
 use Prim.Native.Nat.{ℕ, _+_, _≤_, _<_}
 use native.Mathlib.Nat.{add-zero}
 use native.Mathlib.Omega.{arith}
-use mathlib.Core.Path.{_≡_, sym, ap, _∙_}
-use mathlib.Core.Bool.{true, false}
+use mathlib.Core.Path.{_≡_, sym, ap, _∙_, subst}
+use mathlib.Core.Bool.{true}
 use mathlib.Core.List.{List}
 use lib.ListN.{length, getD, set, take, drop, replicate, length-set, length-replicate}
 use lib.Seq.{getD-take, getD-drop, getD-set-same}
 use Rattle.model.specs.Bytes.{Bytes}
 use Rattle.model.specs.Contents.{nodeBody, edgeBody, closedBody}
-use Rattle.model.specs.Network.{maxNodes, nodeCount, someEdgeBroken}
+use Rattle.model.specs.Network.{maxNodes, nodeCount}
 use Rattle.model.specs.Rules.{wellShaped, wordsNeeded, workWords}
 use Rattle.model.specs.Walk.{Arc}
 use Rattle.model.specs.Distance.{dist}
@@ -18,16 +18,16 @@ use Rattle.theory.specs.Passed.{all-shaped}
 use Rattle.theory.specs.Sound.{node-bytes}
 use Rattle.algorithms.specs.Stops.{Stopped, lacking, lacking-all, nonzeros-one}
 use Rattle.bitset.specs.Bits.{setWords, flags}
-use Rattle.words.specs.Regions.{regionAt, regionFlags, timesIn, want, wantIn, indexAt, gridAt, searchWords}
+use Rattle.words.specs.Regions.{regionAt, regionFlags, timesIn, want, wantIn, indexAt, gridAt, gridWords, spansAt, spanCount, searchWords}
 use Rattle.words.specs.Times.{time}
 use Rattle.index.specs.Index.{IndexedEdges}
 use Rattle.index.proofs.Laid.{roads-kept}
 use Rattle.checks.specs.Grids.{oracleGrid}
 use Rattle.checks.proofs.RulesKept.{some-node}
-use Rattle.words.specs.Frames.{Only, KeptFrom}
+use Rattle.words.specs.Frames.{Only, OnlyIn, KeptFrom}
 use Rattle.words.proofs.Stays.{kept-more}
 use Rattle.words.proofs.TimeLaws.{time-at}
-use Rattle.opened.specs.Opened.{gridIn, Opened}
+use Rattle.opened.specs.Opened.{gridIn, Opened, Stays}
 
 -- ---- the words of the grid
 module _ (n : ℕ) (w w′ : List ℕ) where
@@ -39,13 +39,12 @@ module _ (n : ℕ) (w w′ : List ℕ) where
   pub grid-behind : KeptFrom (gridAt n) w w′ → gridIn n w′ ≡ gridIn n w
   grid-behind e = same-grid (λ i h. sym (getD-drop (gridAt n) w′ i 0) ∙ (ap (λ (l : List ℕ). getD l i 0) e ∙ getD-drop (gridAt n) w i 0))
 
-  pub grid-before : 0 < n → take (indexAt n) w′ ≡ take (indexAt n) w → gridIn n w′ ≡ gridIn n w
-  grid-before p e = same-grid (λ i h.
-      sym (getD-take (indexAt n) w′ (gridAt n + i) 0 (omega arith)) ∙ (ap (λ (l : List ℕ). getD l (gridAt n + i) 0) e
-      ∙ getD-take (indexAt n) w (gridAt n + i) 0 (omega arith)))
+  pub grid-before : (a : ℕ) → gridAt n + gridWords ≤ a → take a w′ ≡ take a w → gridIn n w′ ≡ gridIn n w
+  grid-before a p e = same-grid (λ i h.
+      sym (getD-take a w′ (gridAt n + i) 0 (omega arith)) ∙ (ap (λ (l : List ℕ). getD l (gridAt n + i) 0) e ∙ getD-take a w (gridAt n + i) 0 (omega arith)))
 
 -- The index stands behind the grid.
-pub roads-behind : (eb cb : Bytes) (n : ℕ) (w w′ : List ℕ) → KeptFrom (gridAt n) w w′ → IndexedEdges eb cb n w → IndexedEdges eb cb n w′
+roads-behind : (eb cb : Bytes) (n : ℕ) (w w′ : List ℕ) → KeptFrom (gridAt n) w w′ → IndexedEdges eb cb n w → IndexedEdges eb cb n w′
 roads-behind eb cb n w w′ e r = roads-kept eb cb n w w′ (kept-more (gridAt n) (indexAt n) w w′ (omega arith) e) r
 
 -- ---- an opened oracle
@@ -70,7 +69,8 @@ module _ (o : Bytes) where
   module _ (w₀ w₁ w₂ : List ℕ) (p : 0 < n) (long : length w₂ ≡ length w₀) (g : gridIn n w₁ ≡ oracleGrid o) (before : take (indexAt n) w₂ ≡ take (indexAt n) w₁)
     where
       pub opened-made : wellShaped o ≡ true → wordsNeeded o ≤ length w₀ → IndexedEdges (edgeBody o) (closedBody o) n w₂ → Opened o w₂
-      opened-made shape room roads = record { shape = shape; room = omega (arith, room, long); grid = grid-before n w₁ w₂ p before ∙ g; roads = roads }
+      opened-made shape room roads = record
+          { shape = shape; room = omega (arith, room, long); grid = grid-before n w₁ w₂ (indexAt n) (omega arith) before ∙ g; roads = roads }
 
   pub opened-rest : (w₀ w₁ w₂ : List ℕ) → 0 < n → KeptFrom (gridAt n + 4) w₀ w₁ → KeptFrom (workWords n) w₁ w₂ → KeptFrom (wordsNeeded o) w₀ w₂
   unfolding wordsNeeded
@@ -87,20 +87,36 @@ module _ (o : Bytes) (m : ℕ) (e : m ≡ nodeCount (nodeBody o)) (eb cb : Bytes
   )
 
 -- ---- what stays of an opened oracle after an answer
-pub record Stays (o : Bytes) (w w′ : List ℕ) : Type 0 where
-  pub opened : Opened o w′
-  pub rest : KeptFrom (wordsNeeded o) w w′
-
 pub stays : (o : Bytes) (w w′ : List ℕ) → Opened o w → length w′ ≡ length w
     → KeptFrom (gridAt (nodeCount (nodeBody o))) w w′ → Stays o w w′
 stays o w w′ h l e = record { opened = opened-kept o w w′ h l e; rest = others-rest o w w′ (some-node o (h .shape)) e }
+
+pub stays-then : (o : Bytes) (w₀ w₁ w₂ : List ℕ) → Stays o w₀ w₁ → Stays o w₁ w₂ → Stays o w₀ w₂
+stays-then o w₀ w₁ w₂ p q = record { opened = q .opened; rest = q .rest ∙ p .rest }
+
+-- The spans stand between the grid and the index.
+pub stays-noted : (o : Bytes) (w w′ : List ℕ) → Opened o w → 2 ≤ nodeCount (nodeBody o) → length w′ ≡ length w
+    → OnlyIn (spansAt (nodeCount (nodeBody o))) (spanCount (nodeCount (nodeBody o))) w w′ → Stays o w w′
+unfolding wordsNeeded
+stays-noted o w w′ h two l k =
+    let n = nodeCount (nodeBody o) in
+    let e : spansAt n + spanCount n ≡ indexAt n = omega arith in
+    let back : KeptFrom (indexAt n) w w′ = subst (λ (i : ℕ). KeptFrom i w w′) e (k .back) in
+    record {
+      opened = record {
+        shape = h .shape;
+        room = omega (arith, h .room, l);
+        grid = grid-before n w w′ (spansAt n) (omega arith) (k .front) ∙ h .grid;
+        roads = roads-kept (edgeBody o) (closedBody o) n w w′ back (h .roads);
+      };
+      rest = kept-more (indexAt n) (workWords n) w w′ (omega arith) back;
+    }
 
 -- ---- what a search asks for, of the bodies and the number of nodes as the code has them
 pub record Lent (o eb cb : Bytes) (m : ℕ) (w : List ℕ) : Type 0 where
   pub few : m ≤ maxNodes
   pub below : (u : ℕ) → u < nodeCount (nodeBody o) → u < m
   pub room : workWords m ≤ length w
-  pub edge : someEdgeBroken m eb ≡ false
   pub roads : IndexedEdges eb cb m w
 
 pub lent : (o : Bytes) (w : List ℕ) → Opened o w → (eb cb : Bytes) (m : ℕ) → eb ≡ edgeBody o → cb ≡ closedBody o → m ≡ nodeCount (nodeBody o)
@@ -112,7 +128,6 @@ lent o w h eb cb m p q e =
       few = omega (arith, node-bytes o sound .0, e);
       below = λ u l. omega (arith, e);
       room = omega (arith, h .room, e);
-      edge = rw (e, p) (sound .some-edge);
       roads = rw (e, p, q) (h .roads);
     }
 

@@ -2,13 +2,13 @@
 use Prim.Native.Nat.{ℕ, _<_}
 use native.Mathlib.Nat.{zero-add}
 use mathlib.Core.Path.{_≡_, sym, _∙_, ap}
-use mathlib.Core.Bool.{true, false}
+use mathlib.Core.Bool.{true}
 use mathlib.Core.List.{List}
 use lib.ListN.{getD}
 use Rattle.model.specs.Bytes.{Bytes}
 use Rattle.model.specs.Contents.{nodeBody, edgeBody, closedBody}
 use Rattle.model.specs.Distance.{dist, finite}
-use Rattle.model.specs.Network.{network, nodeCount, distance, someEdgeBroken}
+use Rattle.model.specs.Network.{network, nodeCount, distance}
 use Rattle.model.specs.Oracle.{coded, decoded}
 use Rattle.model.specs.Query.{answer, localAnswer}
 use Rattle.model.specs.Rules.{wellShaped}
@@ -19,7 +19,7 @@ use Rattle.theory.specs.Passed.{Shaped, all-shaped}
 use Rattle.theory.specs.ReadLaws.{decoded-coded}
 use Rattle.theory.specs.RangeLaws.{getD-map-range}
 use Rattle.theory.specs.Sound.{near, count-nodes}
-use Rattle.theory.specs.Walks.{least-stay}
+use Rattle.theory.specs.Walks.{Within, least-stay}
 use Rattle.algorithms.specs.Rounds.{distanceWords}
 use Rattle.arcs.specs.Arcs.{arcsIn, arcs-in}
 use Rattle.arcs.proofs.Bodies.{arcs-within}
@@ -52,10 +52,12 @@ unfolding localAnswer
 local-is o shaped s t r h e = rw e (ap (answer Local 0) (decoded-coded (distance (network o) s t) (near o (shaped .sound) s t (rw (count-nodes o) h))))
 
 -- From a node to itself the walk with no arc takes no time.
-pub itself-none : (n : ℕ) (eb cb : Bytes) → someEdgeBroken n eb ≡ false → (s : ℕ) → s < n → dist (arcsIn eb cb) n s s ≡ finite 0
-itself-none n eb cb edge s h = least-time (arcsIn eb cb) n s s (arcs-within n eb edge cb) h 0 (least-stay s)
+pub itself-none : (arcs : List Arc) (n : ℕ) → Within n arcs → (s : ℕ) → s < n → dist arcs n s s ≡ finite 0
+itself-none arcs n within s h = least-time arcs n s s within h 0 (least-stay s)
 
 pub itself-no-time : (o : Bytes) (s : ℕ) → wellShaped o ≡ true → s < nodeCount (nodeBody o) → coded (distance (network o) s s) ≡ 0
 unfolding coded
 itself-no-time o s shape h =
-    rw (distance-in o s s) (ap coded (itself-none (nodeCount (nodeBody o)) (edgeBody o) (closedBody o) (all-shaped o shape .sound .some-edge) s h))
+    let n = nodeCount (nodeBody o) in
+    let within = arcs-within n (edgeBody o) (all-shaped o shape .sound .some-edge) (closedBody o) in
+    rw (distance-in o s s) (ap coded (itself-none (arcsIn (edgeBody o) (closedBody o)) n within s h))

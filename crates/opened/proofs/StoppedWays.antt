@@ -5,12 +5,10 @@ use native.Mathlib.Omega.{arith}
 use mathlib.Core.Path.{_≡_, refl, sym, ap, _∙_}
 use mathlib.Core.Bool.{Bool, true, false, cond}
 use mathlib.Core.List.{List, [], _∷_, List·Memᴰ}
-use lib.ListN.{set, take, replicate, length-replicate}
+use lib.ListN.{set, replicate, length-replicate}
 use lib.Seq.{getD-set-same}
 use lib.Dec.{eqb}
 use borrow.Author.Tests.{ne-eqb}
-use Rattle.model.specs.Bytes.{Bytes}
-use Rattle.model.specs.Network.{someEdgeBroken}
 use Rattle.model.specs.Walk.{Arc, Mem, stay}
 use Rattle.model.specs.Distance.{Distance, unreachable, finite, plus, agree, dist}
 use Rattle.model.specs.Oracle.{noWalk, coded, decoded}
@@ -21,13 +19,14 @@ use Rattle.theory.specs.RangeLaws.{getD-map-range}
 use Rattle.algorithms.specs.Dijkstra.{at}
 use Rattle.algorithms.specs.Rounds.{distanceWords}
 use Rattle.algorithms.specs.Stops.{Stopped}
-use Rattle.arcs.specs.Arcs.{arcsIn}
-use Rattle.arcs.proofs.Bodies.{arcs-within, arcs-positive}
+use Rattle.sheet.specs.Under.{stillDriven}
+use Rattle.arcs.proofs.Bodies.{Bounded}
+use Rattle.words.specs.Regions.{timesIn}
 use Rattle.way.specs.Distances.{distanceIn, wayIn}
 use Rattle.way.proofs.Words.{word-in}
 use Rattle.opened.specs.TimesFrom.{wayOver}
 use Rattle.opened.proofs.SearchWords.{itself-none}
-use Rattle.opened.proofs.EarlyWays.{after-same}
+use Rattle.opened.proofs.EarlyWays.{after-same, driven-same}
 
 -- A node that is no nearer is not next, as every arc costs something.
 not-tight : (c x y : ℕ) → 0 < c → y ≤ x → agree (plus (finite c) (decoded x)) (decoded y) ≡ false
@@ -87,20 +86,45 @@ module _ (arcs : List Arc) (n t : ℕ) (within : Within n arcs) (positive : Posi
             let l = time-least arcs n t s within t-in k e in
             from-same (found .search .enough (l .has) stay (rw add-zero l) wanted) (distanceIn all s)
 
--- The same over the bodies of edges and closed edges: by a search from t that ended at s, the way from s is the way to t.
-module _ (n : ℕ) (eb cb : Bytes) (edge : someEdgeBroken n eb ≡ false) (s t : ℕ) (s-in : s < n) (t-in : t < n) (w order : List ℕ) where
-  there : 0 < at (set (replicate {A = ℕ} n 0) s 1) s
-  there = omega (arith, getD-set-same (replicate {A = ℕ} n 0) s 1 0 (omega (arith, length-replicate {A = ℕ} n 0)))
+    -- Steps are driven alike too: the nodes of the way are settled.
+    from-driven : (new : List Arc) → List·Memᴰ s order → (x : Distance)
+        → stillDriven (distanceIn d) new (wayFrom (distanceIn d) arcs x s) ≡ stillDriven (distanceIn all) new (wayFrom (distanceIn all) arcs x s)
+    unfolding wayFrom stillDriven
+    from-driven new m unreachable = refl
+    from-driven new m (finite k) = driven-same arcs (distanceIn d) (distanceIn all) order same loose new k s m
 
-  pub stopped-way : Stopped (arcsIn eb cb) n t (set (replicate n 0) s 1) (take n w) order → wayIn (take n w) (arcsIn eb cb) s ≡ wayOver eb cb n s t
+    pub driven-early : (new : List Arc) → stillDriven (distanceIn d) new (wayIn d arcs s) ≡ stillDriven (distanceIn all) new (wayIn all arcs s)
+    driven-early new =
+        ap (λ (x : Distance). stillDriven (distanceIn d) new (wayFrom (distanceIn d) arcs x s)) (exact-same s s-in (found .wanted s s-in wanted))
+        ∙ pick (dist arcs n t s) refl
+      where
+        pick : (p : Distance) → dist arcs n t s ≡ p → stillDriven (distanceIn d) new (wayFrom (distanceIn d) arcs (distanceIn all s) s)
+            ≡ stillDriven (distanceIn all) new (wayFrom (distanceIn all) arcs (distanceIn all s) s)
+        pick unreachable e = rw (late arcs n t s s-in, e) (unfold wayFrom coded decoded stillDriven in refl)
+        pick (finite k) e =
+            let l = time-least arcs n t s within t-in k e in
+            from-driven new (found .search .enough (l .has) stay (rw add-zero l) wanted) (distanceIn all s)
+
+-- The same of the one node s: by a search from t that ended at s, the way from s is the way to t.
+there : (n s : ℕ) → s < n → 0 < at (set (replicate {A = ℕ} n 0) s 1) s
+there n s s-in = omega (arith, getD-set-same (replicate {A = ℕ} n 0) s 1 0 (omega (arith, length-replicate {A = ℕ} n 0)))
+
+module _ (arcs : List Arc) (n : ℕ) (fair : Bounded n arcs) (s t : ℕ) (s-in : s < n) (t-in : t < n) (w order : List ℕ)
+    (found : Stopped arcs n t (set (replicate n 0) s 1) (timesIn n w) order) where
+  pub stopped-way : wayIn (timesIn n w) arcs s ≡ wayOver arcs n s t
   unfolding wayOver
-  stopped-way found =
-      way-early (arcsIn eb cb) n t (arcs-within n eb edge cb) (arcs-positive n eb edge cb) t-in (set (replicate n 0) s 1) (take n w) order found s s-in there
+  stopped-way = way-early arcs n t (fair .within) (fair .positive) t-in (set (replicate n 0) s 1) (timesIn n w) order found s s-in (there n s s-in)
+
+  -- And its every step can be driven by the words of the search just where it can be by the distances.
+  pub stopped-driven : (new : List Arc)
+      → stillDriven (distanceIn (timesIn n w)) new (wayIn (timesIn n w) arcs s) ≡ stillDriven (distanceIn (distanceWords arcs n t)) new (wayOver arcs n s t)
+  unfolding wayOver
+  stopped-driven new =
+      driven-early arcs n t (fair .within) (fair .positive) t-in (set (replicate n 0) s 1) (timesIn n w) order found s s-in (there n s s-in) new
 
 -- The way from a node to itself.
-pub way-itself : (n : ℕ) (eb cb : Bytes) → someEdgeBroken n eb ≡ false → (s : ℕ) → s < n → wayOver eb cb n s s ≡ s ∷ []
+pub way-itself : (arcs : List Arc) (n : ℕ) → Within n arcs → (s : ℕ) → s < n → wayOver arcs n s s ≡ s ∷ []
 unfolding wayOver
-way-itself n eb cb edge s h =
-    let arcs = arcsIn eb cb in
-    let e = late arcs n s s h ∙ ap (λ (x : Distance). decoded (coded x)) (itself-none n eb cb edge s h) in
+way-itself arcs n within s h =
+    let e = late arcs n s s h ∙ ap (λ (x : Distance). decoded (coded x)) (itself-none arcs n within s h) in
     ap (λ (x : Distance). wayFrom (distanceIn (distanceWords arcs n s)) arcs x s) e ∙ (unfold wayFrom wayAfter coded decoded in refl)

@@ -39,3 +39,8 @@ pub record OpenCall (o : Bytes) (w : List ℕ) (r : ℕ) (w′ : List ℕ) : Typ
   pub opened : r ≡ 0 → Opened o w′
   pub unwritten : (r ≡ 0 → ⊥) → w′ ≡ w
   pub rest : KeptFrom (wordsNeeded o) w w′
+
+-- What an answer leaves: the oracle is still opened, and the words behind those that it needs stay.
+pub record Stays (o : Bytes) (w w′ : List ℕ) : Type 0 where
+  pub opened : Opened o w′
+  pub rest : KeptFrom (wordsNeeded o) w w′

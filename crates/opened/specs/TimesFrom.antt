@@ -6,6 +6,7 @@ use lib.ListN.{length}
 use Rattle.model.specs.Bytes.{Bytes}
 use Rattle.model.specs.Contents.{nodeBody, edgeBody, closedBody}
 use Rattle.model.specs.Network.{nodeCount}
+use Rattle.model.specs.Walk.{Arc}
 use Rattle.algorithms.specs.Rounds.{distanceWords}
 use Rattle.arcs.specs.Arcs.{arcsIn}
 use Rattle.words.specs.Regions.{timesIn}
@@ -16,6 +17,6 @@ pub record TimesFrom (o : Bytes) (s : ℕ) (work : List ℕ) : Type 0 where
   pub times : timesIn (nodeCount (nodeBody o)) work ≡ distanceWords (arcsIn (edgeBody o) (closedBody o)) (nodeCount (nodeBody o)) s
   pub room : nodeCount (nodeBody o) ≤ length work
 
--- The way from s to t over the bodies of edges and closed edges, by the distances from t: roads run both ways (theory `both-ways`).
-unfoldable pub wayOver : Bytes → Bytes → ℕ → ℕ → ℕ → List ℕ
-wayOver edges closed n s t = wayIn (distanceWords (arcsIn edges closed) n t) (arcsIn edges closed) s
+-- The way from s to t over these arcs, by the distances from t: roads run both ways (theory `both-ways`).
+unfoldable pub wayOver : List Arc → ℕ → ℕ → ℕ → List ℕ
+wayOver arcs n s t = wayIn (distanceWords arcs n t) arcs s

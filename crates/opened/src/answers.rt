@@ -70,9 +70,11 @@ pub fn way_of(o: &[u8], s: usize, t: usize, work: &mut [u32], out: &mut [u8]) ->
     ensures others { λ _. ⌜ KeptFrom (gridAt (nodeCount (nodeBody (now (o .entry))))) (now (work .entry)) (now (work .exit)) ⌝ }
 {
     let c = oracle_contents(o);
+    let edges = c.body(o, EDGES);
     write_way_to(
-        c.body(o, EDGES),
+        edges,
         c.body(o, CLOSED),
+        &edges[..0],
         node_count(o),
         s,
         t,

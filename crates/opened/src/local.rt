@@ -7,8 +7,8 @@ ghost use Rattle.model.specs.Distance.{dist};
 ghost use Rattle.model.specs.Network.{network, distance, maxNodes, nodeCount};
 ghost use Rattle.model.specs.Oracle.{coded};
 ghost use Rattle.algorithms.specs.Stops.{Stopped};
-ghost use Rattle.arcs.specs.Arcs.{arcsIn};
-ghost use Rattle.index.specs.Index.{IndexedEdges};
+ghost use Rattle.sheet.specs.ArcsUnder.{arcsUnder};
+ghost use Rattle.arcs.specs.Leaving.{EdgesUnder};
 ghost use Rattle.words.specs.Frames.{Enough, KeptFrom};
 ghost use Rattle.opened.specs.Opened.{Opened};
 ghost use Rattle.words.specs.Regions.{timesIn, orderIn, wantIn, gridAt};
@@ -16,7 +16,7 @@ use reader::oracle::CLOSED;
 use reader::oracle::EDGES;
 use reader::oracle::node_count;
 use reader::oracle::oracle_body;
-use search::wanted::search_wanted;
+use search::wanted::search_wanted_under;
 use words::regions::WANT;
 use words::regions::clear;
 use words::regions::put;
@@ -32,38 +32,40 @@ fn want_only(work: &mut [u32], n: usize, t: usize)
     put(work, n, WANT, t);
 }
 
-// Searches from s until t is settled. The search leaves what it likes before the grid.
+// Searches from s until t is settled, over the edges as the lines of a sheet leave them. The search leaves what it likes before the grid.
 pub fn search_to(
     edges: &[u8],
     closed: &[u8],
+    lines: &[u8],
     n: usize,
     s: usize,
     t: usize,
     work: &mut [u32],
 ) -> usize
-    requires { ⌜ (n ≤ maxNodes) × (s < n) × (t < n) × Enough n (now work) × IndexedEdges (now edges) (now closed) n (now work) × (2 ≤ n) ⌝ }
-    ensures found { λ e. ⌜ Stopped (arcsIn (now (edges .entry)) (now (closed .entry))) n s (set (replicate n 0) t 1) (timesIn n (now (work .exit)))
-        (orderIn n e (now (work .exit))) ⌝ }
+    requires { ⌜ (n ≤ maxNodes) × (s < n) × (t < n) × Enough n (now work) × EdgesUnder (now edges) (now closed) (now lines) n (now work) × (2 ≤ n) ⌝ }
+    ensures found { λ e. ⌜ Stopped (arcsUnder (now (edges .entry)) (now (closed .entry)) (now (lines .entry))) n s (set (replicate n 0) t 1)
+        (timesIn n (now (work .exit))) (orderIn n e (now (work .exit))) ⌝ }
     ensures others { λ _. ⌜ KeptFrom (gridAt n) (now (work .entry)) (now (work .exit)) ⌝ }
 {
     want_only(work, n, t);
-    search_wanted(edges, closed, n, s, 1, work)
+    search_wanted_under(edges, closed, lines, n, s, 1, work)
 }
 
-// The distance from s to t over the bodies of edges and closed edges.
-fn search_seconds(
+// The distance from s to t over them.
+pub fn search_seconds(
     edges: &[u8],
     closed: &[u8],
+    lines: &[u8],
     n: usize,
     s: usize,
     t: usize,
     work: &mut [u32],
 ) -> u32
-    requires { ⌜ (n ≤ maxNodes) × (s < n) × (t < n) × Enough n (now work) × IndexedEdges (now edges) (now closed) n (now work) × (2 ≤ n) ⌝ }
-    ensures seconds { λ r. ⌜ r ≡ coded (dist (arcsIn (now (edges .entry)) (now (closed .entry))) n s t) ⌝ }
+    requires { ⌜ (n ≤ maxNodes) × (s < n) × (t < n) × Enough n (now work) × EdgesUnder (now edges) (now closed) (now lines) n (now work) × (2 ≤ n) ⌝ }
+    ensures seconds { λ r. ⌜ r ≡ coded (dist (arcsUnder (now (edges .entry)) (now (closed .entry)) (now (lines .entry))) n s t) ⌝ }
     ensures others { λ _. ⌜ KeptFrom (gridAt n) (now (work .entry)) (now (work .exit)) ⌝ }
 {
-    search_to(edges, closed, n, s, t, work);
+    search_to(edges, closed, lines, n, s, t, work);
     time_of(work, n, t)
 }
 
@@ -76,9 +78,11 @@ pub fn local_seconds(o: &[u8], s: usize, t: usize, work: &mut [u32]) -> u32
     if s == t {
         return 0;
     }
+    let edges = oracle_body(o, EDGES);
     search_seconds(
-        oracle_body(o, EDGES),
+        edges,
         oracle_body(o, CLOSED),
+        &edges[..0],
         node_count(o),
         s,
         t,

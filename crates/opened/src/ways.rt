@@ -1,11 +1,10 @@
-// The way, over the bodies of edges and closed edges alone.
-ghost use mathlib.Core.Path.{_≡_};
-ghost use mathlib.Core.Bool.{false};
+// The way, over the bodies of edges and closed edges and the lines of a sheet alone.
 ghost use mathlib.Core.List.{[], _∷_};
 ghost use Prim.Native.Nat.{_<_, _≤_};
 ghost use Rattle.model.specs.Contents.{nodeBody};
-ghost use Rattle.model.specs.Network.{maxNodes, nodeCount, someEdgeBroken};
-ghost use Rattle.index.specs.Index.{IndexedEdges};
+ghost use Rattle.model.specs.Network.{maxNodes, nodeCount};
+ghost use Rattle.sheet.specs.ArcsUnder.{arcsUnder};
+ghost use Rattle.arcs.specs.Leaving.{EdgesUnder};
 ghost use Rattle.words.specs.Frames.{Enough, KeptFrom};
 ghost use Rattle.opened.specs.Opened.{Opened};
 ghost use Rattle.opened.specs.Room.{NodesGiven};
@@ -36,7 +35,7 @@ pub fn times_from(o: &[u8], s: usize, work: &mut [u32])
 }
 
 // Writes the way from s to itself, which has no other node.
-fn write_way_itself(s: usize, out: &mut [u8]) -> Route
+pub fn write_way_itself(s: usize, out: &mut [u8]) -> Route
     requires { ⌜ s < maxNodes ⌝ }
     ensures { λ r. ⌜ NodesGiven (s ∷ []) (now (out .entry)) r (now (out .exit)) ⌝ }
 {
@@ -51,17 +50,19 @@ fn write_way_itself(s: usize, out: &mut [u8]) -> Route
 fn write_way_from(
     edges: &[u8],
     closed: &[u8],
+    lines: &[u8],
     n: usize,
     work: &[u32],
     s: usize,
     out: &mut [u8],
 ) -> Route
     requires { ⌜ (s < n) × (n ≤ maxNodes) × Enough n (now work) ⌝ }
-    requires { ⌜ IndexedEdges (now edges) (now closed) n (now work) ⌝ }
-    ensures { λ r. ⌜ NodesGiven (nodesIn (now (edges .entry)) (now (closed .entry)) n (now (work .entry)) s) (now (out .entry)) r (now (out .exit)) ⌝ }
+    requires { ⌜ EdgesUnder (now edges) (now closed) (now lines) n (now work) ⌝ }
+    ensures { λ r. ⌜ NodesGiven (nodesIn (now (edges .entry)) (now (closed .entry)) (now (lines .entry)) n (now (work .entry)) s) (now (out .entry)) r
+        (now (out .exit)) ⌝ }
 {
     let mut nodes = [0u8; LONGEST];
-    let size = whole_way(edges, closed, n, work, s, &mut nodes);
+    let size = whole_way(edges, closed, lines, n, work, s, &mut nodes);
     if out.len() < size {
         return Route { rule: 15, nodes: 0 };
     }
@@ -72,25 +73,26 @@ fn write_way_from(
     }
 }
 
-// Writes the way from s to t at the front of the output. As edges run both ways, the search is from t; it ends when s is settled. From a node to itself
-// nothing is searched.
+// Writes the way from s to t at the front of the output, over the edges as the lines leave them. As edges run both ways, the search is from t; it ends when
+// s is settled. From a node to itself nothing is searched.
 pub fn write_way_to(
     edges: &[u8],
     closed: &[u8],
+    lines: &[u8],
     n: usize,
     s: usize,
     t: usize,
     work: &mut [u32],
     out: &mut [u8],
 ) -> Route
-    requires { ⌜ (n ≤ maxNodes) × (s < n) × (t < n) × Enough n (now work) × (someEdgeBroken n (now edges) ≡ false)
-        × IndexedEdges (now edges) (now closed) n (now work) ⌝ }
-    ensures given { λ r. ⌜ NodesGiven (wayOver (now (edges .entry)) (now (closed .entry)) n s t) (now (out .entry)) r (now (out .exit)) ⌝ }
+    requires { ⌜ (n ≤ maxNodes) × (s < n) × (t < n) × Enough n (now work) × EdgesUnder (now edges) (now closed) (now lines) n (now work) ⌝ }
+    ensures given { λ r. ⌜ NodesGiven (wayOver (arcsUnder (now (edges .entry)) (now (closed .entry)) (now (lines .entry))) n s t) (now (out .entry)) r
+        (now (out .exit)) ⌝ }
     ensures others { λ _. ⌜ KeptFrom (gridAt n) (now (work .entry)) (now (work .exit)) ⌝ }
 {
     if s == t {
         return write_way_itself(s, out);
     }
-    search_to(edges, closed, n, t, s, work);
-    write_way_from(edges, closed, n, work, s, out)
+    search_to(edges, closed, lines, n, t, s, work);
+    write_way_from(edges, closed, lines, n, work, s, out)
 }

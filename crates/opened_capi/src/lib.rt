@@ -9,7 +9,10 @@ ghost use Rattle.model.specs.Network.{network};
 ghost use Rattle.model.specs.Query.{way};
 ghost use Rattle.model.specs.Rules.{wordsNeeded};
 ghost use Rattle.model.specs.Calls.{timeResult, farResult, wayRefusal, routeAfter, outputAfter};
-ghost use Rattle.opened.specs.Opened.{Opened, OpenCall};
+ghost use Rattle.sheet.specs.Sheet.{effects};
+ghost use Rattle.sheet.specs.Under.{wayUnder};
+ghost use Rattle.sheet.specs.SheetCalls.{timeUnderResult, wayUnderRefusal};
+ghost use Rattle.opened.specs.Opened.{Opened, OpenCall, Stays};
 ghost use Rattle.block.specs.Block.{blockOf, blockRefusal, blockAfter};
 ghost use Rattle.capi.specs.Replies.{reply};
 use block::Block;
@@ -18,6 +21,7 @@ use capi::oracles::Reply;
 use capi::oracles::reply_of;
 use model::Route;
 use query::questions;
+use under::questions as sheets;
 
 // Checks an oracle and opens it: 0, or the number of the broken rule, where nothing is written.
 #[no_mangle]
@@ -77,4 +81,38 @@ pub extern "C" fn jukesogbi_opened_block(
     ensures rest { λ _. ⌜ drop (wordsNeeded (now (o .entry))) (now (work .exit)) ≡ drop (wordsNeeded (now (o .entry))) (now (work .entry)) ⌝ }
 {
     blocks::block(o, starts, ends, work)
+}
+
+#[no_mangle]
+pub extern "C" fn jukesogbi_opened_time_under(
+    o: &[u8],
+    sheet: &[u8],
+    s: u32,
+    t: u32,
+    work: &mut [u32],
+) -> Reply
+    requires { ⌜ Opened (now o) (now work) ⌝ }
+    ensures result { λ r. ⌜ r ≡ reply (timeUnderResult (now (o .entry)) (now (sheet .entry)) s t (now (work .entry))) ⌝ }
+    ensures stays { λ _. ⌜ Stays (now (o .entry)) (now (work .entry)) (now (work .exit)) ⌝ }
+{
+    reply_of(sheets::time_under(o, sheet, s, t, work))
+}
+
+#[no_mangle]
+pub extern "C" fn jukesogbi_opened_way_under(
+    o: &[u8],
+    sheet: &[u8],
+    s: u32,
+    t: u32,
+    work: &mut [u32],
+    out: &mut [u8],
+) -> Route
+    requires { ⌜ Opened (now o) (now work) ⌝ }
+    ensures result { λ r. ⌜ r ≡ routeAfter (wayUnderRefusal (now (o .entry)) (now (sheet .entry)) s t (now (work .entry)) (now (out .entry)))
+        (wayUnder (effects (now (sheet .entry))) (now (o .entry)) s t) ⌝ }
+    ensures bytes { λ _. ⌜ now (out .exit) ≡ outputAfter (wayUnderRefusal (now (o .entry)) (now (sheet .entry)) s t (now (work .entry)) (now (out .entry)))
+        (concatMap bytes16 (wayUnder (effects (now (sheet .entry))) (now (o .entry)) s t)) (now (out .entry)) ⌝ }
+    ensures stays { λ _. ⌜ Stays (now (o .entry)) (now (work .entry)) (now (work .exit)) ⌝ }
+{
+    sheets::way_under(o, sheet, s, t, work, out)
 }

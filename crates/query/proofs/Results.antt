@@ -1,5 +1,5 @@
 -- What the calls and the questions hand back and leave, after a refusal and after none. Assumes nothing.
-use Prim.Native.Nat.{ℕ, _*_}
+use Prim.Native.Nat.{ℕ}
 use mathlib.Core.Path.{_≡_, refl, sym, _∙_}
 use mathlib.Core.Bool.{true, cond}
 use mathlib.Core.List.{List, []}
@@ -9,16 +9,16 @@ use borrow.Author.Tests.{ne-eqb}
 use Rattle.model.specs.Bytes.{Bytes}
 use Rattle.model.specs.Network.{network}
 use Rattle.model.specs.Query.{way, timeAnswer}
-use Rattle.model.specs.Rules.{firstBroken, networkRules, shapeRules, pairRules, timeRules, wayRules, outputTooSmall, wordsNeeded}
-use Rattle.model.specs.Calls.{clears, cleared, workAfter, timeResult, timeRefusal, outputAfter, routeAfter, wayRefusal, WayCall}
+use Rattle.model.specs.Rules.{firstBroken, networkRules, shapeRules, pairRules, timeRules, wayRules, wordsNeeded}
+use Rattle.model.specs.Calls.{clears, cleared, workAfter, timeResult, timeRefusal, wayRefusal, WayCall}
 use Rattle.model.specs.declared.Answer.the-variants.{Refused}
 use Rattle.model.specs.declared.Route.{Route}
 use Rattle.theory.specs.BuiltCalls.{time-counted}
-use Rattle.checks.proofs.AfterCall.{answer-refused, answer-given, unclearing, words-kept, words-cleared, last-clears}
-use Rattle.checks.proofs.CheckOrder.{sooner, last-left}
+use Rattle.checks.proofs.AfterCall.{answer-refused, answer-given, unclearing, words-kept, words-cleared}
 use Rattle.checks.proofs.RulesKept.{time-roomy}
 use Rattle.opened.specs.Opened.{Opened}
-use Rattle.opened.specs.Room.{roomRule, WayGiven}
+use Rattle.opened.specs.Room.{WayGiven}
+use Rattle.opened.proofs.Routes.{route-refused, route-given}
 use Rattle.words.specs.Frames.{KeptFrom}
 
 -- ---- the part that a list is
@@ -53,26 +53,18 @@ module _ (o : Bytes) (s t : ℕ) (work : List ℕ) (r : ℕ) (e : r ≡ firstBro
 
   module _ (out : Bytes) where
     pub way-refused : (r ≡ 0 → ⊥) → WayCall o s t work out (record { rule = r; nodes = 0 }) work out
-    way-refused h = record {
-      result = rw same (unfold routeAfter in rw (ne-eqb r 0 h));
-      words = rw same (words-kept (timeRules o s t (length work)) unwritten r e o work h);
-      bytes = rw same (unfold outputAfter in rw (ne-eqb r 0 h));
-    }
-      where
-        same : wayRefusal o s t work out ≡ r
-        same = unfold wayRefusal wayRules in sym (sooner (timeRules o s t (length work)) r e _ h)
+    unfolding wayRefusal wayRules
+    way-refused h =
+        let k = route-refused (timeRules o s t (length work)) unwritten (time-counted o s t (length work)) r e o (way (network o) s t) work out h in
+        record { result = k .result; words = k .words; bytes = k .bytes }
 
     pub way-given : (work′ mid : List ℕ) (route : Route) (out′ : Bytes) → r ≡ 0 → WayGiven o s t out route out′
         → KeptFrom (wordsNeeded o) work mid → work′ ≡ cleared (wordsNeeded o) mid → WayCall o s t work out route work′ out′
-    way-given work′ mid route out′ z g d c = record {
-      result = rw last (g .result);
-      words = rw last (c ∙ unfold roomRule in last-clears o work mid d 15 (unfold clears in refl)
-          (outputTooSmall (2 * length (way (network o) s t)) (length out)));
-      bytes = rw last (g .bytes);
-    }
-      where
-        last : wayRefusal o s t work out ≡ roomRule (way (network o) s t) (length out)
-        last = unfold wayRefusal wayRules roomRule in last-left (timeRules o s t (length work)) r e (time-counted o s t (length work)) z 15 _
+    unfolding wayRefusal wayRules
+    way-given work′ mid route out′ z g d c =
+        let k = route-given (timeRules o s t (length work)) unwritten (time-counted o s t (length work)) r e o (way (network o) s t) work out z
+        work′ mid route out′ g d c in
+        record { result = k .result; words = k .words; bytes = k .bytes }
 
 -- Over an opened oracle the rules of a time are those of its pair.
 pub as-time : (o : Bytes) (s t : ℕ) (work : List ℕ) → Opened o work → (r : ℕ) → r ≡ firstBroken (pairRules o s t)

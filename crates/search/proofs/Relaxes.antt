@@ -8,18 +8,18 @@ use lib.Seq.{take-take}
 use Rattle.model.specs.Bytes.{Bytes}
 use Rattle.model.specs.Walk.{Arc}
 use Rattle.algorithms.specs.Dijkstra.{at, relax, relax-all, relax-all-le, relax-all-same, relax-append}
-use Rattle.arcs.specs.Arcs.{arcsIn, leaving}
+use Rattle.sheet.specs.ArcsUnder.{arcsUnder}
+use Rattle.arcs.specs.Arcs.{leaving}
 use Rattle.heap.specs.Queue.{lowered}
-use Rattle.index.specs.Index.{IndexedEdges}
 use Rattle.words.specs.Frames.{KeptFrom}
 use Rattle.search.specs.Holds.{Holds, Relaxed, SettledWithin}
-use Rattle.search.proofs.Cursors.{passes-kept, roads-kept}
+use Rattle.arcs.proofs.Kept.{passes-kept, edges-kept}
 use Rattle.words.specs.Times.{time}
 use Rattle.words.proofs.TimeLaws.{time-at}
 use Rattle.words.specs.Regions.{frontIn, timesIn, searchWords}
 use Rattle.words.proofs.Parts.{front-is, front-others}
 use Rattle.arcs.specs.declared.leaving.ArcAt.{ArcAt}
-use Rattle.arcs.specs.Leaving.{arcHere, PassedArcs, SteppedArc}
+use Rattle.arcs.specs.Leaving.{EdgesUnder, arcHere, PassedArcs, SteppedArc}
 
 relaxed-as : (n e : ℕ) (d d′ w w′ : List ℕ) (r : ℕ) → Relaxed n e d w w′ r → d ≡ d′ → Relaxed n e d′ w w′ r
 relaxed-as n e d d′ w w′ r t p = rw p at t
@@ -29,30 +29,30 @@ pub time-read : (n u : ℕ) (w : List ℕ) → u < n → (d : ℕ) → d ≡ tim
 time-read n u w i d e = ap (λ (l : List ℕ). at l u) (take-take n (searchWords n) w (omega arith)) ∙ (time-at n w u i ∙ sym e)
 
 -- From w₀ to w, with k nodes held: the arcs that the walk has passed are relaxed.
-pub record RelaxedArcs (b closed : Bytes) (n e u d : ℕ) (w₀ : List ℕ) (a : ArcAt) (w : List ℕ) (k : ℕ) : Type 0 where
+pub record RelaxedArcs (b closed lines : Bytes) (n e u d : ℕ) (w₀ : List ℕ) (a : ArcAt) (w : List ℕ) (k : ℕ) : Type 0 where
   pub done : List Arc
-  pub passes : PassedArcs b closed n w u done a
+  pub passes : PassedArcs b closed lines n w u done a
   pub relaxed : Relaxed n e (relax-all d done (timesIn n (frontIn n w₀))) (frontIn n w₀) (frontIn n w) k
   pub within : SettledWithin n d (frontIn n w)
-  pub roads : IndexedEdges b closed n w
+  pub edges : EdgesUnder b closed lines n w
   pub others : KeptFrom (searchWords n) w₀ w
 
-module _ (b closed : Bytes) (n e u d : ℕ) (w₀ : List ℕ) where
-  pub passed-first : (k : ℕ) (a : ArcAt) → Holds n k e (frontIn n w₀) → SettledWithin n d (frontIn n w₀) → IndexedEdges b closed n w₀
-      → PassedArcs b closed n w₀ u [] a
-      → RelaxedArcs b closed n e u d w₀ a w₀ k
+module _ (b closed lines : Bytes) (n e u d : ℕ) (w₀ : List ℕ) where
+  pub passed-first : (k : ℕ) (a : ArcAt) → Holds n k e (frontIn n w₀) → SettledWithin n d (frontIn n w₀) → EdgesUnder b closed lines n w₀
+      → PassedArcs b closed lines n w₀ u [] a
+      → RelaxedArcs b closed lines n e u d w₀ a w₀ k
   unfolding relax-all
   passed-first k a h s r p = record {
     done = [];
     passes = p;
     relaxed = record { holds = h; times = refl; order = refl; settled = refl };
     within = s;
-    roads = r;
+    edges = r;
     others = refl;
   }
 
   -- An arc is relaxed: ys come back for the first 3 n words of w.
-  module _ (a : ArcAt) (k : ℕ) (w ys : List ℕ) (g : RelaxedArcs b closed n e u d w₀ a w k) (long : searchWords n ≤ length w)
+  module _ (a : ArcAt) (k : ℕ) (w ys : List ℕ) (g : RelaxedArcs b closed lines n e u d w₀ a w k) (long : searchWords n ≤ length w)
       (same : length ys ≡ length (take (searchWords n) w)) where
     abbrev whole : List ℕ
     whole = ys ++ drop (searchWords n) w
@@ -60,11 +60,11 @@ module _ (b closed : Bytes) (n e u d : ℕ) (w₀ : List ℕ) where
     kept : KeptFrom (searchWords n) w whole
     kept = front-others w ys (searchWords n) long same
 
-    pub turn-passes : PassedArcs b closed n whole u (g .done) a
-    turn-passes = passes-kept b closed n w whole kept u (g .done) a (g .passes)
+    pub turn-passes : PassedArcs b closed lines n whole u (g .done) a
+    turn-passes = passes-kept b closed lines n w whole kept u a (g .done) (g .passes)
 
-    pub turn-roads : IndexedEdges b closed n whole
-    turn-roads = roads-kept b closed n w whole kept (g .roads)
+    pub turn-edges : EdgesUnder b closed lines n whole
+    turn-edges = edges-kept b closed lines n w whole kept (g .edges)
 
     module _ (r : ℕ) (t : Relaxed n e (lowered (timesIn n (frontIn n w)) (a .to) (d + a .cost)) (frontIn n w) ys r) where
       one : timesIn n ys ≡ relax-all d (arcHere u a ∷ []) (timesIn n (frontIn n w))
@@ -74,7 +74,7 @@ module _ (b closed : Bytes) (n e u d : ℕ) (w₀ : List ℕ) where
       more : timesIn n ys ≡ relax-all d (g .done ++ arcHere u a ∷ []) (timesIn n (frontIn n w₀))
       more = one ∙ ap (relax-all d (arcHere u a ∷ [])) (g .relaxed .times) ∙ sym (relax-append d (g .done) (arcHere u a ∷ []) (timesIn n (frontIn n w₀)))
 
-      pub passed-next : (a′ : ArcAt) → SteppedArc b closed n whole u a a′ → RelaxedArcs b closed n e u d w₀ a′ whole r
+      pub passed-next : (a′ : ArcAt) → SteppedArc b closed lines n whole u a a′ → RelaxedArcs b closed lines n e u d w₀ a′ whole r
       passed-next a′ s = record {
         done = g .done ++ arcHere u a ∷ [];
         passes = s .passes (g .done) turn-passes;
@@ -93,13 +93,13 @@ module _ (b closed : Bytes) (n e u d : ℕ) (w₀ : List ℕ) where
               g .within v l
                   (rw (t .settled) at z),
             ));
-        roads = turn-roads;
+        edges = turn-edges;
         others = kept ∙ g .others;
       }
 
   -- All are passed.
-  pub passed-last : (k : ℕ) (w : List ℕ) (a : ArcAt) → n ≤ a .to → RelaxedArcs b closed n e u d w₀ a w k
-      → Relaxed n e (relax-all d (leaving u (arcsIn b closed)) (timesIn n (frontIn n w₀))) (frontIn n w₀) (frontIn n w) k
+  pub passed-last : (k : ℕ) (w : List ℕ) (a : ArcAt) → n ≤ a .to → RelaxedArcs b closed lines n e u d w₀ a w k
+      → Relaxed n e (relax-all d (leaving u (arcsUnder b closed lines)) (timesIn n (frontIn n w₀))) (frontIn n w₀) (frontIn n w) k
   passed-last k w a h g =
       relaxed-as n e _ _ (frontIn n w₀) (frontIn n w) k (g .relaxed)
-      (relax-all-same d (g .done) (leaving u (arcsIn b closed)) (timesIn n (frontIn n w₀)) (g .passes .all h))
+      (relax-all-same d (g .done) (leaving u (arcsUnder b closed lines)) (timesIn n (frontIn n w₀)) (g .passes .all h))

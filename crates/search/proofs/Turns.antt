@@ -3,17 +3,15 @@ use Prim.Native.Nat.{ℕ, _-_, _≤_, _<_}
 use native.Mathlib.Omega.{arith}
 use mathlib.Core.Path.{_≡_, refl, ap, _∙_}
 use mathlib.Core.Logic.{_⊎_, inl, inr, ⊎-elim}
-use mathlib.Core.Bool.{false}
 use mathlib.Core.List.{List, []}
 use lib.ListN.{set, take, drop, replicate, length-take, drop-of-length-le}
-use Rattle.model.specs.Bytes.{Bytes}
-use Rattle.model.specs.Network.{maxNodes, maxSeconds, someEdgeBroken}
+use Rattle.model.specs.Network.{maxNodes, maxSeconds}
 use Rattle.model.specs.Oracle.{noWalk}
 use Rattle.model.specs.Walk.{Arc}
 use Rattle.algorithms.specs.Dijkstra.{at, relax-all, at-set}
 use Rattle.algorithms.specs.Rounds.{Found, State, state-first, state-turn, state-found}
-use Rattle.arcs.specs.Arcs.{arcsIn, leaving}
-use Rattle.arcs.proofs.Bodies.{arcs-within, arcs-cost, leaving-out}
+use Rattle.arcs.specs.Arcs.{leaving}
+use Rattle.arcs.proofs.Bodies.{Bounded, leaving-out}
 use Rattle.search.specs.Holds.{Holds, Relaxed, SettledWithin, SettledFirst}
 use Rattle.search.specs.Held.{time-in}
 use Rattle.search.specs.Round.{Settles, Round}
@@ -53,10 +51,7 @@ pub record Standing (arcs : List Arc) (n s k e : ℕ) (w : List ℕ) : Type 0 wh
 pub standing-first : (arcs : List Arc) (n s k e : ℕ) (w : List ℕ) → Standing arcs n s k e w → SettledFirst n w
 standing-first arcs n s k e w g u i z v j h = g .state .inv .ordered v u j i h z
 
-module _ (b closed : Bytes) (n s : ℕ) (few : n ≤ maxNodes) (s-in : s < n) (h : someEdgeBroken n b ≡ false) where
-  abbrev arcs : List Arc
-  arcs = arcsIn b closed
-
+module _ (arcs : List Arc) (n s : ℕ) (few : n ≤ maxNodes) (s-in : s < n) (fair : Bounded n arcs) where
   pub first : (k : ℕ) (w : List ℕ) → Holds n k n w → timesIn n w ≡ set (replicate n noWalk) s 0 → settledIn n w ≡ replicate n 0 → Standing arcs n s k n w
   unfolding Distinct settleOrder
   first k w g p q =
@@ -69,7 +64,7 @@ module _ (b closed : Bytes) (n s : ℕ) (few : n ≤ maxNodes) (s-in : s < n) (h
     next w′ r t = record {
       holds = t .holds;
       state = rw (t .times, t .settled, t .order)
-          (state-turn arcs n s (arcs-within n b h closed) s-in (timesIn n w) (settledIn n w) (settleOrder n e w) (g .state) (t .node) (t .near)
+          (state-turn arcs n s (fair .within) s-in (timesIn n w) (settledIn n w) (settleOrder n e w) (g .state) (t .node) (t .near)
           (leaving (t .node) arcs) (leaving-out (t .node) arcs));
       once = rw (t .order) (λ m. omega (arith, g .state .kept .settled (t .node) m .1, t .near .fresh), g .once);
     }
@@ -83,7 +78,7 @@ module _ (b closed : Bytes) (n s : ℕ) (few : n ≤ maxNodes) (s-in : s < n) (h
         → Found arcs n s (timesIn n w′) (orderIn n e w′) × (e ≤ n) × Distinct (orderIn n e w′)
     last z w′ p q =
         rw (p, q) (
-          state-found arcs n s (arcs-within n b h closed) s-in (timesIn n w) (settledIn n w) (settleOrder n e w) (g .state) maxSeconds (arcs-cost n b h closed)
+          state-found arcs n s (fair .within) s-in (timesIn n w) (settledIn n w) (settleOrder n e w) (g .state) maxSeconds (fair .cost)
               (omega arith) (all-settled z),
           g .holds .queue .room,
           g .once,

@@ -9,13 +9,11 @@ use mathlib.Core.List.{List, _∷_}
 use borrow.Rule.Slice.PartMut.{midOf}
 use lib.ListN.{length, getD, set, take, drop, replicate, List·getD-map}
 use lib.Seq.{getD-take, getD-drop}
-use Rattle.model.specs.Bytes.{Bytes}
-use Rattle.model.specs.Network.{maxNodes, maxSeconds, someEdgeBroken}
+use Rattle.model.specs.Network.{maxNodes, maxSeconds}
 use Rattle.model.specs.Walk.{Arc}
 use Rattle.algorithms.specs.Dijkstra.{at}
 use Rattle.algorithms.specs.Stops.{Stopped, lacking, lacking-wanted, lacking-other, lacking-none, found-stopped, state-stopped}
-use Rattle.arcs.specs.Arcs.{arcsIn}
-use Rattle.arcs.proofs.Bodies.{arcs-within, arcs-cost, arcs-positive}
+use Rattle.arcs.proofs.Bodies.{Bounded}
 use Rattle.bitset.specs.Bits.{isIn, flags}
 use Rattle.bitset.proofs.Members.{flag-in, flag-out}
 use Rattle.heap.specs.Words.{low}
@@ -67,10 +65,7 @@ pub wanting-begun : (arcs : List Arc) (n s k left : ℕ) (w w₁ : List ℕ) →
 unfolding wantIn
 wanting-begun arcs n s k left w w₁ p g q h = record { standing = g; few = rw (q, p) h }
 
-module _ (b closed : Bytes) (n s : ℕ) (small : n ≤ maxNodes) (s-in : s < n) (h : someEdgeBroken n b ≡ false) where
-  abbrev arcs : List Arc
-  arcs = arcsIn b closed
-
+module _ (arcs : List Arc) (n s : ℕ) (small : n ≤ maxNodes) (s-in : s < n) (fair : Bounded n arcs) where
   module _ (k e left : ℕ) (want w : List ℕ) (g : Wanting arcs n s k e left want w) where
     abbrev done : List ℕ
     done = settledIn n w
@@ -86,7 +81,7 @@ module _ (b closed : Bytes) (n s : ℕ) (small : n ≤ maxNodes) (s-in : s < n) 
     module _ (w′ : List ℕ) (r : ℕ) (t : Round arcs n e w w′ r) where
       wanting-next : (left′ : ℕ) → at want (t .node) ≤ 1 → left′ ≡ left - at want (t .node) → Wanting arcs n s r (e - 1) left′ want w′
       wanting-next left′ m q = record {
-        standing = next b closed n s small s-in h k e w (g .standing) w′ r t;
+        standing = next arcs n s small s-in fair k e w (g .standing) w′ r t;
         few = rw q (fewer (t .node) (t .near .inside) (t .near .fresh) m (settledIn n w′) (t .settled));
       }
 
@@ -96,11 +91,11 @@ module _ (b closed : Bytes) (n s : ℕ) (small : n ≤ maxNodes) (s-in : s < n) 
     stop z w′ p q = (pick z, g .standing .holds .queue .room)
       where
         pick : (k ≡ 0) ⊎ (left ≡ 0) → Stopped arcs n s want (timesIn n w′) (orderIn n e w′)
-        pick (inl y) = found-stopped arcs n s (arcs-within n b h closed) s-in maxSeconds (arcs-cost n b h closed) (omega arith) (timesIn n w′) (orderIn n e w′)
-            (last b closed n s small s-in h k e w (g .standing) y w′ p q .0) want
+        pick (inl y) = found-stopped arcs n s (fair .within) s-in maxSeconds (fair .cost) (omega arith) (timesIn n w′) (orderIn n e w′)
+            (last arcs n s small s-in fair k e w (g .standing) y w′ p q .0) want
         pick (inr y) =
             rw (p, q)
-            (state-stopped arcs n s (arcs-within n b h closed) s-in (arcs-positive n b h closed) want (timesIn n w) done (settleOrder n e w)
+            (state-stopped arcs n s (fair .within) s-in (fair .positive) want (timesIn n w) done (settleOrder n e w)
             (g .standing .state)
             (λ v i l. lacking-none want done (omega (arith, g .few)) v (omega (arith, g .standing .state .inv .flags)) l))
 

@@ -4,8 +4,8 @@ ghost use Prim.Native.Nat.{_*_, _<_, _≤_};
 ghost use lib.ListN.{length, set, replicate};
 ghost use Rattle.model.specs.Network.{maxNodes};
 ghost use Rattle.model.specs.Oracle.{noWalk};
-ghost use Rattle.arcs.specs.Arcs.{arcsIn};
-ghost use Rattle.index.specs.Index.{IndexedEdges};
+ghost use Rattle.sheet.specs.ArcsUnder.{arcsUnder};
+ghost use Rattle.arcs.specs.Leaving.{EdgesUnder};
 ghost use Rattle.words.specs.Frames.{Enough, KeptFrom};
 ghost use Rattle.search.specs.Holds.{Holds, SettledFirst};
 ghost use Rattle.search.specs.Round.{Round};
@@ -30,15 +30,24 @@ pub fn begin(work: &mut [u32], n: usize, s: usize) -> usize
 }
 
 // Settles a nearest of the k nodes held, and relaxes the arcs out of it. The number of nodes held then.
-pub fn round(edges: &[u8], closed: &[u8], n: usize, k: usize, e: usize, work: &mut [u32]) -> usize
+pub fn round(
+    edges: &[u8],
+    closed: &[u8],
+    lines: &[u8],
+    n: usize,
+    k: usize,
+    e: usize,
+    work: &mut [u32],
+) -> usize
     requires { ⌜ Holds n k e (frontIn n (now work)) × (0 < k) × SettledFirst n (frontIn n (now work)) ⌝ }
-    requires { ⌜ IndexedEdges (now edges) (now closed) n (now work) × Enough n (now work) ⌝ }
-    ensures round { λ r. ⌜ Round (arcsIn (now (edges .entry)) (now (closed .entry))) n e (frontIn n (now (work .entry))) (frontIn n (now (work .exit))) r ⌝ }
+    requires { ⌜ EdgesUnder (now edges) (now closed) (now lines) n (now work) × Enough n (now work) ⌝ }
+    ensures round { λ r. ⌜ Round (arcsUnder (now (edges .entry)) (now (closed .entry)) (now (lines .entry))) n e (frontIn n (now (work .entry)))
+        (frontIn n (now (work .exit))) r ⌝ }
     ensures others { λ _. ⌜ KeptFrom (searchWords n) (now (work .entry)) (now (work .exit)) ⌝ }
 {
     let m = SEARCH * n;
     let u = settle_nearest(&mut work[..m], n, k, e);
-    relax(edges, closed, work, n, k - 1, e - 1, u)
+    relax(edges, closed, lines, work, n, k - 1, e - 1, u)
 }
 
 // What a search leaves: the settled nodes alone, from position e on.

@@ -5,7 +5,9 @@ ghost use lib.ListN.{getD, replicate};
 ghost use Rattle.model.specs.Network.{maxNodes};
 ghost use Rattle.algorithms.specs.Dijkstra.{at};
 ghost use Rattle.algorithms.specs.Stops.{Stopped, lacking};
+ghost use Rattle.sheet.specs.ArcsUnder.{arcsUnder};
 ghost use Rattle.arcs.specs.Arcs.{arcsIn};
+ghost use Rattle.arcs.specs.Leaving.{EdgesUnder};
 ghost use Rattle.heap.specs.Words.{low};
 ghost use Rattle.index.specs.Index.{IndexedEdges};
 ghost use Rattle.words.specs.Regions.{timesIn, orderIn, wantIn, searchWords};
@@ -30,10 +32,38 @@ fn left_then(work: &[u32], n: usize, e: usize, left: usize) -> usize
     left
 }
 
-// Searches from s, among two nodes or more, until every wanted node is settled, of which there are at most `left`, or no reached node is left. The wanted
-// nodes are a set whose bits stand from 3 n on. In the first 3 n words then stand the times of the settled nodes and of the wanted ones, and from position e
-// of the order on the settled nodes, the farthest first. The others stay. Left open: which of equally far nodes stands first, and what the other words of
-// the 3 n are.
+// Searches from s over the edges as the lines of a sheet leave them, among two nodes or more, until every wanted node is settled, of which there are at most
+// `left`, or no reached node is left. The wanted nodes are a set whose bits stand from 3 n on. In the first 3 n words then stand the times of the settled nodes
+// and of the wanted ones, and from position e of the order on the settled nodes, the farthest first. The others stay. Left open: which of equally far nodes
+// stands first, and what the other words of the 3 n are.
+pub fn search_wanted_under(
+    edges: &[u8],
+    closed: &[u8],
+    lines: &[u8],
+    n: usize,
+    s: usize,
+    left: usize,
+    work: &mut [u32],
+) -> usize
+    requires { ⌜ (n ≤ maxNodes) × (s < n) × Enough n (now work) × (lacking (wantIn n (now work)) (replicate n 0) ≤ left) × (2 ≤ n) ⌝ }
+    requires { ⌜ EdgesUnder (now edges) (now closed) (now lines) n (now work) ⌝ }
+    ensures found { λ e. ⌜ Stopped (arcsUnder (now (edges .entry)) (now (closed .entry)) (now (lines .entry))) n s (wantIn n (now (work .entry)))
+        (timesIn n (now (work .exit))) (orderIn n e (now (work .exit))) × (e ≤ n) ⌝ }
+    ensures others { λ _. ⌜ KeptFrom (searchWords n) (now (work .entry)) (now (work .exit)) ⌝ }
+{
+    let mut k = begin(work, n, s);
+    let mut e = n;
+    let mut lacking = left;
+    while 0 < k && 0 < lacking {
+        k = round(edges, closed, lines, n, k, e, work);
+        e -= 1;
+        lacking = left_then(work, n, e, lacking);
+    }
+    finish(work, n, e);
+    e
+}
+
+// The same over the edges as they are.
 pub fn search_wanted(
     edges: &[u8],
     closed: &[u8],
@@ -48,14 +78,5 @@ pub fn search_wanted(
         (orderIn n e (now (work .exit))) × (e ≤ n) ⌝ }
     ensures others { λ _. ⌜ KeptFrom (searchWords n) (now (work .entry)) (now (work .exit)) ⌝ }
 {
-    let mut k = begin(work, n, s);
-    let mut e = n;
-    let mut lacking = left;
-    while 0 < k && 0 < lacking {
-        k = round(edges, closed, n, k, e, work);
-        e -= 1;
-        lacking = left_then(work, n, e, lacking);
-    }
-    finish(work, n, e);
-    e
+    search_wanted_under(edges, closed, &edges[..0], n, s, left, work)
 }

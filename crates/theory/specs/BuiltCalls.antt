@@ -41,7 +41,7 @@ module _ (o : Bytes) (shaped : wellShaped o ≡ true) where
   list-kept u h = sym (one-kept (shapeRules o) 12 (shape-counted o) no-shape (there u h))
 
   module _ (s t : ℕ) (hs : s < N) (ht : t < N) where
-    pair-kept : firstBroken (pairRules o s t) ≡ 0
+    pub pair-kept : firstBroken (pairRules o s t) ≡ 0
     unfolding pairRules
     pair-kept = sym (one-kept (shapeRules o) 12 (shape-counted o) no-shape (rw (there s hs, there t ht)))
 

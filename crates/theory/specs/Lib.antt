@@ -39,4 +39,5 @@ pub mod Times
 pub mod BuiltCalls
 -- ---- the way
 pub mod Way
+pub mod NetWays
 pub mod Ways

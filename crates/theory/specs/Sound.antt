@@ -15,7 +15,8 @@ use Rattle.model.specs.Walk.{Arc, Mem}
 use Rattle.theory.specs.Walks.{Costs, Within, Positive}
 use Rattle.model.specs.Distance.{Distance, unreachable, finite}
 use Rattle.theory.specs.Exact.{dist-bound}
-use Rattle.model.specs.Network.{Edge, network, nodes, edges, edge, openEdges, order, nodeCount, edgeCount, arcs, arcsOf, distance, nodesBroken, edgeBroken}
+use Rattle.model.specs.Network.{Edge, Network, network, nodes, edges, edge, openEdges, order, nodeCount, edgeCount, arcs, arcsOf, distance}
+use Rattle.model.specs.Network.{nodesBroken, edgeBroken}
 use Rattle.model.specs.Network.{someEdgeBroken, edgesBroken, numbersBroken, maxNodes, maxEdges, maxSeconds, minSeconds, nodeSize, edgeSize}
 use Rattle.theory.specs.RangeLaws.{length-range}
 use Rattle.theory.specs.ReadLaws.{Small}
@@ -113,6 +114,16 @@ pub count-nodes : (f : Bytes) → order (network f) ≡ nodeCount (nodeBody f)
 unfolding order network nodes
 count-nodes f = length-map (upTo (nodeCount (nodeBody f))) _ ∙ length-range 0 (nodeCount (nodeBody f))
 
+-- Distances stay far below 'no walk' where no arc costs more than a road may.
+pub net-near : (net : Network) → order net ≤ maxNodes → Within (order net) (arcs net) → Costs maxSeconds (arcs net)
+    → (u t : ℕ) → u < order net → Small (distance net u t)
+unfolding distance
+net-near net few within costs u t h = step (distance net u t) refl
+  where
+    step : (x : Distance) → distance net u t ≡ x → Small x
+    step unreachable e = tt
+    step (finite k) e = omega (arith, few, dist-bound (arcs net) (order net) u t within h maxSeconds k costs e)
+
 module _ (f : Bytes) (ok : Sound f) where
   abbrev n : ℕ
   n = nodeCount (nodeBody f)
@@ -150,12 +161,7 @@ module _ (f : Bytes) (ok : Sound f) where
   few = rw (count-nodes f) (node-bytes .0)
 
   pub near : (u t : ℕ) → u < order (network f) → Small (distance (network f) u t)
-  unfolding distance
-  near u t h = step (distance (network f) u t) refl
-    where
-      step : (x : Distance) → distance (network f) u t ≡ x → Small x
-      step unreachable e = tt
-      step (finite k) e = omega (arith, few, dist-bound (arcs (network f)) (order (network f)) u t within h maxSeconds k costs e)
+  near = net-near (network f) few within costs
 
   pub edge-bytes : (edgeCount (edgeBody f) ≤ maxEdges) × (length (edgeBody f) ≤ edgeSize * maxEdges)
   unfolding edgesBroken edgeCount

@@ -108,7 +108,7 @@ module _ (d : ℕ → Distance) where
   abbrev test : ℕ → Arc → Bool
   test u a = eqb (a .from) u && agree (plus (finite (a .cost)) (d (a .to))) (d u)
 
-  nexts→ : (arcs : List Arc) (u : ℕ) {v : ℕ} → List·Memᴰ v (nexts d arcs u) → Step d arcs u v
+  pub nexts→ : (arcs : List Arc) (u : ℕ) {v : ℕ} → List·Memᴰ v (nexts d arcs u) → Step d arcs u v
   unfolding nexts
   nexts→ arcs u {v} m =
       let r = map→ (λ a. a .to) (filter (test u) arcs) m in
@@ -128,7 +128,7 @@ module _ (d : ℕ → Distance) where
         sum = f .sum;
       }
 
-  →nexts : (arcs : List Arc) (u v : ℕ) → Step d arcs u v → List·Memᴰ v (nexts d arcs u)
+  pub →nexts : (arcs : List Arc) (u v : ℕ) → Step d arcs u v → List·Memᴰ v (nexts d arcs u)
   unfolding nexts
   →nexts arcs u v s =
       let there : d (s .arc .to) ≡ finite (s .k) = ap d (s .ends) ∙ s .there in
@@ -138,10 +138,10 @@ module _ (d : ℕ → Distance) where
 -- ---- the way is a least walk, and the first
 module _ (arcs : List Arc) (t : ℕ) (d : ℕ → Distance) (exact : Exact arcs t d) (positive : Positive arcs) where
   -- the first arc of a least walk leads to a next node
-  then-exact : (a : Arc) → List·Memᴰ a arcs → {k : ℕ} → Walk arcs (a .to) t k → d (a .from) ≡ finite (a .cost + k) → d (a .to) ≡ finite k
+  pub then-exact : (a : Arc) → List·Memᴰ a arcs → {k : ℕ} → Walk arcs (a .to) t k → d (a .from) ≡ finite (a .cost + k) → d (a .to) ≡ finite k
   then-exact a m {k} w e = exact .times (a .to) k .1 (part (exact .times (a .from) (a .cost + k) .0 e) (one a m) w stay (omega arith))
 
-  first-step : (a : Arc) → List·Memᴰ a arcs → {k : ℕ} → Walk arcs (a .to) t k → d (a .from) ≡ finite (a .cost + k) → Step d arcs (a .from) (a .to)
+  pub first-step : (a : Arc) → List·Memᴰ a arcs → {k : ℕ} → Walk arcs (a .to) t k → d (a .from) ≡ finite (a .cost + k) → Step d arcs (a .from) (a .to)
   first-step a m {k} w e = record { arc = a; listed = m; starts = refl; ends = refl; n = a .cost + k; k = k; here = e; there = then-exact a m w e; sum = refl }
 
   -- a next node is a positive time nearer

@@ -15,7 +15,8 @@ use Rattle.model.specs.Query.{nexts}
 use Rattle.theory.specs.Tests.{both}
 use Rattle.theory.specs.Members.{map→, →map, filter→, →filter}
 use Rattle.theory.specs.Extremes.{leastOf-mem, leastOf-le}
-use Rattle.arcs.specs.Arcs.{arcsIn, leaves, leaving}
+use Rattle.sheet.specs.ArcsUnder.{arcsUnder}
+use Rattle.arcs.specs.Arcs.{leaves, leaving}
 use Rattle.arcs.specs.declared.leaving.ArcAt.{ArcAt}
 use Rattle.arcs.specs.Leaving.{arcHere, PassedArcs, SteppedArc}
 
@@ -29,15 +30,6 @@ least-same s xs ys f g = let p = below xs ys f in let q = below ys xs g in omega
 module _ (d : ℕ → Distance) (u : ℕ) where
   abbrev test : Arc → Bool
   test a = eqb (a .from) u && agree (plus (finite (a .cost)) (d (a .to))) (d u)
-
-  -- A next node is the end of an arc that passes the test.
-  pub nexts→ : (arcs : List Arc) {v : ℕ} → List·Memᴰ v (nexts d arcs u) → (a : Arc) × List·Memᴰ a arcs × (v ≡ a .to)
-      × (agree (plus (finite (a .cost)) (d (a .to))) (d u) ≡ true)
-  unfolding nexts
-  nexts→ arcs m =
-      let r = map→ (λ a. a .to) (filter test arcs) m in
-      let g = filter→ test arcs (r .1) in
-      (r .0, g .0, r .2, both {b = eqb (r .0 .from) u} (g .1) .1)
 
   -- Arcs out of u that are among others give next nodes that are among those of the others.
   nexts-part : (xs ys : List Arc) → ((a : Arc) → List·Memᴰ a xs → eqb (a .from) u ≡ true → List·Memᴰ a ys) → (x : ℕ) → List·Memᴰ x (nexts d xs u)
@@ -75,19 +67,19 @@ module _ (d : ℕ → Distance) (u : ℕ) where
       step false k = rw (eq-eqb u u refl, h, k)
 
   -- ---- the arcs out of u, as a walk passes them: r is the lowest over those passed
-  pub record Lowered (edges closed : Bytes) (n : ℕ) (w : List ℕ) (best : ℕ) (a : ArcAt) (r : ℕ) : Type 0 where
+  pub record Lowered (edges closed lines : Bytes) (n : ℕ) (w : List ℕ) (best : ℕ) (a : ArcAt) (r : ℕ) : Type 0 where
     pub done : List Arc
-    pub passes : PassedArcs edges closed n w u done a
+    pub passes : PassedArcs edges closed lines n w u done a
     pub low : r ≡ leastOf best (nexts d done u)
 
-  module _ (edges closed : Bytes) (n : ℕ) (w : List ℕ) (best : ℕ) (a : ArcAt) where
-    pub lowered-first : PassedArcs edges closed n w u [] a → Lowered edges closed n w best a best
+  module _ (edges closed lines : Bytes) (n : ℕ) (w : List ℕ) (best : ℕ) (a : ArcAt) where
+    pub lowered-first : PassedArcs edges closed lines n w u [] a → Lowered edges closed lines n w best a best
     lowered-first p = record { done = []; passes = p; low = unfold nexts filter leastOf in refl }
 
-    module _ (r : ℕ) (l : Lowered edges closed n w best a r) where
+    module _ (r : ℕ) (l : Lowered edges closed lines n w best a r) where
       pub lowered-next : (left r′ : ℕ) (a′ : ArcAt) → d u ≡ finite left → r′ ≡ cond (agree (plus (finite (a .cost)) (d (a .to))) (finite left)) (min r (a .to))
-          r → SteppedArc edges closed n w u a a′
-          → Lowered edges closed n w best a′ r′
+          r → SteppedArc edges closed lines n w u a a′
+          → Lowered edges closed lines n w best a′ r′
       lowered-next left r′ a′ h e s = record {
         done = l .done ++ arcHere u a ∷ [];
         passes = s .passes (l .done) (l .passes);
@@ -96,9 +88,10 @@ module _ (d : ℕ → Distance) (u : ℕ) where
       }
 
       -- Only the set of arcs matters, and of those only the ones that leave u.
-      pub lowered-last : n ≤ a .to → r ≡ leastOf best (nexts d (arcsIn edges closed) u)
+      pub lowered-last : n ≤ a .to → r ≡ leastOf best (nexts d (arcsUnder edges closed lines) u)
       unfolding leaving leaves
       lowered-last h =
-          l .low ∙ least-same best (nexts d (l .done) u) (nexts d (arcsIn edges closed) u)
-          (λ x m. nexts-part (l .done) (arcsIn edges closed) (λ y k e. filter→ (leaves u) (arcsIn edges closed) (l .passes .all h y .0 k) .0) x m)
-          (λ x m. nexts-part (arcsIn edges closed) (l .done) (λ y k e. l .passes .all h y .1 (→filter (leaves u) (arcsIn edges closed) k e)) x m)
+          let all : List Arc = arcsUnder edges closed lines in
+          l .low ∙ least-same best (nexts d (l .done) u) (nexts d all u)
+          (λ x m. nexts-part (l .done) all (λ y k e. filter→ (leaves u) all (l .passes .all h y .0 k) .0) x m)
+          (λ x m. nexts-part all (l .done) (λ y k e. l .passes .all h y .1 (→filter (leaves u) all k e)) x m)

@@ -8,21 +8,20 @@ ghost use Rattle.model.specs.Lists.{leastOf};
 ghost use Rattle.model.specs.Distance.{finite, plus, agree};
 ghost use Rattle.model.specs.Network.{maxNodes};
 ghost use Rattle.model.specs.Query.{nexts};
-ghost use Rattle.arcs.specs.Arcs.{arcsIn};
-ghost use Rattle.index.specs.Index.{IndexedEdges};
+ghost use Rattle.sheet.specs.ArcsUnder.{arcsUnder};
 ghost use Rattle.words.specs.Frames.{Enough};
 ghost use Rattle.way.specs.Distances.{distanceIn};
 ghost use Rattle.words.specs.Regions.{timesIn};
-ghost use Rattle.arcs.specs.Leaving.{maxCost};
+ghost use Rattle.arcs.specs.Leaving.{EdgesUnder, maxCost};
 use arcs::cursor::first_edge;
-use arcs::leaving::arc_at;
-use arcs::leaving::next_arc;
+use arcs::leaving::arc_under;
+use arcs::leaving::next_under;
 use codec::records::NO_WALK;
 use words::times::time_of;
 
 // The lower of `best` and v where v is next by an arc of `cost` seconds, and else `best`. 'No walk' is no time to add, and the sum is wide, so that it
 // need not be kept small.
-fn lower(work: &[u32], n: usize, v: usize, cost: u64, left: u32, best: usize) -> usize
+pub fn lower(work: &[u32], n: usize, v: usize, cost: u64, left: u32, best: usize) -> usize
     requires { ⌜ (n ≤ length (now work)) × (v < n) × (cost ≤ maxCost) ⌝ }
     ensures { λ r. ⌜ r ≡ cond (agree (plus (finite cost) (distanceIn (timesIn n (now (work .entry))) v)) (finite left)) (min best v) best ⌝ }
 {
@@ -39,18 +38,27 @@ fn lower(work: &[u32], n: usize, v: usize, cost: u64, left: u32, best: usize) ->
     best
 }
 
-// The lowest of the next nodes of u, or the number of nodes where there is none.
-pub fn next_node(edges: &[u8], closed: &[u8], n: usize, work: &[u32], u: usize, left: u32) -> usize
+// The lowest of the next nodes of u, over the edges as the lines of a sheet leave them, or the number of nodes where there is none.
+pub fn next_node(
+    edges: &[u8],
+    closed: &[u8],
+    lines: &[u8],
+    n: usize,
+    work: &[u32],
+    u: usize,
+    left: u32,
+) -> usize
     requires { ⌜ (distanceIn (timesIn n (now work)) u ≡ finite left) × (n ≤ maxNodes) × Enough n (now work) ⌝ }
-    requires { ⌜ IndexedEdges (now edges) (now closed) n (now work) ⌝ }
-    ensures { λ r. ⌜ r ≡ leastOf n (nexts (distanceIn (timesIn n (now (work .entry)))) (arcsIn (now (edges .entry)) (now (closed .entry))) u) ⌝ }
+    requires { ⌜ EdgesUnder (now edges) (now closed) (now lines) n (now work) ⌝ }
+    ensures { λ r. ⌜ r ≡ leastOf n (nexts (distanceIn (timesIn n (now (work .entry))))
+        (arcsUnder (now (edges .entry)) (now (closed .entry)) (now (lines .entry))) u) ⌝ }
 {
     let mut r = n;
     let c = first_edge(edges, closed, n, work, u);
-    let mut a = arc_at(edges, n, u, c);
+    let mut a = arc_under(edges, closed, lines, n, work, u, c);
     while a.to < n {
         r = lower(work, n, a.to, a.cost, left, r);
-        a = next_arc(edges, closed, n, work, u, a);
+        a = next_under(edges, closed, lines, n, work, u, a);
     }
     r
 }

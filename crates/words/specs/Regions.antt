@@ -2,7 +2,8 @@
 --   0              a time for each node
 --   n              the queue of a search, and its settle order when it has ended
 --   2 n            the settled set of a search, and after it the marks
---   3 n            sets of nodes, one bit a node: wanted, own, gathered, transit; an opened oracle has its grid behind the wanted set
+--   3 n            sets of nodes, one bit a node: wanted, own, gathered, transit; an opened oracle has its grid behind the wanted set, and a day sheet's
+--                  spans behind the grid, up to the index
 --   3 n + 4 sets   a number for each node
 --   behind it      the index of the edges
 use Prim.Native.Nat.{ℕ, zero, suc, _+_, _-_, _*_}
@@ -50,8 +51,18 @@ counts = 7
 abbrev pub gridAt : ℕ → ℕ
 gridAt n = searchWords n + setWords n
 
+abbrev pub gridWords : ℕ
+gridWords = 4
+
 abbrev pub indexAt : ℕ → ℕ
 indexAt n = 4 * n + 4 * setWords n
+
+-- Where the spans of a day sheet's lines stand, between the two, and how many there are. One node alone has none.
+abbrev pub spansAt : ℕ → ℕ
+spansAt n = gridAt n + gridWords
+
+abbrev pub spanCount : ℕ → ℕ
+spanCount n = indexAt n - spansAt n
 
 -- ---- what they hold
 
@@ -91,6 +102,10 @@ regionFlags n k work = flags n (drop (regionAt n k) work)
 -- A number for each node.
 abbrev pub countsIn : ℕ → List ℕ → List ℕ
 countsIn n work = take n (drop (regionAt n counts) work)
+
+-- The spans of a day sheet's lines.
+unfoldable pub spansIn : ℕ → List ℕ → List ℕ
+spansIn n work = take (spanCount n) (drop (spansAt n) work)
 
 -- The words of the index.
 unfoldable pub indexIn : ℕ → List ℕ → List ℕ

@@ -6,7 +6,7 @@ ghost use lib.ListN.{length, set, take, drop, replicate};
 ghost use Rattle.model.specs.Network.{maxNodes};
 ghost use Rattle.bitset.specs.Bits.{setWords, isIn};
 ghost use Rattle.bitset.specs.Members.{HasBits};
-ghost use Rattle.words.specs.Regions.{regionAt, region, regionFlags, counts, countsIn, gridAt, indexAt};
+ghost use Rattle.words.specs.Regions.{regionAt, region, regionFlags, counts, countsIn, gridAt, indexAt, spansAt, spanCount};
 ghost use Rattle.words.specs.Frames.{Only};
 use bitset::bits::contains;
 use bitset::bits::insert_at;
@@ -42,6 +42,9 @@ pub const TRANSIT: usize = 6;
 // A number for each node.
 pub const COUNTS: usize = 7;
 
+// The numbers of an opened oracle's grid.
+pub const GRID_WORDS: usize = 4;
+
 // Where region k begins.
 pub fn region_at(n: usize, k: usize) -> usize
     requires { ⌜ regionAt n k < 18446744073709551616 ⌝ }
@@ -67,6 +70,21 @@ pub fn index_at(n: usize) -> usize
     ensures { λ r. ⌜ r ≡ indexAt n ⌝ }
 {
     4 * n + 4 * set_words(n)
+}
+
+// Where the spans of a day sheet's lines begin, and how many there are.
+pub fn spans_at(n: usize) -> usize
+    requires { ⌜ n ≤ maxNodes ⌝ }
+    ensures { λ r. ⌜ r ≡ spansAt n ⌝ }
+{
+    grid_at(n) + GRID_WORDS
+}
+
+pub fn span_count(n: usize) -> usize
+    requires { ⌜ (2 ≤ n) × (n ≤ maxNodes) ⌝ }
+    ensures { λ r. ⌜ (r ≡ spanCount n) × (0 < r) ⌝ }
+{
+    index_at(n) - spans_at(n)
 }
 
 // The m words from word a on.

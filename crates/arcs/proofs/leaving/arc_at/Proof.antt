@@ -1,16 +1,16 @@
 -- `leaving::arc_at` meets its contract: the edge has one arc that leaves u, to its other end.
 use Prim.Native.Nat.{_<_}
 use native.Mathlib.Omega.{arith}
-use mathlib.Core.Path.{refl}
 use borrow.Author.Needs.{needs}
 use Rattle.model.specs.Network.{edgeCount}
+use Rattle.theory.specs.Sound.{edge-fine}
 use Rattle.arcs.proofs.leaving.arc_at.Statement.{statement}
 use Rattle.arcs.proofs.leaving.arc_at.Tie as tie
-use Rattle.arcs.proofs.Passes.{found-none, found-arc}
+use Rattle.arcs.proofs.Passes.{left-none, plain-some}
 
 returns : tie.Need-returns
 unfolding edgeCount
-returns c = (refl, found-none _ _ _ _ (c .if1 .taken))
+returns c = (left-none _ _ _ _ _ (c .if1 .taken), omega arith)
 
 edge-first-requires : tie.Need-edge-first-requires
 edge-first-requires c κs = search needs
@@ -30,13 +30,14 @@ cast-cost c = search needs
 returns-2 : tie.Need-returns-2
 unfolding edgeCount
 returns-2 c =
-    let s = c .before .before .before .before .before .before in
-    let p = s .pre in
-    let a = s .args in
-    let l : a .c .edge < edgeCount (a .edges .now) = omega (arith, c .before .before .before .before .if1 .left) in (
-      refl,
-      found-arc (a .edges .now) (a .n) (a .u) (a .c) (p .0) l (p .1 l) _ _ _ _ (c .before .before .before .edge-first .ensures .0)
-          (c .before .before .edge-second .ensures .0) (c .before .other-end .ensures) (c .edge-seconds .ensures),
+    let p = c .before .before .before .before .before .before .pre in
+    let a = c .before .before .before .before .before .before .args in
+    let l : a .c .edge < edgeCount (a .edges .now) = omega (arith, c .before .before .before .before .if1 .left) in
+    let f = edge-fine (a .n) (a .edges .now) (p .0) (a .c .edge) l in (
+      plain-some (a .edges .now) (a .n) (a .u) (a .c) (p .0) l (p .1 l) _ _ _ _ (c .before .before .before .edge-first .ensures .0)
+          (c .before .before .edge-second .ensures .0)
+          (c .before .other-end .ensures) (c .edge-seconds .ensures),
+      omega (arith, f .at-most, c .edge-seconds .ensures),
     )
 
 pub arc-at-spec : {M : Type 1} → statement M

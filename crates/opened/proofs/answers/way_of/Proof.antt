@@ -1,7 +1,8 @@
 -- `answers::way_of` meets its contract.
 use native.Mathlib.Omega.{arith}
 use Rattle.theory.specs.Passed.{all-shaped}
-use Rattle.opened.proofs.WayLaws.{way-over}
+use Rattle.arcs.proofs.Bodies.{plain}
+use Rattle.opened.proofs.WayLaws.{own-searched, way-over}
 use Rattle.opened.proofs.OpenLaws.{lent}
 use borrow.Author.Needs.{needs}
 use Rattle.opened.proofs.answers.way_of.Statement.{statement}
@@ -16,17 +17,18 @@ body-requires c κs = c .oracle-contents .ensures _ (omega arith)
 body-requires-2 : tie.Need-body-requires-2
 body-requires-2 c κs = c .before .oracle-contents .ensures _ (omega arith)
 
+slice-aggregate-write-way-to : tie.Need-slice-aggregate-write-way-to
+slice-aggregate-write-way-to c = search needs
+
 node-count-requires : tie.Need-node-count-requires
 node-count-requires c κs = search needs
 
 write-way-to-requires : tie.Need-write-way-to-requires
 write-way-to-requires c κs =
-    let p = c .before .before .before .before .before .before .before .before .before .pre in
-    let body = c .before .before .before .before .body in
-    let body2 = c .before .before .before .body2 in
-    let node-count = c .before .before .node-count in
-    let k = lent _ _ (p .0) _ _ _ (body .ensures) (body2 .ensures) (node-count .ensures) in
-    (k .few, k .below _ (p .1), k .below _ (p .2), k .room, k .edge, k .roads)
+    let p = c .before .before .before .before .before .before .before .before .before .before .pre in
+    let k = lent _ _ (p .0) _ _ _ (c .before .before .before .before .before .body .ensures) (c .before .before .before .before .body2 .ensures)
+    (c .before .before .node-count .ensures) in
+    (k .few, k .below _ (p .1), k .below _ (p .2), k .room, plain _ _ _ _ (k .roads))
 
 same-length : tie.Need-same-length
 same-length c = search needs
@@ -36,16 +38,20 @@ same-length-2 c = search needs
 
 returns : tie.Need-returns
 returns c =
-    let p = c .before .before .before .before .before .before .before .before .before .before .before .before .before .before .pre in
-    let a = c .before .before .before .before .before .before .before .before .before .before .before .before .before .before .args in
-    let body = c .before .before .before .before .before .before .before .before .before .body in
-    let body2 = c .before .before .before .before .before .before .before .before .body2 in
-    let node-count = c .before .before .before .before .before .before .before .node-count in
-    let write-way-to = c .before .before .before .before .write-way-to in
-    let n = node-count .ensures in
-    let written = write-way-to .ensures in
-    let same = way-over (a .o .now) (all-shaped _ (p .0 .shape)) (a .t) (p .2) (a .s) in
-    (rw (← same, ← body .ensures, ← body2 .ensures, ← n) (written .0), rw n at (written .1))
+    let p = c .before .before .before .before .before .before .before .before .before .before .before .before .before .before .before .pre in
+    let a = c .before .before .before .before .before .before .before .before .before .before .before .before .before .before .before .args in
+    let n = c .before .before .before .before .before .before .before .node-count .ensures in
+    let written = c .before .before .before .before .write-way-to .ensures in
+    let same = way-over _ _ _ (own-searched (a .o .now) (all-shaped _ (p .0 .shape))) (a .t) (p .2) (a .s) in (
+      rw (
+        ← same,
+        ← c .before .before .before .before .before .before .before .before .before .before .body .ensures,
+        ←
+            c .before .before .before .before .before .before .before .before .before .body2 .ensures,
+        ← n,
+      ) (written .0),
+      rw n at (written .1),
+    )
 
 pub way-of-spec : {M : Type 1} → statement M
 way-of-spec =
@@ -54,6 +60,7 @@ way-of-spec =
     oracle-contents-requires
     body-requires
     body-requires-2
+    slice-aggregate-write-way-to
     node-count-requires
     write-way-to-requires
     same-length

@@ -1,6 +1,7 @@
 -- `local::local_seconds` meets its contract.
 use native.Mathlib.Omega.{arith}
 use mathlib.Core.Path.{refl, sym}
+use Rattle.arcs.proofs.Bodies.{plain, plain-arcs}
 use Rattle.opened.proofs.OpenLaws.{lent}
 use Rattle.opened.proofs.SearchWords.{distance-in, itself-no-time}
 use borrow.Author.Needs.{needs}
@@ -17,31 +18,38 @@ oracle-body-requires c κs = search needs
 oracle-body-requires-2 : tie.Need-oracle-body-requires-2
 oracle-body-requires-2 c κs = search needs
 
+slice-aggregate-search-seconds : tie.Need-slice-aggregate-search-seconds
+slice-aggregate-search-seconds c = search needs
+
 node-count-requires : tie.Need-node-count-requires
 node-count-requires c κs = search needs
 
 search-seconds-requires : tie.Need-search-seconds-requires
 search-seconds-requires c κs =
-    let p = c .before .before .before .before .before .before .before .pre in
-    let oracle-body = c .before .before .before .oracle-body in
-    let oracle-body2 = c .before .before .oracle-body2 in
-    let k = lent _ _ (p .0) _ _ _ (oracle-body .ensures) (oracle-body2 .ensures) (c .before .node-count .ensures) in
-    (k .few, k .below _ (p .1), k .below _ (p .2), k .room, k .roads, k .below 1 (omega (arith, p .1, p .2, c .before .before .before .before .if1 .left)))
+    let p = c .before .before .before .before .before .before .before .before .pre in
+    let k = lent _ _ (p .0) _ _ _ (c .before .before .before .before .oracle-body .ensures) (c .before .before .before .oracle-body2 .ensures)
+    (c .before .node-count .ensures) in (
+      k .few,
+      k .below _ (p .1),
+      k .below _ (p .2),
+      k .room,
+      plain _ _ _ _ (k .roads),
+      k .below 1
+          (omega (arith, p .1, p .2, c .before .before .before .before .before .if1 .left)),
+    )
 
 same-length : tie.Need-same-length
 same-length c = search needs
 
 returns-2 : tie.Need-returns-2
 returns-2 c =
-    let a = c .before .before .before .before .before .before .before .before .before .before .args in
-    let oracle-body = c .before .before .before .before .before .before .oracle-body in
-    let oracle-body2 = c .before .before .before .before .before .oracle-body2 in
-    let node-count = c .before .before .before .before .node-count in
-    let search-seconds = c .before .before .search-seconds in
-    let same = distance-in (a .o .now) (a .s) (a .t) in (
-      rw (same, ← oracle-body .ensures, ← oracle-body2 .ensures, ← node-count .ensures) (search-seconds .ensures .0),
-      rw (node-count .ensures) at (search-seconds .ensures .1),
-    )
+    let a = c .before .before .before .before .before .before .before .before .before .before .before .args in
+    let same = distance-in (a .o .now) (a .s) (a .t) in
+    let edges = c .before .before .before .before .before .before .before .oracle-body .ensures in
+    let closed = c .before .before .before .before .before .before .oracle-body2 .ensures in
+    let n = c .before .before .before .before .node-count .ensures in
+    let found = c .before .before .search-seconds .ensures in
+    (rw (same, ← edges, ← closed, ← n) (rw (plain-arcs _ _) at (found .0)), rw n at (found .1))
 
 pub local-seconds-spec : {M : Type 1} → statement M
 local-seconds-spec =
@@ -50,6 +58,7 @@ local-seconds-spec =
     returns
     oracle-body-requires
     oracle-body-requires-2
+    slice-aggregate-search-seconds
     node-count-requires
     search-seconds-requires
     same-length

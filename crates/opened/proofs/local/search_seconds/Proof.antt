@@ -1,6 +1,6 @@
 -- `local::search_seconds` meets its contract.
 use Rattle.opened.proofs.OpenLaws.{stopped-word}
-use Rattle.arcs.specs.Arcs.{arcsIn}
+use Rattle.sheet.specs.ArcsUnder.{arcsUnder}
 use mathlib.Core.Path.{_∙_}
 use borrow.Author.Needs.{needs}
 use Rattle.opened.proofs.local.search_seconds.Statement.{statement}
@@ -17,10 +17,10 @@ same-length c = search needs
 
 returns : tie.Need-returns
 returns c =
-    let a = c .before .before .before .before .before .before .before .before .before .args in
-    let p = c .before .before .before .before .before .before .before .before .before .pre in
+    let a = c .before .before .before .before .before .before .before .before .before .before .args in
+    let p = c .before .before .before .before .before .before .before .before .before .before .pre in
     let found = c .before .before .before .before .search-to .ensures in
-    (c .time-of .ensures .0 ∙ stopped-word (arcsIn (a .edges .now) (a .closed .now)) (a .n) (a .s) (a .t) _ _ (p .2) (found .0), found .1)
+    (c .time-of .ensures .0 ∙ stopped-word (arcsUnder (a .edges .now) (a .closed .now) (a .lines .now)) (a .n) (a .s) (a .t) _ _ (p .2) (found .0), found .1)
 
 pub search-seconds-spec : {M : Type 1} → statement M
 search-seconds-spec =

@@ -1,5 +1,6 @@
 -- `local::search_to` meets its contract.
-use Rattle.opened.proofs.OpenLaws.{roads-behind, lacking-one}
+use Rattle.arcs.proofs.Kept.{edges-behind}
+use Rattle.opened.proofs.OpenLaws.{lacking-one}
 use Rattle.words.proofs.Stays.{kept-more}
 use mathlib.Core.Path.{_∙_}
 use native.Mathlib.Omega.{arith}
@@ -11,13 +12,13 @@ use Rattle.words.specs.Regions.{gridAt, searchWords}
 want-only-requires : tie.Need-want-only-requires
 want-only-requires c κs = search needs
 
-search-wanted-requires : tie.Need-search-wanted-requires
-search-wanted-requires c κs =
-    let a = c .before .before .before .before .before .before .before .before .args in
-    let p = c .before .before .before .before .before .before .before .before .pre in
+search-wanted-under-requires : tie.Need-search-wanted-under-requires
+search-wanted-under-requires c κs =
+    let a = c .before .before .before .before .before .before .before .before .before .args in
+    let p = c .before .before .before .before .before .before .before .before .before .pre in
     let want-only = c .before .before .before .want-only in (
       (p .0, p .1, omega (arith, p .3, want-only .kept .0), rw (want-only .ensures .0) (lacking-one (a .n) (a .t)), p .5),
-      roads-behind _ _ _ _ _ (want-only .ensures .1) (p .4),
+      edges-behind _ _ _ _ _ _ (want-only .ensures .1) (p .4),
     )
 
 same-length : tie.Need-same-length
@@ -25,13 +26,13 @@ same-length c = search needs
 
 returns : tie.Need-returns
 returns c =
-    let a = c .before .before .before .before .before .before .before .before .before .before .before .args in
+    let a = c .before .before .before .before .before .before .before .before .before .before .before .before .args in
     let want-only = c .before .before .before .before .before .before .want-only in
-    let search-wanted = c .before .before .search-wanted in (
-      rw (want-only .ensures .0) at (search-wanted .ensures .0 .0),
-      kept-more (searchWords (a .n)) (gridAt (a .n)) _ _ (omega arith) (search-wanted .ensures .1)
+    let search-wanted-under = c .before .before .search-wanted-under in (
+      rw (want-only .ensures .0) at (search-wanted-under .ensures .0 .0),
+      kept-more (searchWords (a .n)) (gridAt (a .n)) _ _ (omega arith) (search-wanted-under .ensures .1)
           ∙ want-only .ensures .1,
     )
 
 pub search-to-spec : {M : Type 1} → statement M
-search-to-spec = tie.close (tie.spec want-only-requires search-wanted-requires same-length returns)
+search-to-spec = tie.close (tie.spec want-only-requires search-wanted-under-requires same-length returns)

@@ -1,101 +1,26 @@
--- `front::search_front` meets its contract: the theory's state holds between the rounds, and e falls with each.
-use native.Mathlib.Omega.{arith}
-use mathlib.Core.Path.{_≡_, refl, _∙_}
+-- `front::search_front` meets its contract: without lines the arcs are those of the open edges.
 use borrow.Author.Needs.{needs}
-use lib.ListN.{length}
-use Rattle.arcs.specs.Arcs.{arcsIn}
-use Rattle.words.specs.Frames.{KeptFrom}
-use Rattle.search.proofs.Cursors.{roads-kept}
-use Rattle.search.proofs.Turns.{Standing, standing-first, first, next, last}
+use Rattle.arcs.proofs.Bodies.{plain, plain-arcs}
 use Rattle.search.proofs.front.search_front.Statement.{statement}
 use Rattle.search.proofs.front.search_front.Tie as tie
-use Rattle.words.specs.Regions.{frontIn, searchWords}
 
-abbrev Inv-loop : tie.InvT-loop
-Inv-loop edges closed n s work₀ k₀ e₀ work k e = (length work ≡ length work₀) × (KeptFrom (searchWords n) work₀ work)
-    × Standing (arcsIn edges closed) n s k e (frontIn n work)
+slice-aggregate-search-front-under : tie.Need-slice-aggregate-search-front-under
+slice-aggregate-search-front-under c = search needs
 
-abbrev μ-loop : tie.MeasureT-loop
-μ-loop edges closed n s work₀ k₀ e₀ work k e = e
+search-front-under-requires : tie.Need-search-front-under-requires
+search-front-under-requires c κs =
+    let p = c .before .before .before .before .before .pre in
+    let a = c .before .before .before .before .before .args in
+    (p .0, plain (a .edges .now) (a .closed .now) (a .n) (a .work .now) (p .1))
 
-begin-requires : tie.Need-begin-requires Inv-loop μ-loop
-begin-requires c κs = search needs
-
-loop-holds : tie.Need-loop-holds Inv-loop μ-loop
-loop-holds c =
-    let start = c .before .before .before .before .before .before .before in
-    let a = start .args in
-    let p = start .pre in
-    let r = c .before .before .begin .ensures in
-    (refl, refl, first (a .edges .now) (a .closed .now) (a .n) (a .s) (p .0 .0) (p .0 .1) (p .1 .ends) _ _ (r .0) (r .1 .0) (r .1 .1 .0))
-
-round-requires : tie.Need-round-requires Inv-loop μ-loop
-round-requires c κs =
-    let start = c .before .before .before .before .before .before .before .before .before .before in
-    let a = start .args in
-    let p = start .pre in
-    let l = c .before .before .loop in (
-      (
-        l .inv .2 .holds,
-        omega (arith, c .before .loop-test .taken),
-        standing-first (arcsIn (a .edges .now) (a .closed .now)) (a .n) (a .s) (l .k) (l .e) _
-            (l .inv .2),
-      ),
-      (
-        roads-kept (a .edges .now) (a .closed .now) (a .n) (a .work .now) (l .work)
-            (l .inv .1 ∙ c .before .before .before .before .before .begin .ensures .1 .1 .1) (p .1),
-        search needs,
-      ),
-    )
-
-sub-e : tie.Need-sub-e Inv-loop μ-loop
-sub-e c = omega (arith, c .before .before .before .before .before .loop .inv .2 .holds .queue .held, c .before .before .before .before .loop-test .taken)
-
-loop-less : tie.Need-loop-less Inv-loop μ-loop
-loop-less c = omega (arith, c .before .before .before .before .before .loop .inv .2 .holds .queue .held, c .before .before .before .before .loop-test .taken)
-
-loop-again : tie.Need-loop-again Inv-loop μ-loop
-loop-again c =
-    let start = c .before .before .before .before .before .before .before .before .before .before .before .before .before in
-    let a = start .args in
-    let p = start .pre in
-    let l = c .before .before .before .before .before .loop in (
-      search needs,
-      c .before .before .round .ensures .1 ∙ l .inv .1,
-      next (a .edges .now) (a .closed .now) (a .n) (a .s) (p .0 .0) (p .0 .1) (p .1 .ends)
-          (l .k) (l .e) _ (l .inv .2) _ _ (c .before .before .round .ensures .0),
-    )
-
-finish-requires : tie.Need-finish-requires Inv-loop μ-loop
-finish-requires c κs = (search needs, c .before .before .loop .inv .2 .holds .queue .room)
-
-same-length : tie.Need-same-length Inv-loop μ-loop
+same-length : tie.Need-same-length
 same-length c = search needs
 
-returns : tie.Need-returns Inv-loop μ-loop
+returns : tie.Need-returns
 returns c =
-    let start = c .before .before .before .before .before .before .before .before .before .before .before .before .before in
-    let a = start .args in
-    let p = start .pre in
-    let l = c .before .before .before .before .before .loop in
-    let o = c .before .before .finish .ensures in (
-      last (a .edges .now) (a .closed .now) (a .n) (a .s) (p .0 .0) (p .0 .1) (p .1 .ends) (l .k) (l .e) _ (l .inv .2)
-          (omega (arith, c .before .before .before .before .loop-test .left)) _ (o .0) (o .1 .0),
-      o .1 .1 ∙ (l .inv .1 ∙ c .before .before .before .before .before .before .before .before .begin .ensures .1 .1 .1),
-    )
+    let a = c .before .before .before .before .before .before .before .before .args in
+    let r = c .before .before .search-front-under .ensures in
+    (rw (plain-arcs (a .edges .now) (a .closed .now)) at (r .0), r .1)
 
 pub search-front-spec : {M : Type 1} → statement M
-search-front-spec =
-    tie.close
-    (tie.spec
-    Inv-loop
-    μ-loop
-    begin-requires
-    loop-holds
-    round-requires
-    sub-e
-    loop-less
-    loop-again
-    finish-requires
-    same-length
-    returns)
+search-front-spec = tie.close (tie.spec slice-aggregate-search-front-under search-front-under-requires same-length returns)

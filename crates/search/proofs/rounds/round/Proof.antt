@@ -1,8 +1,8 @@
 -- `rounds::round` meets its contract: a nearest node is settled, and no settled one is farther.
 use mathlib.Core.Path.{_∙_}
 use borrow.Author.Needs.{needs}
-use Rattle.arcs.specs.Arcs.{arcsIn}
-use Rattle.search.proofs.Cursors.{roads-kept}
+use Rattle.sheet.specs.ArcsUnder.{arcsUnder}
+use Rattle.arcs.proofs.Kept.{edges-kept}
 use Rattle.search.proofs.Fronts.{round-holds, round-within, round-front, others}
 use Rattle.search.proofs.rounds.round.Statement.{statement}
 use Rattle.search.proofs.rounds.round.Tie as tie
@@ -27,7 +27,7 @@ sub-relax-2 c = search needs
 
 relax-requires : tie.Need-relax-requires
 relax-requires c κs =
-    let s = c .before .before .before .before .before .before .before .before in
+    let s = c .before .before .before .before .before .before .before .before .before in
     let settle-nearest = c .before .before .before .settle-nearest in
     let a = s .args in
     let p = s .pre in
@@ -39,7 +39,11 @@ relax-requires c κs =
         t .near .inside,
         round-within (a .n) (a .work .now) ys (search needs) k (a .k) (a .e) _ t (p .0 .2),
       ),
-      (roads-kept (a .edges .now) (a .closed .now) (a .n) (a .work .now) _ (others (a .n) (a .work .now) ys (search needs) k) (p .1 .0), search needs),
+      (
+        edges-kept (a .edges .now) (a .closed .now) (a .lines .now) (a .n) (a .work .now) _
+            (others (a .n) (a .work .now) ys (search needs) k) (p .1 .0),
+        search needs,
+      ),
     )
 
 same-length : tie.Need-same-length
@@ -48,11 +52,11 @@ same-length c = search needs
 returns : tie.Need-returns
 returns c =
     let settle-nearest = c .before .before .before .before .before .before .settle-nearest in
-    let a = c .before .before .before .before .before .before .before .before .before .before .before .args in
+    let a = c .before .before .before .before .before .before .before .before .before .before .before .before .args in
     let t = settle-nearest .ensures in
     let ys = settle-nearest .last .0 in
     let k = settle-nearest .kept .0 in (
-      round-front (a .n) (a .work .now) ys (search needs) k (a .k) (a .e) _ t (arcsIn (a .edges .now) (a .closed .now)) _ _
+      round-front (a .n) (a .work .now) ys (search needs) k (a .k) (a .e) _ t (arcsUnder (a .edges .now) (a .closed .now) (a .lines .now)) _ _
           (c .before .before .relax .ensures .0),
       c .before .before .relax .ensures .1 ∙ others (a .n) (a .work .now) ys (search needs) k,
     )

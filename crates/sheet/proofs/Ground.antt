@@ -1,0 +1,140 @@
+-- The edges that a sheet leaves: which they are, what rules 6 and 20 give of them and of their arcs; and a sheet without lines. Assumes nothing.
+use Prim.Native.Nat.{ℕ, _+_, _≤_, _<_}
+use native.Mathlib.Omega.{arith}
+use native.Mathlib.Nat.{add-zero}
+use mathlib.Core.Path.{_≡_, refl, sym, _∙_, ap}
+use mathlib.Core.Bool.{true, false}
+use mathlib.Core.List.{List, [], _∷_, map, List·Memᴰ, List·Memᴰ·head, List·Memᴰ·not-nil, List·Memᴰ·eq-of-singleton}
+use borrow.Author.Tests.{ltb-false, le-ltb}
+use Rattle.model.specs.Lists.{any, filter, concatMap, upTo}
+use Rattle.model.specs.Bytes.{Bytes, words16}
+use Rattle.model.specs.Network.{Edge, edge, edgeCount, isOpen, openEdges, arcsOf, maxSeconds, someEdgeBroken}
+use Rattle.theory.specs.Walks.{Within, Costs, Positive}
+use Rattle.theory.specs.Members.{→map, concatMap→, →concatMap, filter→, →filter, range→, →upTo, none-any}
+use Rattle.theory.specs.Shape.{any-none}
+use Rattle.theory.specs.Sound as sound
+use Rattle.sheet.specs.Sheet.{Effect, Effect.shut, Effect.delayed, lineCount, linesIn, holds}
+use Rattle.sheet.specs.Under.{left, leftOf, edgesUnder, tooSlow}
+use Rattle.sheet.specs.ArcsUnder.{leftUnder, arcsUnder}
+use Rattle.sheet.proofs.Lasts.{none-held}
+
+-- ---- what an effect leaves of an edge
+abbrev pub later : ℕ → Edge → Edge
+later n e = record { first = e .first; second = e .second; seconds = e .seconds + n }
+
+pub left→ : (x : Effect) (e₀ : Edge) {e : Edge} → List·Memᴰ e (left x e₀) → (n : ℕ) × (x ≡ delayed n) × (e ≡ later n e₀)
+unfolding left
+left→ shut e₀ m = absurd (List·Memᴰ·not-nil m)
+left→ (delayed n) e₀ m = (n, refl, List·Memᴰ·eq-of-singleton m)
+
+pub →left : {x : Effect} (e₀ : Edge) {e : Edge} {n : ℕ} → x ≡ delayed n → e ≡ later n e₀ → List·Memᴰ e (left x e₀)
+unfolding left
+→left e₀ p q = rw p (List·Memᴰ·head q)
+
+-- ---- the edges that are left, by their numbers
+
+-- An edge of `es` with the ends of e and no more seconds.
+pub record Comes (es : List Edge) (e : Edge) : Type 0 where
+  pub old : Edge
+  pub listed : List·Memᴰ old es
+  pub first : old .first ≡ e .first
+  pub second : old .second ≡ e .second
+  pub seconds : old .seconds ≤ e .seconds
+
+module _ (effect : ℕ → Effect) (b : Bytes) (closed : List ℕ) where
+  abbrev open-ones : List ℕ
+  open-ones = filter (isOpen closed) (upTo (edgeCount b))
+
+  is-open : {i : ℕ} → i < edgeCount b → isOpen closed i ≡ true → List·Memᴰ i open-ones
+  is-open {i} h o = →filter (isOpen closed) (upTo (edgeCount b)) (→upTo (edgeCount b) i h) o
+
+  pub under→ : {e : Edge} → List·Memᴰ e (edgesUnder effect b closed) → (i : ℕ) × (i < edgeCount b) × (isOpen closed i ≡ true) × List·Memᴰ e (leftOf effect b i)
+  unfolding edgesUnder
+  under→ m =
+      let r = concatMap→ (leftOf effect b) open-ones m in
+      let f = filter→ (isOpen closed) (upTo (edgeCount b)) (r .1) in
+      (r .0, omega (arith, range→ 0 (edgeCount b) (r .0) (f .0)), f .1, r .2)
+
+  pub →under : {e : Edge} {i : ℕ} → i < edgeCount b → isOpen closed i ≡ true → List·Memᴰ e (leftOf effect b i) → List·Memᴰ e (edgesUnder effect b closed)
+  unfolding edgesUnder
+  →under h o m = →concatMap (leftOf effect b) open-ones (is-open h o) m
+
+  -- Each was open, with the same ends and no more seconds.
+  pub left-comes : {e : Edge} → List·Memᴰ e (edgesUnder effect b closed) → Comes (openEdges b closed) e
+  unfolding openEdges leftOf
+  left-comes m =
+      let (i, h, o, k) = under→ m in
+      let (n, p, q) = left→ (effect i) (edge b i) k in
+      record {
+        old = edge b i;
+        listed = →map (edge b) open-ones (is-open h o);
+        first = sym (ap (λ (e : Edge). e .first) q);
+        second = sym (ap (λ (e : Edge). e .second) q);
+        seconds = omega (arith, ap (λ (e : Edge). e .seconds) q);
+      }
+
+-- ---- rules 6 and 20
+module _ (b closed lines : Bytes) (n : ℕ) (ends : someEdgeBroken n b ≡ false) (slow : any tooSlow (leftUnder b closed lines) ≡ false) where
+  pub left-fine : (e : Edge) → List·Memᴰ e (leftUnder b closed lines) → sound.Fine n e
+  unfolding leftUnder
+  left-fine e m =
+      let c = left-comes (holds (linesIn lines)) b (words16 closed) m in
+      let r = sound.open-fine n b (words16 closed) ends (c .old) (c .listed) in
+      record {
+        first-in = omega (arith, r .first-in, c .first);
+        second-in = omega (arith, r .second-in, c .second);
+        apart = λ q. r .apart (c .first ∙ (q ∙ sym (c .second)));
+        at-most = ltb-false maxSeconds (e .seconds) (unfold tooSlow in none-any tooSlow (leftUnder b closed lines) slow m);
+        at-least = omega (arith, r .at-least, c .seconds);
+      }
+
+  pub arcs-within : Within n (arcsUnder b closed lines)
+  unfolding arcsUnder
+  arcs-within = sound.arcs-within n (leftUnder b closed lines) left-fine
+
+  pub arcs-cost : Costs maxSeconds (arcsUnder b closed lines)
+  unfolding arcsUnder
+  arcs-cost = sound.arcs-cost n (leftUnder b closed lines) left-fine
+
+  pub arcs-positive : Positive (arcsUnder b closed lines)
+  unfolding arcsUnder
+  arcs-positive = sound.arcs-positive n (leftUnder b closed lines) left-fine
+
+-- What rule 20 says of one open edge.
+module _ (b closed lines : Bytes) (slow : any tooSlow (leftUnder b closed lines) ≡ false) where
+  pub not-slow : (i : ℕ) → i < edgeCount b → isOpen (words16 closed) i ≡ true → (x : ℕ) → holds (linesIn lines) i ≡ delayed x
+      → edge b i .seconds + x ≤ maxSeconds
+  unfolding leftUnder leftOf tooSlow
+  not-slow i h o x p =
+      let m = →under (holds (linesIn lines)) b (words16 closed) h o (→left (edge b i) p refl) in
+      ltb-false maxSeconds (edge b i .seconds + x) (none-any tooSlow (edgesUnder (holds (linesIn lines)) b (words16 closed)) slow m)
+
+-- ---- effects that do nothing, and a sheet without lines
+left-zero : (e : Edge) → left (delayed 0) e ≡ e ∷ []
+unfolding left
+left-zero e = rw add-zero
+
+all-left : (effect : ℕ → Effect) → ((i : ℕ) → effect i ≡ delayed 0) → (b : Bytes) (is : List ℕ) → concatMap (leftOf effect b) is ≡ map (edge b) is
+unfolding concatMap leftOf
+all-left effect h b [] = refl
+all-left effect h b (i ∷ is) = rw (h i, left-zero (edge b i), all-left effect h b is)
+
+pub as-were : (effect : ℕ → Effect) → ((i : ℕ) → effect i ≡ delayed 0) → (b : Bytes) (closed : List ℕ) → edgesUnder effect b closed ≡ openEdges b closed
+unfolding edgesUnder openEdges
+as-were effect h b closed = all-left effect h b (filter (isOpen closed) (upTo (edgeCount b)))
+
+edges-as-were : (b closed : Bytes) → leftUnder b closed [] ≡ openEdges b (words16 closed)
+unfolding leftUnder lineCount
+edges-as-were b closed = as-were (holds (linesIn [])) (none-held [] refl) b (words16 closed)
+
+pub no-lines : (b closed : Bytes) → arcsUnder b closed [] ≡ concatMap arcsOf (openEdges b (words16 closed))
+unfolding arcsUnder
+no-lines b closed = ap (concatMap arcsOf) (edges-as-were b closed)
+
+-- Rule 20 follows from rule 6 then.
+pub open-quick : (n : ℕ) (b : Bytes) (closed : List ℕ) → someEdgeBroken n b ≡ false → any tooSlow (openEdges b closed) ≡ false
+unfolding tooSlow
+open-quick n b closed h = any-none tooSlow (openEdges b closed) (λ e m. le-ltb maxSeconds (e .seconds) (sound.open-fine n b closed h e m .at-most))
+
+pub plain-slow : (b closed : Bytes) (n : ℕ) → someEdgeBroken n b ≡ false → any tooSlow (leftUnder b closed []) ≡ false
+plain-slow b closed n h = rw (edges-as-were b closed) (open-quick n b (words16 closed) h)

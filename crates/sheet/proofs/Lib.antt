@@ -1,0 +1,9 @@
+-- The laws that the proofs cite, and that callers cite too.
+pub mod Effects
+pub mod Abouts
+pub mod Lasts
+pub mod Noting
+pub mod Seconds
+pub mod Ground
+pub mod Forms
+pub mod SlowLines

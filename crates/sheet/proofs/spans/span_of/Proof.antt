@@ -1,0 +1,69 @@
+-- `spans::span_of` meets its contract: a word of the spans is a word of the working words.
+use native.Mathlib.Omega.{arith}
+use native.Mathlib.Nat.{mod-lt}
+use Rattle.sheet.proofs.Noting.{span-read}
+use borrow.Author.Needs.{needs}
+use Rattle.sheet.proofs.spans.span_of.Statement.{statement}
+use Rattle.sheet.proofs.spans.span_of.Tie as tie
+
+spans-at-requires : tie.Need-spans-at-requires
+spans-at-requires c κs = search needs
+
+span-count-requires : tie.Need-span-count-requires
+span-count-requires c κs = search needs
+
+rem-result : tie.Need-rem-result
+rem-result c = search needs
+
+add-result : tie.Need-add-result
+add-result c =
+    let span-count = c .span-count in
+    let a = c .before .before .before .args in
+    omega (
+      arith,
+      c .before .before .before .pre,
+      c .before .spans-at .ensures,
+      span-count .ensures .0,
+      mod-lt (a .i) {m = span-count .result}
+          (span-count .ensures .1),
+    )
+
+mul-result : tie.Need-mul-result
+mul-result c =
+    let span-count = c .span-count in
+    let a = c .before .before .before .args in
+    omega (
+      arith,
+      c .before .before .before .pre,
+      c .before .spans-at .ensures,
+      span-count .ensures .0,
+      mod-lt (a .i) {m = span-count .result}
+          (span-count .ensures .1),
+    )
+
+shared-slice-read-result : tie.Need-shared-slice-read-result
+shared-slice-read-result c =
+    let p = c .before .before .before .before .pre in
+    let span-count = c .before .span-count in
+    let a = c .before .before .before .before .args in
+    omega (arith, p, c .before .before .spans-at .ensures, span-count .ensures .0, mod-lt (a .i) {m = span-count .result} (span-count .ensures .1))
+
+returns : tie.Need-returns
+returns c =
+    let a = c .before .before .before .before .args in
+    let spans-at = c .before .before .spans-at in
+    let span-count = c .before .span-count in
+    let p = c .before .before .before .before .pre in
+    span-read (a .n) (a .work .now) (spans-at .result) (span-count .result) (a .i) (p .0) (p .1) (p .2) (spans-at .ensures) (span-count .ensures .0)
+
+pub span-of-spec : {M : Type 1} → statement M
+span-of-spec =
+    tie.close
+    (tie.spec
+    spans-at-requires
+    span-count-requires
+    rem-result
+    add-result
+    mul-result
+    shared-slice-read-result
+    returns)

@@ -1,0 +1,108 @@
+-- The network as a sheet leaves it: what is kept of the file's network. Assumes nothing.
+use Prim.Native.Nat.{ℕ, _≤_, _<_}
+use native.Mathlib.Omega.{arith}
+use mathlib.Core.Path.{_≡_, refl, sym, _∙_}
+use mathlib.Core.Logic.{_↔_}
+use mathlib.Core.Bool.{true, true≢false}
+use mathlib.Core.List.{List, List·Memᴰ, List·Memᴰ·head, List·Memᴰ·tail}
+use Rattle.model.specs.Lists.{concatMap}
+use Rattle.model.specs.Bytes.{Bytes, words16}
+use Rattle.model.specs.Contents.{edgeBody, closedBody}
+use Rattle.model.specs.Walk.{Arc}
+use Rattle.model.specs.Network.{Edge, Network, network, edge, isOpen, order, arcsOf, arcs}
+use Rattle.theory.specs.Tests.{refuted}
+use Rattle.theory.specs.Members.{→concatMap, member→, →member}
+use Rattle.theory.specs.Passed.{Sound}
+use Rattle.theory.specs.Sound.{arc-of, ends, positive}
+use Rattle.theory.specs.NetWays.{Sane}
+use Rattle.sheet.specs.Sheet.{Effect, Effect.delayed}
+use Rattle.sheet.specs.Under.{leftOf, edgesUnder, networkUnder}
+use Rattle.sheet.proofs.Ground.{left→, →left, Comes, under→, →under, left-comes, as-were}
+use Rattle.sheet_demands.specs.SheetOutcomes.{Left}
+use Rattle.sheet_demands.specs.Slower.{Was, Slower}
+
+-- ---- an edge that is left is a road that was open, with the same ends and as many seconds more as its effect adds
+pub open→ : (closed : List ℕ) (i : ℕ) → isOpen closed i ≡ true → List·Memᴰ i closed → ⊥
+unfolding isOpen
+open→ closed i h m = true≢false (sym h ∙ rw (→member i closed m))
+
+pub →open : (closed : List ℕ) (i : ℕ) → (List·Memᴰ i closed → ⊥) → isOpen closed i ≡ true
+unfolding isOpen
+→open closed i h = rw (refuted (λ e. h (member→ i closed e)))
+
+module _ (effect : ℕ → Effect) (f : Bytes) where
+  abbrev b : Bytes
+  b = edgeBody f
+
+  abbrev closed : List ℕ
+  closed = words16 (closedBody f)
+
+  pub left-just : {e : Edge} → List·Memᴰ e (networkUnder effect f .edges) ↔ Left effect f e
+  unfolding networkUnder leftOf
+  left-just {e} = (there, back)
+    where
+      there : List·Memᴰ e (edgesUnder effect b closed) → Left effect f e
+      there m =
+          let (i, h, o, k) = under→ effect b closed m in
+          let (n, p, q) = left→ (effect i) (edge b i) (unfold leftOf in k) in
+          record { i = i; is-road = h; is-open = open→ closed i o; added = n; holds = p; is = q }
+
+      back : Left effect f e → List·Memᴰ e (edgesUnder effect b closed)
+      back l =
+          →under effect b closed (l .is-road) (→open closed (l .i) (l .is-open)) (unfold leftOf in →left (edge b (l .i)) (l .holds) (l .is))
+
+  abbrev net : Network
+  net = networkUnder effect f
+
+  was : {e : Edge} → List·Memᴰ e (net .edges) → Comes (network f .edges) e
+  unfolding networkUnder network
+  was m = left-comes effect b closed m
+
+  pub was-there : {e : Edge} → List·Memᴰ e (net .edges)
+      → (old : Edge) × List·Memᴰ old (network f .edges) × (old .first ≡ e .first) × (old .second ≡ e .second) × (old .seconds ≤ e .seconds)
+  was-there m = let c = was m in (c .old, c .listed, c .first, c .second, c .seconds)
+
+  pub same-order : order net ≡ order (network f)
+  unfolding order networkUnder network
+  same-order = refl
+
+  -- Arcs only go, and costs only rise.
+  pub slower : Slower (arcs (network f)) (arcs net)
+  unfolding arcs arcsOf
+  slower = arc-of (Was (arcs (network f))) (net .edges) (λ e m. onward (was m)) (λ e m. homeward (was m))
+    where
+      onward : {e : Edge} → Comes (network f .edges) e → Was (concatMap arcsOf (network f .edges)) (e .first) (e .second) (e .seconds)
+      onward c =
+          let x : Edge = c .old in
+          record {
+            arc = record { from = x .first; to = x .second; cost = x .seconds };
+            listed = →concatMap arcsOf (network f .edges) (c .listed) (List·Memᴰ·head refl);
+            starts = c .first;
+            ends = c .second;
+            cost = c .seconds;
+          }
+
+      homeward : {e : Edge} → Comes (network f .edges) e → Was (concatMap arcsOf (network f .edges)) (e .second) (e .first) (e .seconds)
+      homeward c =
+          let x : Edge = c .old in
+          record {
+            arc = record { from = x .second; to = x .first; cost = x .seconds };
+            listed = →concatMap arcsOf (network f .edges) (c .listed) (List·Memᴰ·tail (List·Memᴰ·head refl));
+            starts = c .second;
+            ends = c .first;
+            cost = c .seconds;
+          }
+
+  pub sane : Sound f → Sane net
+  sane sound = record { ends = λ e m. inside (was m); positive = λ a m. above (slower a m) }
+    where
+      inside : {e : Edge} → Comes (network f .edges) e → (e .first < order net) × (e .second < order net)
+      inside c = let r = ends f sound (c .old) (c .listed) in (omega (arith, r .0, c .first, same-order), omega (arith, r .1, c .second, same-order))
+
+      above : {a : Arc} → Was (arcs (network f)) (a .from) (a .to) (a .cost) → 0 < a .cost
+      above w = omega (arith, positive f sound (w .arc) (w .listed), w .cost)
+
+-- ---- a sheet that does nothing leaves the network as it is
+pub nothing-changed : (effect : ℕ → Effect) → ((i : ℕ) → effect i ≡ delayed 0) → (o : Bytes) → networkUnder effect o ≡ network o
+unfolding networkUnder network
+nothing-changed effect h o = rw (as-were effect h (edgeBody o) (words16 (closedBody o)))

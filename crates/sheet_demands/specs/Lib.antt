@@ -1,0 +1,12 @@
+-- ---- the words and the laws
+pub mod SheetOutcomes
+pub mod Slower
+pub mod Changed
+pub mod LineLaws
+pub mod DrivenLaws
+pub mod UnderLaws
+pub mod UnderCalls
+pub mod SheetLaws
+-- ---- the statements and the trials
+pub mod SheetDemands
+pub mod SheetTrials

@@ -1,0 +1,71 @@
+-- What rule 20 says of the line that holds, and a sheet without lines. Assumes nothing.
+use Prim.Native.Nat.{ℕ}
+use mathlib.Core.Path.{_≡_, sym, _∙_}
+use mathlib.Core.Logic.{_↔_}
+use mathlib.Core.Bool.{true, false}
+use mathlib.Core.List.{List}
+use Rattle.model.specs.Lists.{any}
+use Rattle.model.specs.Bytes.{Bytes, words16}
+use Rattle.model.specs.Contents.{nodeBody, edgeBody, closedBody}
+use Rattle.model.specs.Network.{network, nodeCount}
+use Rattle.theory.specs.Passed.{Sound}
+use Rattle.sheet.specs.Sheet.{Line, lineCount, linesIn, lineBody, holds, effects, namesBroken}
+use Rattle.sheet.specs.Under.{networkUnder, slowBroken}
+use Rattle.sheet.proofs.Lasts.{last-holds, no-lines, none-held}
+use Rattle.sheet.proofs.Ground.{open-quick}
+use Rattle.sheet.proofs.SlowLines.{quick, SlowEdge, slow→, →slow, slow-last}
+use Rattle.sheet_demands.specs.SheetOutcomes.{Slowed}
+use Rattle.sheet_demands.specs.Changed.{open→, →open, nothing-changed}
+
+-- ---- rule 20
+module _ (o sheet : Bytes) (sound : Sound o) where
+  abbrev lines : List Line
+  lines = linesIn (lineBody sheet)
+
+  abbrev SlowOne : Type 0
+  SlowOne = SlowEdge (holds lines) (edgeBody o) (words16 (closedBody o))
+
+  -- What takes an edge over the limit is the last line about it.
+  there : SlowOne → Slowed o sheet
+  there z =
+      let (k, l) = slow-last (edgeBody o) (words16 (closedBody o)) lines (quick (nodeCount (nodeBody o)) (edgeBody o) (sound .some-edge)) z in
+      record {
+        i = z .i;
+        is-road = z .below;
+        is-open = open→ (words16 (closedBody o)) (z .i) (z .unclosed);
+        line = k;
+        last = l;
+        added = z .added;
+        delays = sym (last-holds l) ∙ z .delays;
+        over = z .over;
+      }
+
+  back : Slowed o sheet → SlowOne
+  back z = record {
+    i = z .i;
+    below = z .is-road;
+    unclosed = →open (words16 (closedBody o)) (z .i) (z .is-open);
+    added = z .added;
+    delays = last-holds (z .last) ∙ z .delays;
+    over = z .over;
+  }
+
+  pub slow-just : (slowBroken (effects sheet) o ≡ true) ↔ Slowed o sheet
+  unfolding slowBroken networkUnder effects
+  slow-just =
+      (λ h. there (slow→ (holds lines) (edgeBody o) (words16 (closedBody o)) h), λ z. →slow (holds lines) (edgeBody o) (words16 (closedBody o)) (back z))
+
+-- ---- a sheet without lines
+module _ (sheet : Bytes) (empty : lineCount (lineBody sheet) ≡ 0) where
+  pub empty-network : (o : Bytes) → networkUnder (effects sheet) o ≡ network o
+  unfolding effects
+  empty-network o = nothing-changed (effects sheet) (none-held (lineBody sheet) empty) o
+
+  pub empty-names : (m : ℕ) → namesBroken m sheet ≡ false
+  unfolding namesBroken any
+  empty-names m = rw (no-lines (lineBody sheet) empty)
+
+  pub empty-slow : (o : Bytes) → Sound o → slowBroken (effects sheet) o ≡ false
+  unfolding slowBroken network
+  empty-slow o sound =
+      rw (empty-network o) (open-quick (nodeCount (nodeBody o)) (edgeBody o) (words16 (closedBody o)) (sound .some-edge))

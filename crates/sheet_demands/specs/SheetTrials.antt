@@ -1,0 +1,165 @@
+-- Calls under day sheets, worked by the definitions: one table, and one theorem that each comes out as it should. Assumes nothing.
+use Prim.Native.Nat.{ℕ}
+use mathlib.Core.Path.{_≡_, refl}
+use mathlib.Core.Bool.{Bool, true}
+use mathlib.Core.List.{List, [], _∷_, _++_}
+use lib.ListN.{drop, replicate}
+use Rattle.model.specs.Lists.{concatMap, all, equal}
+use Rattle.model.specs.Bytes.{Bytes, bytes16, bytes32}
+use Rattle.model.specs.Contents.{file, networkEdition, oracleEdition, nodeBody, edgeBody, gridBody, transitBody, accessBody, tableBody}
+use Rattle.model.specs.Oracle.{oracle}
+use Rattle.model.specs.Calls.{outputAfter, routeAfter, timeResult}
+use Rattle.model.specs.Trials.{line, fork, usual, Trial}
+use Rattle.model.specs.Compute.{computed}
+use Rattle.model.specs.declared.Kind.{Kind}
+use Rattle.model.specs.declared.Kind.the-variants.{Far, Local}
+use Rattle.model.specs.declared.Answer.{Answer}
+use Rattle.model.specs.declared.Answer.the-variants.{Time, None, Refused}
+use Rattle.sheet.specs.Sheet as sheets
+use Rattle.sheet.specs.Under as under
+use Rattle.sheet.specs.SheetCalls as calls
+
+-- ---- networks and oracles: document 01's Line and Fork, and two more
+
+-- Line with its second road twice.
+doubled : Bytes
+doubled =
+    file networkEdition (concatMap bytes32 (0 ∷ 0 ∷ 30 ∷ 0 ∷ 60 ∷ 0 ∷ [])
+    ∷ (concatMap bytes16 (0 ∷ 1 ∷ 7 ∷ 0 ∷ []) ++ concatMap bytes16 (1 ∷ 2 ∷ 9 ∷ 0 ∷ []) ++ concatMap bytes16 (1 ∷ 2 ∷ 9 ∷ 0 ∷ [])) ∷ [] ∷ [])
+
+-- An oracle that was never built: o with road i closed in body 3 alone, so that its lists and its table still go by it.
+unbuilt : Bytes → ℕ → Bytes
+unbuilt o i = file oracleEdition (nodeBody o ∷ edgeBody o ∷ bytes16 i ∷ gridBody o ∷ transitBody o ∷ accessBody o ∷ tableBody o ∷ [])
+
+-- ---- sheets
+close : ℕ → sheets.Line
+close i = record { status = sheets.closedByte; edge = i; added = 0 }
+
+delay : ℕ → ℕ → sheets.Line
+delay i n = record { status = sheets.delayedByte; edge = i; added = n }
+
+-- A line with another first byte, and a closure with seconds.
+odd : ℕ → sheets.Line
+odd status = record { status = status; edge = 0; added = 0 }
+
+close-with : ℕ → sheets.Line
+close-with n = record { status = sheets.closedByte; edge = 0; added = n }
+
+-- ---- what is asked, each as a list of numbers
+kind : Kind → ℕ
+kind Far = 0
+kind Local = 1
+
+told : Answer → List ℕ
+told (Time seconds k pairs) = 0 ∷ seconds ∷ kind k ∷ pairs ∷ []
+told (None k pairs) = 1 ∷ kind k ∷ pairs ∷ []
+told (Refused rule) = 2 ∷ rule ∷ []
+
+-- The calls, with words enough for five nodes: the time, without a sheet, under any bytes and under these lines ..
+words : List ℕ
+words = replicate 40 7
+
+plain : Bytes → ℕ → ℕ → List ℕ
+plain o s t = told (timeResult o s t words)
+
+time-by : Bytes → Bytes → ℕ → ℕ → List ℕ
+time-by o sheet s t = told (calls.timeUnderResult o sheet s t words)
+
+time : Bytes → List sheets.Line → ℕ → ℕ → List ℕ
+time o ls s t = time-by o (sheets.sheetOf ls) s t
+
+-- .. and the way: the number of the broken rule, the number of nodes, and an output of 8 bytes afterwards.
+route : Bytes → List sheets.Line → ℕ → ℕ → List ℕ
+route o ls s t =
+    let out : Bytes = replicate 8 7 in
+    let sheet = sheets.sheetOf ls in
+    let refusal = calls.wayUnderRefusal o sheet s t words out in
+    let nodes = under.wayUnder (sheets.effects sheet) o s t in
+    let r = routeAfter refusal nodes in
+    r .rule ∷ r .nodes ∷ outputAfter refusal (concatMap bytes16 nodes) out
+
+infix 5 _⇒_
+_⇒_ : List ℕ → List ℕ → Trial
+g ⇒ e = record { given = g; expected = e }
+
+pub holds : Trial → Bool
+holds t = equal (t .given) (t .expected)
+
+-- To unfold it is to unfold every definition of crate sheet that the calls go by.
+unfoldable pub sheets-computed : Unit {0}
+unfolding sheets.line sheets.lineCount sheets.linesIn sheets.lineBytes sheets.sheetFile sheets.sheetOf sheets.closes sheets.effectOf sheets.isAbout
+    sheets.about sheets.lastEffect sheets.holds sheets.effects sheets.formBroken sheets.lineBroken sheets.sheetBroken sheets.namesNone sheets.namesBroken
+    under.left under.leftOf under.edgesUnder under.networkUnder under.tooSlow under.slowBroken under.stillDriven under.isNone under.oldStands
+    under.timeUnder under.wayUnder calls.sheetRules calls.pairUnderRules calls.timeUnderRules calls.wayUnderRules calls.timeUnderRefusal
+    calls.timeUnderResult calls.wayUnderRefusal
+sheets-computed = tt
+
+-- ---- the table
+pub trials : List Trial
+trials =
+    let lineOracle = oracle line (usual 6) in
+    let forkOracle = oracle (fork []) (usual 6) in
+    let closedOracle = oracle (fork (4 ∷ [])) (usual 6) in
+    let doubledOracle = oracle doubled (usual 6) in
+    -- No lines: the old answer, kind and pairs, and the old way.
+    (time forkOracle [] 0 4 ⇒ told (Time 11 Far 4)) ∷
+    (time forkOracle [] 0 3 ⇒ told (Time 10 Local 0)) ∷
+    (route forkOracle [] 0 4 ⇒ 0 ∷ 4 ∷ 0 ∷ 0 ∷ 1 ∷ 0 ∷ 3 ∷ 0 ∷ 4 ∷ 0 ∷ []) ∷
+    -- A closure on the old way 0, 1, 3, 4: the other way is as quick, but was searched for.
+    (time forkOracle (close 0 ∷ []) 0 4 ⇒ told (Time 11 Local 0)) ∷
+    (route forkOracle (close 0 ∷ []) 0 4 ⇒ 0 ∷ 4 ∷ 0 ∷ 0 ∷ 2 ∷ 0 ∷ 3 ∷ 0 ∷ 4 ∷ 0 ∷ []) ∷
+    -- A second more on it does the same. On the last road there is no other way: 12.
+    (time forkOracle (delay 0 1 ∷ []) 0 4 ⇒ told (Time 11 Local 0)) ∷
+    (time forkOracle (delay 4 1 ∷ []) 0 4 ⇒ told (Time 12 Local 0)) ∷
+    -- A closure or a delay beside the old way: the old answer stands. So it does with a delay of 0 seconds on it.
+    (time forkOracle (close 1 ∷ []) 0 4 ⇒ told (Time 11 Far 4)) ∷
+    (time forkOracle (delay 3 50 ∷ []) 0 4 ⇒ told (Time 11 Far 4)) ∷
+    (time forkOracle (delay 0 0 ∷ delay 4 0 ∷ []) 0 4 ⇒ told (Time 11 Far 4)) ∷
+    -- A closure that leaves no walk: none, and a way of no node. One place twice needs no road.
+    (time lineOracle (close 1 ∷ []) 0 2 ⇒ told (None Local 0)) ∷
+    (route lineOracle (close 1 ∷ []) 0 2 ⇒ 0 ∷ 0 ∷ 7 ∷ 7 ∷ 7 ∷ 7 ∷ 7 ∷ 7 ∷ 7 ∷ 7 ∷ []) ∷
+    (time lineOracle (close 1 ∷ close 0 ∷ []) 1 1 ⇒ told (Time 0 Local 0)) ∷
+    -- Road 0 has 7 seconds. A delay to 100,000 passes, to 100,001 it gives 20.
+    (time lineOracle (delay 0 99_993 ∷ []) 0 1 ⇒ told (Time 100_000 Local 0)) ∷
+    (time lineOracle (delay 0 99_994 ∷ []) 0 1 ⇒ told (Refused 20)) ∷
+    (time lineOracle (delay 0 4_294_967_295 ∷ []) 0 1 ⇒ told (Refused 20)) ∷
+    -- The last of two lines holds: closed, then delayed, is open; delayed, then closed, is closed; so for 20.
+    (time lineOracle (close 0 ∷ delay 0 3 ∷ []) 0 1 ⇒ told (Time 10 Local 0)) ∷
+    (time lineOracle (delay 0 3 ∷ close 0 ∷ []) 0 1 ⇒ told (None Local 0)) ∷
+    (time lineOracle (delay 0 5 ∷ delay 0 3 ∷ []) 0 1 ⇒ told (Time 10 Local 0)) ∷
+    (time lineOracle (delay 0 99_994 ∷ delay 0 1 ∷ []) 0 1 ⇒ told (Time 8 Local 0)) ∷
+    (time lineOracle (delay 0 99_994 ∷ close 0 ∷ []) 0 1 ⇒ told (None Local 0)) ∷
+    -- One of two equal roads side by side is closed: the other serves, and the old answer stands. Both closed: none.
+    (time doubledOracle (close 1 ∷ []) 0 2 ⇒ told (Time 16 Far 1)) ∷
+    (time doubledOracle (close 2 ∷ delay 1 4 ∷ []) 0 2 ⇒ told (Time 20 Local 0)) ∷
+    (time doubledOracle (close 1 ∷ close 2 ∷ []) 0 2 ⇒ told (None Local 0)) ∷
+    -- A road closed in body 3 stays closed under every line, and gives no 20. An old 'none' stays 'none', with its kind and pairs.
+    (time closedOracle (delay 4 4_294_967_295 ∷ []) 3 4 ⇒ told (None Local 0)) ∷
+    (time closedOracle (delay 4 0 ∷ []) 3 4 ⇒ told (None Local 0)) ∷
+    (time closedOracle (close 4 ∷ delay 4 3 ∷ []) 0 4 ⇒ told (None Far 0)) ∷
+    (time closedOracle (close 0 ∷ []) 0 4 ⇒ told (None Far 0)) ∷
+    -- 18: a part of a line, a first byte of 0 or 3, a closure with seconds, another edition, a byte after the body, nothing at all.
+    (time-by lineOracle (sheets.sheetFile (1 ∷ [])) 0 1 ⇒ told (Refused 18)) ∷
+    (time lineOracle (odd 0 ∷ []) 0 1 ⇒ told (Refused 18)) ∷
+    (time lineOracle (odd 3 ∷ []) 0 1 ⇒ told (Refused 18)) ∷
+    (time lineOracle (close-with 1 ∷ []) 0 1 ⇒ told (Refused 18)) ∷
+    (time-by lineOracle (2 ∷ drop 1 (sheets.sheetOf [])) 0 1 ⇒ told (Refused 18)) ∷
+    (time-by lineOracle (sheets.sheetOf [] ++ (0 ∷ [])) 0 1 ⇒ told (Refused 18)) ∷
+    (time-by lineOracle [] 0 1 ⇒ told (Refused 18)) ∷
+    -- 19: Line has no road 2. Of all three rules broken 18 comes first, then 19, then 20; 12 comes before them, and 14 and 15 after.
+    (time lineOracle (close 2 ∷ []) 0 1 ⇒ told (Refused 19)) ∷
+    (time lineOracle (delay 0 99_994 ∷ close 2 ∷ odd 3 ∷ []) 0 1 ⇒ told (Refused 18)) ∷
+    (time lineOracle (delay 0 99_994 ∷ close 2 ∷ []) 0 1 ⇒ told (Refused 19)) ∷
+    (time lineOracle (odd 3 ∷ []) 0 3 ⇒ told (Refused 12)) ∷
+    (told (calls.timeUnderResult lineOracle (sheets.sheetOf (close 2 ∷ [])) 0 1 []) ⇒ told (Refused 19)) ∷
+    (told (calls.timeUnderResult lineOracle (sheets.sheetOf (close 1 ∷ [])) 0 1 []) ⇒ told (Refused 14)) ∷
+    (calls.wayUnderRefusal lineOracle (sheets.sheetOf (close 1 ∷ [])) 0 1 words (replicate 3 7) ∷ [] ⇒ 15 ∷ []) ∷
+    -- Over an oracle that was never built a far time may have no way. Without a sheet it is answered; under one, even without lines, it is not kept.
+    (plain (unbuilt forkOracle 4) 0 4 ⇒ told (Time 11 Far 4)) ∷
+    (time (unbuilt forkOracle 4) [] 0 4 ⇒ told (None Local 0)) ∷
+    []
+
+-- Every trial holds.
+pub trials-hold : all holds trials ≡ true
+unfolding trials holds doubled unbuilt close delay odd close-with kind told words plain time-by time route _⇒_ line fork sheets-computed computed
+trials-hold = refl
