@@ -7,20 +7,21 @@
  * Working memory is 8 words of 32 bits for each place of the file: 8 * N, N up to 4,096. What it holds before a call does not matter.
  *
  * What a call leaves in the caller's memory:
- *   refusals 1 to 14, 17   nothing is written
- *   refusals 15, 16        the first 8 * N working words are zero, output is untouched
- *   success                the first 8 * N working words are zero (of calls that have them), the result stands at the front of output,
- *                          and nothing past either is touched
+ *   refusals 1 to 14, 17 to 20   nothing is written
+ *   refusals 15, 16              the first 8 * N working words are zero, output is untouched
+ *   success                      the first 8 * N working words are zero (of calls that have them), the result stands at the front of output,
+ *                                and nothing past either is touched
  * Beside a refusal, every other number of a record is 0.
  *
  * Threads: a call reads and writes what it is lent and nothing else, and keeps nothing: as many may run at once as have words and output of their own.
- * They may share the network and the oracle.
+ * They may share the network, the oracle and the sheet.
  *
- * Stack, in bytes, on x86-64, whatever the network: jukesogbi_way takes at most 12,288, jukesogbi_block 4,096, every other call 2,048.
+ * Stack, in bytes, on x86-64, whatever the network and the sheet: jukesogbi_way and jukesogbi_way_under take at most 12,288, jukesogbi_block 4,096,
+ * every other call 2,048.
  *
- * Files. Numbers are little-endian. A network has 3 bodies, an oracle 7, the first 3 of them the network's own. Byte 0 is the edition, 1, and byte 1 the
- * number of bodies; from byte 2 on stands an entry of 9 bytes for each body: its number (1 byte), where it begins in the file (4) and its length in bytes
- * (4). The bodies follow without gaps.
+ * Files. Numbers are little-endian. A network has 3 bodies, an oracle 7, the first 3 of them the network's own, a sheet 1. Byte 0 is the edition, 1, and
+ * byte 1 the number of bodies; from byte 2 on stands an entry of 9 bytes for each body: its number (1 byte), where it begins in the file (4) and its length
+ * in bytes (4). The bodies follow without gaps.
  *   1  places: x and y, 4 bytes each, signed, in metres. N is the length (at byte 7) / 8.
  *   2  roads: the numbers of two places, 2 bytes each, and 4 bytes of seconds. R is the length (at byte 16) / 8.
  *   3  closed roads: their numbers, 2 bytes each, rising.
@@ -28,7 +29,11 @@
  *   5  transit places: their numbers, 2 bytes each, rising. They begin at what bytes 39 to 42 say; T is the length (at byte 43) / 2.
  *   6  access: for each place 4 bytes, where its list begins in this body; then the lists (see jukesogbi_list).
  *   7  table: T rows of T times, 4 bytes each: row i, column j is the time from transit place i to transit place j.
+ *   8  (of a sheet, from byte 11 on) lines of 7 bytes: 1 closed or 2 delayed, the number of a road (2 bytes), and the seconds added (4), 0 when closed.
  * In bodies 6 and 7 JUKESOGBI_NO_WALK stands where there is no walk.
+ *
+ * A sheet is one day's closures and delays, any number of lines in any order. The last line about a road holds. A road closed in body 3 is closed under
+ * every sheet.
  *
  * Rules, in checking order:
  *    1  fewer than 2 bytes, a wrong edition, a wrong entry count or an incomplete contents
@@ -44,6 +49,9 @@
  *   11  a table not of 4 * T * T bytes, or a value out of range
  *   12  a place number in the call not below N
  *   17  either side of a block names no place or more than 12
+ *   18  a sheet's form, a line's first byte, or the seconds of a closed line are wrong
+ *   19  a line of the sheet names no road
+ *   20  the line that holds takes a road open in body 3 over 100,000 seconds
  *   13  the far question on a local pair
  *   14  working memory below 8 * N words
  *   15  output shorter than the whole result
@@ -68,6 +76,10 @@ extern "C" {
 /* The most places, and roads, of a network. */
 #define JUKESOGBI_PLACES 4096
 #define JUKESOGBI_ROADS 16384
+
+/* The first byte of a sheet's line. */
+#define JUKESOGBI_CLOSED 1
+#define JUKESOGBI_DELAYED 2
 
 /* `seconds`, or a square of `times`, where there is no walk. */
 #define JUKESOGBI_NO_WALK UINT32_MAX
@@ -146,6 +158,16 @@ jukesogbi_route jukesogbi_way(const uint8_t *oracle, size_t oracle_size, uint32_
  * several times, on either side or on both. Rules 1 to 12, 17, 14, where 12 looks at every name, also past the twelfth. */
 jukesogbi_times jukesogbi_block(const uint8_t *oracle, size_t oracle_size, const uint32_t *starts, size_t starts_count,
                                 const uint32_t *ends, size_t ends_count, uint32_t *work, size_t words);
+
+/* The time from place s to place t under a sheet. It is the reply of jukesogbi_time where that finds no walk, or where every step of the way without the
+ * sheet can still be driven in its old time, by that road or by another between the two places. Else the roads are searched as the sheet leaves them: the
+ * reply is local, with 0 pairs. Rules 1 to 12, 18, 19, 20, 14, where 18 looks at all of the sheet before 19 does, and 19 before 20. */
+jukesogbi_reply jukesogbi_time_under(const uint8_t *oracle, size_t oracle_size, const uint8_t *sheet, size_t sheet_size,
+                                     uint32_t s, uint32_t t, uint32_t *work, size_t words);
+
+/* The way from s to t over the roads as the sheet leaves them, in the form of jukesogbi_way. Rules 1 to 12, 18, 19, 20, 14, 15. */
+jukesogbi_route jukesogbi_way_under(const uint8_t *oracle, size_t oracle_size, const uint8_t *sheet, size_t sheet_size,
+                                    uint32_t s, uint32_t t, uint32_t *work, size_t words, uint8_t *out, size_t room);
 
 #ifdef __cplusplus
 }

@@ -122,6 +122,12 @@ pub mod raw {
         pub fn jukesogbi_block(
             oracle: *const u8, oracle_size: usize, starts: *const u32, starts_count: usize, ends: *const u32, ends_count: usize, work: *mut u32, words: usize,
         ) -> Times;
+        pub fn jukesogbi_time_under(
+            oracle: *const u8, oracle_size: usize, sheet: *const u8, sheet_size: usize, s: u32, t: u32, work: *mut u32, words: usize,
+        ) -> Answer;
+        pub fn jukesogbi_way_under(
+            oracle: *const u8, oracle_size: usize, sheet: *const u8, sheet_size: usize, s: u32, t: u32, work: *mut u32, words: usize, out: *mut u8, room: usize,
+        ) -> Route;
     }
 
     // The questions over an opened oracle, which are in no header. The duty that they ask for (crates/opened_capi) is `Oracle`'s: bytes and words are as
@@ -134,6 +140,12 @@ pub mod raw {
         pub fn jukesogbi_opened_block(
             oracle: *const u8, oracle_size: usize, starts: *const u32, starts_count: usize, ends: *const u32, ends_count: usize, work: *mut u32, words: usize,
         ) -> Times;
+        pub fn jukesogbi_opened_time_under(
+            oracle: *const u8, oracle_size: usize, sheet: *const u8, sheet_size: usize, s: u32, t: u32, work: *mut u32, words: usize,
+        ) -> Answer;
+        pub fn jukesogbi_opened_way_under(
+            oracle: *const u8, oracle_size: usize, sheet: *const u8, sheet_size: usize, s: u32, t: u32, work: *mut u32, words: usize, out: *mut u8, room: usize,
+        ) -> Route;
     }
 }
 
@@ -220,4 +232,16 @@ pub fn way(oracle: &[u8], s: u32, t: u32, work: &mut [u32], out: &mut [u8]) -> R
 pub fn block(oracle: &[u8], starts: &[u32], ends: &[u32], work: &mut [u32]) -> Result<Block, Refused> {
     let (s, t) = (starts.as_ptr(), ends.as_ptr());
     squares(unsafe { raw::jukesogbi_block(oracle.as_ptr(), oracle.len(), s, starts.len(), t, ends.len(), work.as_mut_ptr(), work.len()) })
+}
+
+/// The time under a day sheet.
+pub fn time_under(oracle: &[u8], sheet: &[u8], s: u32, t: u32, work: &mut [u32]) -> Result<Answer, Refused> {
+    let (o, l) = (oracle.as_ptr(), sheet.as_ptr());
+    answer(unsafe { raw::jukesogbi_time_under(o, oracle.len(), l, sheet.len(), s, t, work.as_mut_ptr(), work.len()) })
+}
+
+/// The way under a day sheet, written as `way` does.
+pub fn way_under(oracle: &[u8], sheet: &[u8], s: u32, t: u32, work: &mut [u32], out: &mut [u8]) -> Result<usize, Refused> {
+    let (o, l) = (oracle.as_ptr(), sheet.as_ptr());
+    route(unsafe { raw::jukesogbi_way_under(o, oracle.len(), l, sheet.len(), s, t, work.as_mut_ptr(), work.len(), out.as_mut_ptr(), out.len()) })
 }

@@ -1,17 +1,19 @@
-//! A picture of an oracle: nodes, edges (closed ones dashed), grid lines, transit nodes, and a way if asked.
+//! A picture of an oracle: nodes, edges (closed ones dashed), grid lines, transit nodes, and a way if asked; with a day sheet also what that does.
 
 mod frame;
 mod labels;
 mod legend;
+mod roads;
 mod shape;
 mod signs;
 
 use crate::files::{self, Network};
+use crate::sheet;
 use frame::{Frame, MARGIN};
 use labels::Room;
+use roads::{Ends, Roads};
 use shape::{Area, Point, Short};
 use signs::{Sizes, END, END_HALF, INK, START, START_RADIUS};
-use std::collections::{BTreeMap, BTreeSet};
 
 /// With so many nodes or fewer each has its number beside it.
 const MOST_NUMBERED: usize = 150;
@@ -23,18 +25,19 @@ struct Drawing<'a> {
     net: Network,
     g: u32,
     transit: Vec<u16>,
-    /// Edges side by side are one line. Pairs of ends with an open edge, and the least seconds; pairs with a closed one.
-    open: BTreeMap<(u16, u16), u32>,
-    closed: BTreeSet<(u16, u16)>,
+    roads: Roads,
+    /// Whether there is a sheet.
+    today: bool,
     asked: Option<(u32, u32)>,
     way: &'a [u16],
     frame: Frame,
     sizes: Sizes,
 }
 
-/// The picture of an oracle that the core has accepted. `asked` is the start and the end of a way, which are nodes of it, and `way` is the core's answer.
-pub fn svg(oracle: &[u8], asked: Option<(u32, u32)>, way: &[u16]) -> String {
-    let drawing = Drawing::of(oracle, asked, way);
+/// The picture of an oracle that the core has accepted, and perhaps a sheet that it has accepted beside it. `asked` is the start and the end of a way,
+/// which are nodes of it, and `way` is the core's answer.
+pub fn svg(oracle: &[u8], sheet: Option<&[u8]>, asked: Option<(u32, u32)>, way: &[u16]) -> String {
+    let drawing = Drawing::of(oracle, sheet, asked, way);
     let map = drawing.frame.map;
     let (legend, bottom) = legend::beneath(&map, &drawing.legend());
     let (width, height) = (Short(map.right + MARGIN), Short(bottom + MARGIN));
@@ -53,19 +56,12 @@ pub fn svg(oracle: &[u8], asked: Option<(u32, u32)>, way: &[u16]) -> String {
 }
 
 impl<'a> Drawing<'a> {
-    fn of(oracle: &[u8], asked: Option<(u32, u32)>, way: &'a [u16]) -> Drawing<'a> {
+    fn of(oracle: &[u8], sheet: Option<&[u8]>, asked: Option<(u32, u32)>, way: &'a [u16]) -> Drawing<'a> {
         let net = files::network(oracle);
-        let (mut open, mut closed) = (BTreeMap::new(), BTreeSet::new());
-        for (i, e) in net.edges.iter().enumerate() {
-            let ends = (e.first.min(e.second), e.first.max(e.second));
-            if net.closed.binary_search(&(i as u16)).is_ok() {
-                closed.insert(ends);
-            } else {
-                open.entry(ends).and_modify(|s: &mut u32| *s = e.seconds.min(*s)).or_insert(e.seconds);
-            }
-        }
+        let roads = Roads::of(&net, &sheet.map_or_else(|| net.clone(), |sheet| sheet::applied(&net, sheet)));
         let (frame, sizes) = (Frame::over(&net.nodes), Sizes::of(net.nodes.len(), net.edges.len()));
-        Drawing { g: files::grid_number(oracle), transit: files::transit_nodes(oracle), net, open, closed, asked, way, frame, sizes }
+        let (g, transit) = (files::grid_number(oracle), files::transit_nodes(oracle));
+        Drawing { g, transit, net, roads, today: sheet.is_some(), asked, way, frame, sizes }
     }
 
     fn at(&self, v: u16) -> Point {
@@ -73,8 +69,12 @@ impl<'a> Drawing<'a> {
         self.frame.at(x as f64, y as f64)
     }
 
-    fn line(&self, ends: &(u16, u16)) -> (Point, Point) {
+    fn line(&self, ends: &Ends) -> (Point, Point) {
         (self.at(ends.0), self.at(ends.1))
+    }
+
+    fn lines<'b>(&self, all: impl IntoIterator<Item = &'b Ends>) -> Vec<(Point, Point)> {
+        all.into_iter().map(|ends| self.line(ends)).collect()
     }
 
     /// The nodes that are transit nodes, or those that are not.
@@ -88,13 +88,17 @@ impl<'a> Drawing<'a> {
         if self.transit.binary_search(&v).is_ok() { self.sizes.transit } else { self.sizes.node }
     }
 
-    /// Closed roads lie over open ones, so that both show where they join the same nodes.
+    /// Closed roads lie over open ones, so that both show where they join the same nodes. Delayed ones lie beneath, and show at both sides of the others.
     fn ground(&self) -> String {
-        let mut layers = vec![
-            signs::grid(self.frame.grid_lines(self.g)),
-            signs::open_roads(&self.sizes, self.open.keys().map(|ends| self.line(ends))),
-            signs::closed_roads(&self.sizes, self.closed.iter().map(|ends| self.line(ends))),
-        ];
+        let mut layers = vec![signs::grid(self.frame.grid_lines(self.g))];
+        if self.today {
+            layers.push(signs::delayed_roads(self.lines(&self.roads.delayed.lines)));
+        }
+        layers.push(signs::open_roads(&self.sizes, self.lines(self.roads.open.keys())));
+        layers.push(signs::closed_roads(&self.sizes, self.lines(&self.roads.closed.lines)));
+        if self.today {
+            layers.push(signs::shut_roads(&self.sizes, self.lines(&self.roads.shut.lines)));
+        }
         if self.way.len() > 1 {
             layers.push(signs::way(&self.way.iter().map(|&v| self.at(v)).collect::<Vec<_>>()));
         }
@@ -119,7 +123,7 @@ impl<'a> Drawing<'a> {
         let marks = self.ends().into_iter().map(|(v, half, _)| Area::about(self.at(v), half, half));
         Room {
             map: self.frame.map,
-            roads: self.open.keys().chain(&self.closed).map(|ends| self.line(ends)).collect(),
+            roads: self.lines(self.roads.lines()),
             taken: (0..self.net.nodes.len() as u16).map(dot).chain(marks).collect(),
         }
     }
@@ -148,27 +152,23 @@ impl<'a> Drawing<'a> {
         self.asked.map_or(String::new(), |(s, t)| signs::end(self.at(t as u16)) + &signs::start(self.at(s as u16)))
     }
 
-    /// The seconds of the way: between two nodes it takes the quickest of the open edges.
-    fn total(&self) -> u64 {
-        let steps = self.way.windows(2).map(|w| self.open[&(w[0].min(w[1]), w[0].max(w[1]))]);
-        steps.map(u64::from).sum()
-    }
-
     fn legend(&self) -> Vec<Vec<legend::Item>> {
-        let ground = vec![
+        let mut ground = vec![
             legend::nodes(&self.sizes, self.net.nodes.len()),
             legend::transit_nodes(&self.sizes, self.transit.len()),
-            legend::open_roads(&self.sizes, self.net.edges.len() - self.net.closed.len()),
-            legend::closed_roads(&self.sizes, self.net.closed.len()),
-            legend::grid(self.g),
-            legend::scale(self.frame.scale),
+            legend::open_roads(&self.sizes, self.roads.open_count),
+            legend::closed_roads(&self.sizes, self.roads.closed.count),
         ];
+        if self.today {
+            ground.extend([legend::shut_roads(&self.sizes, self.roads.shut.count), legend::delayed_roads(self.roads.delayed.count)]);
+        }
+        ground.extend([legend::grid(self.g), legend::scale(self.frame.scale)]);
         let Some((s, t)) = self.asked else { return vec![ground] };
         let mut asked = vec![legend::start(s), legend::end(t)];
         if self.way.is_empty() {
             asked.push(legend::no_way());
         } else {
-            asked.extend(legend::way(self.way.len(), self.total()));
+            asked.extend(legend::way(self.way.len(), self.roads.total(self.way)));
         }
         vec![ground, asked]
     }

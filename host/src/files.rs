@@ -1,4 +1,4 @@
-//! Network and oracle files: their bodies, and a network's bytes from its nodes and edges. For showing and making files only: the core reads for itself.
+//! Network, oracle and sheet files: their bodies, and a network's bytes from its nodes and edges. For showing and making files only: the core reads for itself.
 
 use crate::form::*;
 
@@ -19,12 +19,12 @@ pub struct Network {
     pub closed: Vec<u16>,
 }
 
-/// A file of this edition with these bodies.
-pub fn file(edition: u8, bodies: &[Vec<u8>]) -> Vec<u8> {
-    let mut out = vec![edition, bodies.len() as u8];
+/// A file of this kind with these bodies.
+pub fn file(kind: Kind, bodies: &[Vec<u8>]) -> Vec<u8> {
+    let mut out = vec![kind.edition(), bodies.len() as u8];
     let mut offset = entry_at(bodies.len());
     for (k, b) in bodies.iter().enumerate() {
-        out.push(k as u8 + 1);
+        out.push(kind.first() + k as u8);
         out.extend((offset as u32).to_le_bytes());
         out.extend((b.len() as u32).to_le_bytes());
         offset += b.len();
@@ -48,7 +48,7 @@ impl Network {
     }
 
     pub fn to_bytes(&self) -> Vec<u8> {
-        file(NETWORK_EDITION, &self.bodies())
+        file(Kind::Network, &self.bodies())
     }
 }
 
@@ -74,11 +74,12 @@ pub fn entry(f: &[u8], k: usize) -> (usize, usize) {
     (read32(f, entry_at(k) + 1) as usize, read32(f, entry_at(k) + 5) as usize)
 }
 
-/// The two kinds of files.
+/// The kinds of files.
 #[derive(Clone, Copy, Debug, PartialEq, Eq)]
 pub enum Kind {
     Network,
     Oracle,
+    Sheet,
 }
 
 impl Kind {
@@ -86,6 +87,7 @@ impl Kind {
         match self {
             Kind::Network => NETWORK_EDITION,
             Kind::Oracle => ORACLE_EDITION,
+            Kind::Sheet => SHEET_EDITION,
         }
     }
 
@@ -93,14 +95,20 @@ impl Kind {
         match self {
             Kind::Network => NETWORK_BODIES,
             Kind::Oracle => ORACLE_BODIES,
+            Kind::Sheet => SHEET_BODIES,
         }
+    }
+
+    /// The kind of its first entry.
+    fn first(self) -> u8 {
+        if self == Kind::Sheet { SHEET_KIND } else { FIRST_KIND }
     }
 }
 
 /// Whether a file begins as one of this kind does. It may be damaged otherwise.
 pub fn looks_like(f: &[u8], kind: Kind) -> bool {
     let bodies = kind.bodies();
-    f.len() >= entry_at(bodies) && f[0] == kind.edition() && f[1] as usize == bodies && (0..bodies).all(|k| f[entry_at(k)] as usize == k + 1)
+    f.len() >= entry_at(bodies) && f[0] == kind.edition() && f[1] as usize == bodies && (0..bodies).all(|k| f[entry_at(k)] == kind.first() + k as u8)
 }
 
 /// The number of nodes that a file shows, as far as it can be read; at most as many as a network may have.

@@ -1,8 +1,9 @@
-//! The form of network and oracle files, each number once. For showing, making and measuring files only: the core reads for itself, and the tests'
+//! The form of network, oracle and sheet files, each number once. For showing, making and measuring files only: the core reads for itself, and the tests'
 //! reference has numbers of its own.
 
 pub const NETWORK_EDITION: u8 = 1;
 pub const ORACLE_EDITION: u8 = 1;
+pub const SHEET_EDITION: u8 = 1;
 
 /// The edition and the number of entries, then the entries: kind, offset, length.
 pub const HEAD_SIZE: usize = 2;
@@ -19,6 +20,14 @@ pub const ACCESS: usize = 5;
 pub const TABLE: usize = 6;
 pub const ORACLE_BODIES: usize = 7;
 
+/// The one body of a sheet.
+pub const LINES: usize = 0;
+pub const SHEET_BODIES: usize = 1;
+
+/// The kinds of entries rise by one, from these on.
+pub const FIRST_KIND: u8 = 1;
+pub const SHEET_KIND: u8 = 8;
+
 pub const COORDINATE_SIZE: usize = 4;
 pub const NODE_SIZE: usize = 2 * COORDINATE_SIZE;
 pub const EDGE_SIZE: usize = 8;
@@ -30,6 +39,11 @@ pub const START_SIZE: usize = 4;
 pub const COUNT_SIZE: usize = 2;
 pub const VALUE_SIZE: usize = 4;
 pub const LIST_ENTRY_SIZE: usize = NUMBER_SIZE + VALUE_SIZE;
+
+/// A line of a sheet: its first byte, a number, and seconds.
+pub const LINE_SIZE: usize = 1 + NUMBER_SIZE + VALUE_SIZE;
+pub const CLOSED_LINE: u8 = 1;
+pub const DELAYED_LINE: u8 = 2;
 
 pub const MAX_NODES: usize = 4096;
 pub const MAX_EDGES: usize = 16_384;

@@ -10,3 +10,4 @@ pub mod oracle;
 pub mod plain;
 pub mod reading;
 pub mod sample;
+pub mod sheet;

@@ -56,4 +56,16 @@ impl<'a> Oracle<'a> {
         let (s, t) = (starts.as_ptr(), ends.as_ptr());
         core::squares(unsafe { raw::jukesogbi_opened_block(self.bytes.as_ptr(), self.bytes.len(), s, starts.len(), t, ends.len(), work, words) })
     }
+
+    /// The time under a day sheet, which is checked for each question.
+    pub fn time_under(&mut self, sheet: &[u8], s: u32, t: u32) -> Result<Answer, Refused> {
+        let (o, l, work, words) = (self.bytes.as_ptr(), sheet.as_ptr(), self.work.as_mut_ptr(), self.work.len());
+        core::answer(unsafe { raw::jukesogbi_opened_time_under(o, self.bytes.len(), l, sheet.len(), s, t, work, words) })
+    }
+
+    /// The way under a day sheet, written as `way` does.
+    pub fn way_under(&mut self, sheet: &[u8], s: u32, t: u32, out: &mut [u8]) -> Result<usize, Refused> {
+        let (o, l, work, words) = (self.bytes.as_ptr(), sheet.as_ptr(), self.work.as_mut_ptr(), self.work.len());
+        core::route(unsafe { raw::jukesogbi_opened_way_under(o, self.bytes.len(), l, sheet.len(), s, t, work, words, out.as_mut_ptr(), out.len()) })
+    }
 }

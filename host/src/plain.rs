@@ -174,7 +174,7 @@ pub fn build(network: &[u8], g: u32) -> Vec<u8> {
         }
     }
     bodies.push(table);
-    files::file(ORACLE_EDITION, &bodies)
+    files::file(files::Kind::Oracle, &bodies)
 }
 
 /// One search per crossing node of the cell, then marks backward over the settle order: a node is marked when it is wanted or leads on to a marked one.

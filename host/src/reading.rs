@@ -12,6 +12,9 @@
 //!   or 11. (Lists rise, so no access body that keeps 10 is larger than its most.)
 //!
 //! The last two are told apart by the length of F. A stream is read on for it, and what is read is dropped; at most one byte more than the contents claim.
+//!
+//! A sheet may have any number of lines, so it takes the memory that it needs. What begins with wrong contents breaks 18, whatever stands behind them, and
+//! is read no further; of any other sheet one byte more is read than its contents claim, which breaks 18 as anything longer does.
 
 use crate::core::{self, Refused};
 use crate::files::{self, Kind};
@@ -43,10 +46,18 @@ fn fill(bytes: &mut Vec<u8>, from: &mut impl Read, most: usize) -> io::Result<()
 
 /// A file that should be of this kind: as it is, or a shorter one that is refused by the same rule. `size` is the file's, where it is known.
 pub fn file(from: &mut impl Read, kind: Kind, size: Option<u64>) -> io::Result<Vec<u8>> {
+    match kind {
+        Kind::Network => bounded(from, kind, size, |f| core::build(f, 1, &mut [], &mut []).map_or_else(|Refused(rule)| rule, |_| 0)),
+        Kind::Oracle => bounded(from, kind, size, |f| core::list_rule(f, 0)),
+        Kind::Sheet => sheet(from),
+    }
+}
+
+/// A file of a kind that has a most, and whose first bytes tell whether it breaks rule 1.
+fn bounded(from: &mut impl Read, kind: Kind, size: Option<u64>, rule: impl Fn(&[u8]) -> u32) -> io::Result<Vec<u8>> {
     let (bodies, most) = (kind.bodies(), form::most_size(kind.bodies()));
-    // Contents of either kind, to tell which they are.
-    let mut bytes = up_to(from, entry_at(form::ORACLE_BODIES))?;
-    if has_no_contents(&bytes, kind) {
+    let mut bytes = contents(from)?;
+    if rule(&bytes) == 1 {
         return Ok(bytes);
     }
     fill(&mut bytes, from, most + 1)?;
@@ -66,12 +77,19 @@ pub fn file(from: &mut impl Read, kind: Kind, size: Option<u64>) -> io::Result<V
     Ok(bytes)
 }
 
-/// Whether the first bytes of a file break rule 1.
-fn has_no_contents(first: &[u8], kind: Kind) -> bool {
-    1 == match kind {
-        Kind::Network => core::build(first, 1, &mut [], &mut []).map_or_else(|Refused(rule)| rule, |_| 0),
-        Kind::Oracle => core::list_rule(first, 0),
+fn sheet(from: &mut impl Read) -> io::Result<Vec<u8>> {
+    let mut bytes = contents(from)?;
+    if files::looks_like(&bytes, Kind::Sheet) {
+        if let Some(end) = joined_end(&bytes, form::SHEET_BODIES) {
+            fill(&mut bytes, from, end + 1)?;
+        }
     }
+    Ok(bytes)
+}
+
+/// Contents of any kind, to tell which they are.
+fn contents(from: &mut impl Read) -> io::Result<Vec<u8>> {
+    up_to(from, entry_at(form::ORACLE_BODIES))
 }
 
 /// Where the last body ends, if each follows the one before.

@@ -1,95 +1,28 @@
 //! Pictures: read back from their text, and held against the oracle and the core's answers.
 
 mod common;
+#[path = "common/drawn.rs"]
+mod drawn;
 #[path = "common/picture.rs"]
 mod picture;
 
-use common::networks::{self, between, Plan};
+use common::networks::{self, Plan};
+use drawn::{built, random_sheet, tangle, way, Case};
 use jukesogbi::sample::{self, Random};
+use jukesogbi::sheet::{self, Line};
 use jukesogbi::{core, draw, files};
-use picture::{Bounds, Picture};
+use picture::Bounds;
 use std::collections::BTreeSet;
 use std::sync::OnceLock;
 use std::time::{Duration, Instant};
 
-fn built(network: &[u8], g: u32) -> Vec<u8> {
-    let mut out = vec![0; files::most_room(network)];
-    let built = core::build(network, g, &mut vec![0; files::words_needed(network)], &mut out).unwrap();
-    out.truncate(built.size);
-    out
-}
-
-fn way(oracle: &[u8], s: u32, t: u32) -> Vec<u16> {
-    let mut out = vec![0; 2 * files::node_count(oracle)];
-    let nodes = core::way(oracle, s, t, &mut vec![0; files::words_needed(oracle)], &mut out).unwrap();
-    files::numbers(&out[..2 * nodes])
-}
-
-/// As a picture tells numbers.
-fn tenth(number: f64) -> f64 {
-    (number * 10.0).round() / 10.0
-}
-
-/// An oracle, what was asked, and the picture.
-struct Case {
-    oracle: Vec<u8>,
-    asked: Option<(u32, u32)>,
-    way: Vec<u16>,
-    picture: Picture,
-}
-
-impl Case {
-    fn new(oracle: Vec<u8>, asked: Option<(u32, u32)>) -> Case {
-        let way = asked.map_or(Vec::new(), |(s, t)| way(&oracle, s, t));
-        let picture = Picture::of(&draw::svg(&oracle, asked, &way));
-        Case { oracle, asked, way, picture }
-    }
-
-    /// With a start and an end, mostly.
-    fn random(oracle: Vec<u8>, random: &mut Random) -> Case {
-        let n = files::node_count(&oracle) as u64;
-        let asked = (random.below(n) as u32, random.below(n) as u32);
-        Case::new(oracle, if random.once_in(8) { None } else { Some(asked) })
-    }
-
-    /// Where each place is drawn: transit places and others are drawn apart, each in their order.
-    fn points(&self) -> Vec<(f64, f64)> {
-        let transit: BTreeSet<u16> = files::transit_nodes(&self.oracle).into_iter().collect();
-        let (mut plain, mut chosen) = (self.picture.circles("places").into_iter(), self.picture.circles("transit").into_iter());
-        let points: Vec<_> = (0..files::node_count(&self.oracle) as u16)
-            .map(|v| if transit.contains(&v) { chosen.next() } else { plain.next() }.expect("each place is drawn"))
-            .map(|c| (tenth((c.left + c.right) / 2.0), tenth((c.top + c.bottom) / 2.0)))
-            .collect();
-        assert!(plain.next().is_none() && chosen.next().is_none(), "more dots than places");
-        points
-    }
-
-    fn point(&self, v: u32) -> (f64, f64) {
-        self.points()[v as usize]
-    }
-}
-
-/// Places anywhere in a rectangle, and so many roads between any two, which cross at will.
-fn tangle(n: usize, roads: usize, random: &mut Random) -> Plan {
-    let (wide, high) = (between(random, 1, 20_000), between(random, 1, 20_000));
-    let places = (0..n).map(|_| (between(random, -wide, wide) as i32, between(random, -high, high) as i32)).collect();
-    let ends = (0..if n > 1 { roads } else { 0 }).map(|_| {
-        let a = random.below(n as u64);
-        let b = (a + 1 + random.below(n as u64 - 1)) % n as u64;
-        (a as u16, b as u16, between(random, 1, 900) as u32)
-    });
-    let roads: Vec<_> = ends.collect();
-    let closed = (0..roads.len() as u16).filter(|_| random.once_in(9)).collect();
-    Plan { places, roads, closed }
-}
-
 /// Pictures of networks of all sizes, road-like ones and others.
 fn cases() -> &'static [Case] {
     static CASES: OnceLock<Vec<Case>> = OnceLock::new();
-    CASES.get_or_init(drawn)
+    CASES.get_or_init(all_cases)
 }
 
-fn drawn() -> Vec<Case> {
+fn all_cases() -> Vec<Case> {
     let mut random = Random(11);
     let mut cases = Vec::new();
     for n in [1, 2, 12, 60, 150, 500, 4096] {
@@ -112,7 +45,7 @@ fn numbers_lie_on_nothing() {
     for (i, case) in cases().iter().enumerate() {
         let p = &case.picture;
         let (numbers, map) = (p.numbers(), p.map());
-        let lines: Vec<_> = ["open", "closed", "way"].iter().flat_map(|class| p.lines(class)).collect();
+        let lines: Vec<_> = ["open", "closed", "shut", "delayed", "way"].iter().flat_map(|class| p.lines(class)).collect();
         let dots = [p.circles("places"), p.circles("transit"), p.circles("start"), p.squares("end")].concat();
         for (k, (text, area)) in numbers.iter().enumerate() {
             let at = format!("picture {i}, number {text}");
@@ -167,8 +100,13 @@ fn total_is_the_time() {
         let oracle = built(&networks::network(&mut random).bytes(), g);
         let n = files::node_count(&oracle) as u64;
         let (s, t) = (random.below(n) as u32, random.below(n) as u32);
-        let answer = core::time(&oracle, s, t, &mut vec![0; files::words_needed(&oracle)]).unwrap();
-        let case = Case::new(oracle, Some((s, t)));
+        let sheet = random.once_in(2).then(|| random_sheet(&oracle, &mut random));
+        let mut work = vec![0; files::words_needed(&oracle)];
+        let answer = match &sheet {
+            Some(sheet) => core::time_under(&oracle, sheet, s, t, &mut work).unwrap(),
+            None => core::time(&oracle, s, t, &mut work).unwrap(),
+        };
+        let case = Case::under(oracle, sheet, Some((s, t)));
         let points = case.points();
         let drawn: Vec<_> = case.picture.lines("way").iter().map(|(line, _)| *line).collect();
         let expected: Vec<_> = case.way.windows(2).map(|w| (points[w[0] as usize], points[w[1] as usize])).collect();
@@ -226,18 +164,47 @@ fn grid_parts_the_cells() {
     }
 }
 
+/// Which roads are of a sort. The last line about a road holds, and what body 3 has closed stays closed.
+fn roads_of(case: &Case, class: &str) -> Vec<(u16, u16)> {
+    let (net, lines) = (files::network(&case.oracle), case.sheet.iter().flat_map(|sheet| sheet::lines(sheet)).collect::<Vec<Line>>());
+    let is_of = |i: u16| {
+        let held = lines.iter().rev().find(|line| line.road() == i);
+        match class {
+            "closed" => net.closed.contains(&i),
+            _ if net.closed.contains(&i) => false,
+            "shut" => matches!(held, Some(Line::Closed(_))),
+            "open" => !matches!(held, Some(Line::Closed(_))),
+            _ => matches!(held, Some(&Line::Delayed(_, added)) if added > 0),
+        }
+    };
+    let roads = net.edges.iter().enumerate().filter(|(i, _)| is_of(*i as u16));
+    roads.map(|(_, e)| (e.first.min(e.second), e.first.max(e.second))).collect()
+}
+
 #[test]
-fn closed_roads_look_different() {
+fn sorts_of_roads_look_different() {
+    let mut drawn = [0; 4];
     for case in cases() {
-        let (net, points, p) = (files::network(&case.oracle), case.points(), &case.picture);
-        let closed = |i: usize| net.closed.contains(&(i as u16));
-        for (class, is_closed) in [("open", false), ("closed", true)] {
-            let roads = net.edges.iter().enumerate().filter(|(i, _)| closed(*i) == is_closed).map(|(_, e)| (e.first.min(e.second), e.first.max(e.second)));
-            let expected: Vec<_> = roads.collect::<BTreeSet<_>>().into_iter().map(|(a, b)| (points[a as usize], points[b as usize])).collect();
+        let (points, p) = (case.points(), &case.picture);
+        let sorts = [("open", "open road", false), ("closed", "closed road", true), ("shut", "closed road", true), ("delayed", "delayed road", false)];
+        for (k, (class, text, is_dashed)) in sorts.into_iter().enumerate() {
+            let roads = roads_of(case, class);
+            let lines: BTreeSet<_> = roads.iter().copied().collect();
+            let expected = lines.into_iter().map(|(a, b)| (points[a as usize], points[b as usize]));
             assert!(p.lines(class).into_iter().map(|(line, _)| line).eq(expected), "the {class} roads");
-            assert_eq!(p.is_dashed(class), is_closed);
+            drawn[k] += roads.len();
+            let told = k < 2 || case.sheet.is_some();
+            let count = format!("{}{} {text}{}", if k < 2 { "" } else { "today: " }, grouped(roads.len()), if roads.len() == 1 { "" } else { "s" });
+            assert_eq!(p.says(&count), told, "{count}");
+            assert!(!told || p.is_dashed(class) == is_dashed, "{class}");
         }
     }
+    assert!(drawn.iter().all(|&count| count > 200), "{drawn:?}");
+}
+
+/// With the thousands parted.
+fn grouped(number: usize) -> String {
+    if number < 1000 { number.to_string() } else { format!("{},{:03}", number / 1000, number % 1000) }
 }
 
 #[test]
@@ -273,9 +240,9 @@ fn largest_pictures_are_small_and_quick() {
     let mut random = Random(3);
     for (n, roads, most) in [(4096, 6_000, 330_000), (4096, 16_384, 640_000), (150, 16_384, 640_000)] {
         let oracle = tangle(n, roads, &mut random).without_transit(64);
-        let way = way(&oracle, 0, 1);
+        let way = way(&oracle, None, 0, 1);
         let begun = Instant::now();
-        let text = draw::svg(&oracle, Some((0, 1)), &way);
+        let text = draw::svg(&oracle, None, Some((0, 1)), &way);
         assert!(begun.elapsed() < Duration::from_secs(1), "{n} places and {roads} roads took {:?}", begun.elapsed());
         assert!(text.len() < most, "{n} places and {roads} roads take {} bytes", text.len());
         println!("{n} places, {roads} roads: {} bytes, {:?}", text.len(), begun.elapsed());

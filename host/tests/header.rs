@@ -1,6 +1,6 @@
 //! The header says for C what the wrapper says for Rust: numbers that both need are the same, and each rule has its text there.
 
-use jukesogbi::{core, form};
+use jukesogbi::{core, form, sheet};
 
 const HEADER: &str = include_str!("../../include/jukesogbi.h");
 
@@ -15,19 +15,22 @@ fn the_same_numbers() {
     assert_eq!(defined("JUKESOGBI_SIDE"), core::SIDE.to_string());
     assert_eq!(defined("JUKESOGBI_PLACES"), form::MAX_NODES.to_string());
     assert_eq!(defined("JUKESOGBI_ROADS"), form::MAX_EDGES.to_string());
+    assert_eq!(defined("JUKESOGBI_CLOSED"), form::CLOSED_LINE.to_string());
+    assert_eq!(defined("JUKESOGBI_DELAYED"), form::DELAYED_LINE.to_string());
     assert_eq!(defined("JUKESOGBI_NO_WALK"), "UINT32_MAX");
     assert_eq!(core::NO_WALK, u32::MAX);
 }
 
 #[test]
 fn a_text_for_each_rule() {
-    let texts: Vec<&str> = (1..=17).map(core::rule_text).collect();
+    let texts: Vec<&str> = (1..=20).map(core::rule_text).collect();
     for (k, text) in texts.iter().enumerate() {
         assert!(text.len() > 20 && !texts[..k].contains(text), "rule {}: {text}", k + 1);
     }
     assert_eq!(core::rule_text(4), "a coordinate outside -1,000,000 to 1,000,000");
     assert_eq!(core::rule_text(16), "an audited oracle that differs in any byte from the one built from its bodies 1 to 4");
-    for rule in [0, 18, u32::MAX] {
+    assert_eq!(core::rule_text(sheet::FORM), "a sheet's form, a line's first byte, or the seconds of a closed line are wrong");
+    for rule in [0, 21, u32::MAX] {
         assert_eq!(core::rule_text(rule), "no such rule");
     }
 }

@@ -1,7 +1,7 @@
 //! What the header says around the calls, tried by a C program (tests/c/interface.c): the file's form, room enough, null pointers, threads, and the stack
 //! of each call, on the largest network and its longest way in a thread of 64 KB.
 
-use jukesogbi::{core, files, form, sample};
+use jukesogbi::{core, files, form, sample, sheet};
 use std::path::Path;
 use std::process::Command;
 
@@ -25,7 +25,7 @@ fn output_of(source: &Path, program: &str) -> String {
 /// The most stack that the header allows a call.
 fn allowed(call: &str) -> usize {
     let (text, bytes) = match call {
-        "way" => ("jukesogbi_way takes at most 12,288", 12_288),
+        "way" | "way_under" => ("jukesogbi_way and jukesogbi_way_under take at most 12,288", 12_288),
         "block" => ("jukesogbi_block 4,096", 4_096),
         _ => ("every other call 2,048", 2_048),
     };
@@ -43,7 +43,7 @@ fn a_c_program_finds_what_the_header_says() {
         let bodies = form::NODE_SIZE * n + (form::EDGE_SIZE + form::NUMBER_SIZE) * roads;
         assert_eq!(lines.next(), Some(format!("room {}", files::room(n, roads, bodies)).as_str()));
     }
-    for expected in ["null pointers", "threads 8"] {
+    for expected in ["null pointers", "threads 8", "sheets"] {
         assert_eq!(lines.next(), Some(expected));
     }
     let mut calls = Vec::new();
@@ -53,7 +53,7 @@ fn a_c_program_finds_what_the_header_says() {
         assert!((100..=allowed(call)).contains(&bytes.parse().unwrap()), "{line}");
         calls.push(call);
     }
-    assert_eq!(calls, ["build", "audit", "time", "far", "list", "way", "block"]);
+    assert_eq!(calls, ["build", "audit", "time", "far", "list", "way", "block", "time_under", "way_under"]);
 }
 
 /// In Rust too, from an opened oracle: a thread of 64 KB.
@@ -76,18 +76,27 @@ fn the_longest_way_in_a_small_thread() {
         assert_eq!(asked.join().unwrap(), Ok(form::MAX_NODES));
     });
     assert_eq!(files::numbers(&nodes), (0..=last as u16).collect::<Vec<u16>>());
+    // Under a sheet that delays each of its roads too.
+    let sheet = sheet::of((0..last as u16).map(|road| sheet::Line::Delayed(road, 2)));
+    std::thread::scope(|scope| {
+        let small = std::thread::Builder::new().stack_size(64 * 1024);
+        let asked = small.spawn_scoped(scope, || (oracle.time_under(&sheet, 0, last), oracle.way_under(&sheet, 0, last, &mut nodes))).unwrap();
+        let time = core::Answer { seconds: Some(5 * last), kind: core::Kind::Local, pairs: 0 };
+        assert_eq!(asked.join().unwrap(), (Ok(time), Ok(form::MAX_NODES)));
+    });
 }
 
 /// The calls that ask something of the caller are no part of the C interface.
 #[test]
 fn the_entry_points_alone() {
-    assert!(!HEADER.contains("open"), "a call over an opened oracle");
+    assert!(!HEADER.contains("jukesogbi_open"), "a call over an opened oracle");
     let root = Path::new(env!("CARGO_MANIFEST_DIR")).parent().unwrap();
     let symbols = Command::new("nm").arg("--defined-only").arg(root.join("target/staticlib/libcapi.a")).output().expect("there is nm");
     let text = String::from_utf8(symbols.stdout).unwrap();
     let mut exported: Vec<&str> = text.lines().filter_map(|line| line.split_once(" T ")).map(|(_, name)| name).collect();
     exported.sort_unstable();
-    let calls = ["audit", "block", "build", "far", "list", "list_rule", "time", "way"].map(|name| format!("jukesogbi_{name}"));
+    let names = ["audit", "block", "build", "far", "list", "list_rule", "time", "time_under", "way", "way_under"];
+    let calls = names.map(|name| format!("jukesogbi_{name}"));
     assert_eq!(exported, calls);
     for call in calls {
         assert!(HEADER.contains(&format!("{call}(")), "{call} is not declared");

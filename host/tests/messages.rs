@@ -5,8 +5,9 @@ mod common;
 use common::program::{Folder, Ran};
 use std::path::Path;
 
-const COMMANDS: [&str; 14] =
-    ["build", "audit", "time", "far", "list", "way", "block", "listing", "sample", "draw", "demo", "bench", "help", "version"];
+const COMMANDS: [&str; 16] = [
+    "build", "audit", "time", "far", "list", "way", "block", "listing", "sample", "draw", "sheet", "sheet-text", "demo", "bench", "help", "version",
+];
 
 /// The usage line of a command, as its help has it.
 fn usage(f: &Folder, command: &str) -> String {
@@ -37,7 +38,7 @@ fn help_lists_all_commands() {
     for command in COMMANDS {
         assert_eq!(page.text().matches(&format!("\n  {command} ")).count(), 1, "{command}");
     }
-    for part in ["--words K", "--room B", "status: 0 done; 1 refused", "COMMAND --help"] {
+    for part in ["--sheet SHEET", "--words K", "--room B", "status: 0 done; 1 refused", "COMMAND --help"] {
         assert!(page.text().contains(part), "the page has no {part}");
     }
     for word in ["--help", "-h"] {
@@ -83,6 +84,10 @@ fn no_such_command_or_option() {
     is_slip_without_command(f.run("--wrods 5 audit line.oracle"), "there is no option `--wrods`", none);
     is_slip(&f, f.run("audit line.oracle --room 5"), "`audit` has no option `--room`", "audit");
     is_slip(&f, f.run("sample 5 1 new --words=5"), "`sample` has no option `--words`", "sample");
+    for command in ["far line.oracle 0 2", "block line.oracle 0 2", "audit line.oracle", "sheet-text line.oracle"] {
+        let name = command.split(' ').next().unwrap();
+        is_slip(&f, f.run(&format!("{command} --sheet day")), &format!("`{name}` has no option `--sheet`"), name);
+    }
     assert!(!f.has("new"));
     // Behind `--` nothing is an option, and a file may have any name.
     f.run("build line.net 6 -- --words").says("built 143 bytes, 1 transit\n");
@@ -104,6 +109,8 @@ fn a_wrong_number_of_arguments() {
         ("listing", "1", "| line.oracle more"),
         ("sample", "3", "| 5 1| 5 1 new more"),
         ("draw", "2 or 4", "| line.oracle| line.oracle p.svg 0| line.oracle p.svg 0 1 2"),
+        ("sheet", "2", "| day.txt| day.txt day more"),
+        ("sheet-text", "1", "| day more"),
         ("demo", "0", " more"),
         ("bench", "0 or 1 or 2", " 1 2 3"),
         ("help", "0 or 1", " time far"),
@@ -137,6 +144,7 @@ fn what_is_no_number() {
     is_slip(&f, f.run("--words -1 audit line.oracle"), &wants("--words"), "audit");
     is_slip(&f, f.run("way line.oracle --room= 0 1"), &wants("--room"), "way");
     is_slip(&f, f.run("time line.oracle 0 1 --words 18446744073709551616"), &wants("--words"), "time");
+    is_slip(&f, f.run("time line.oracle 0 1 --sheet"), "`--sheet` wants a file after it", "time");
     for (wrong, cause) in [
         ("sample 0 1 net", "a network has 1 to 4096 places"),
         ("sample 4097 1 net", "a network has 1 to 4096 places"),
@@ -231,6 +239,10 @@ fn bench_of_one_size_and_grid() {
         let named = format!(", N {} |", args.replace(' ', ", g "));
         let rows = |what: &str| ran.text().lines().filter(|l| l.starts_with(&format!("| {what}")) && l.contains(&named)).count();
         assert_eq!(["build", "check an oracle", "far answers", "local answers", "ways", "block of 144"].map(rows), [1, 1, far, 1, 1, 2], "{}", ran.text());
+        for (count, what) in [10, 1000].into_iter().flat_map(|count| ["times", "ways"].map(|what| (count, what))) {
+            let counts = ["far", "local"].map(|kind| rows(&format!("{kind} {what} under {count} lines")));
+            assert_eq!(counts, [far, 1], "{}", ran.text());
+        }
     }
 }
 
@@ -248,5 +260,6 @@ fn bench_of_a_small_size() {
         assert_eq!((rows(format!("| local answers, N {n}, g 32 |")), rows(format!("| block of 144, N {n}, g 32 |"))), (1, 2), "{text}");
         assert!(text.starts_with("| what | core | plain | unit | core's time / plain's |\n|---|---|---|---|---|\n"));
         assert!(text.contains("\n\n| what | block | single answers | unit | block's time / single answers' |\n|---|---|---|---|---|\n"));
+        assert!(text.contains("\n\n| what | under a sheet | ways without it | unit | time under the sheet / ways' |\n|---|---|---|---|---|\n"));
     }
 }

@@ -3,19 +3,17 @@
 mod common;
 
 use common::networks::{self, Plan};
-use common::program::{oracle, touched, Folder};
-use common::reference::{bytes_32, file};
+use common::program::{oracle, LONGEST_ORACLE};
+use common::reference::sheets::{breaks_18, sheet};
+use common::reference::{self, bytes_32, file};
 use jukesogbi::core::{self, Refused};
 use jukesogbi::files::Kind;
 use jukesogbi::reading;
 use jukesogbi::sample::Random;
-use std::fs::OpenOptions;
-use std::io::{Read, Write};
-use std::os::unix::fs::FileExt;
+use std::io::Read;
 
-/// The most bytes of a network and of an oracle, from document 01.
+/// The most bytes of a network, from document 01.
 const NETWORK: usize = 2 + 3 * 9 + 4096 * 8 + 16_384 * 8 + 16_384 * 2;
-const ORACLE: usize = 2 + 7 * 9 + 4096 * 8 + 16_384 * 8 + 16_384 * 2 + 2 + 4096 * 2 + 4096 * (4 + 2 + 4096 * 6) + 4 * 4096 * 4096;
 
 /// The rule of a network as far as it is checked before the working words.
 fn network_rule(f: &[u8]) -> u32 {
@@ -38,7 +36,7 @@ impl Read for Drip<'_> {
 
 /// Reads with the size known or not, and compares the rule and the memory taken. Hands back the rule.
 fn check(whole: &[u8], kind: Kind, size: Option<u64>) -> u32 {
-    let (most, rule) = if kind == Kind::Network { (NETWORK, network_rule as fn(&[u8]) -> u32) } else { (ORACLE, oracle_rule as _) };
+    let (most, rule) = if kind == Kind::Network { (NETWORK, network_rule as fn(&[u8]) -> u32) } else { (LONGEST_ORACLE, oracle_rule as _) };
     let read = reading::file(&mut Drip(whole, Random(whole.len() as u64)), kind, size).unwrap();
     let expected = rule(whole);
     assert_eq!(rule(&read), expected, "{} bytes", whole.len());
@@ -64,7 +62,7 @@ fn largest() -> [Vec<u8>; 3] {
 
 #[test]
 fn the_most_bytes() {
-    assert_eq!((jukesogbi::form::most_size(3), jukesogbi::form::most_size(7)), (NETWORK, ORACLE));
+    assert_eq!((jukesogbi::form::most_size(3), jukesogbi::form::most_size(7)), (NETWORK, LONGEST_ORACLE));
     let whole = file(&largest());
     assert_eq!(whole.len(), NETWORK);
     // Accepted but for the words.
@@ -189,10 +187,10 @@ fn long_oracle(k: usize, more: usize) -> Vec<u8> {
 fn long_oracles() {
     // Line's N is 3 and T is 1, so most bodies are too long for it before they are too long for all.
     for (k, rule) in [(0, 3), (1, 5), (2, 7), (3, 8), (4, 9), (5, 10), (6, 11)] {
-        assert_eq!(check(&long_oracle(k, ORACLE), Kind::Oracle, None), rule);
+        assert_eq!(check(&long_oracle(k, LONGEST_ORACLE), Kind::Oracle, None), rule);
     }
     // Behind a table that is too long, one byte more; before it, a damaged edition, number, kind, offset, length, place, road, grid, transit place, list.
-    let mut whole = long_oracle(6, ORACLE);
+    let mut whole = long_oracle(6, LONGEST_ORACLE);
     let line = oracle(&networks::line(), 6).len();
     for (at, value, rule) in
         [(0, 2, 1), (1, 3, 1), (2, 9, 2), (12, 0, 2), (16, 1, 2), (68, 0x7f, 4), (93, 0, 6), (105, 0, 8), (107, 3, 9), (line - 5, 0xf0, 10)]
@@ -205,92 +203,43 @@ fn long_oracles() {
     assert_eq!(check(&whole, Kind::Oracle, None), 2);
 }
 
-// ---- The program ----
+// ---- Sheets ----
 
-/// A sparse file that begins so.
-fn sparse(f: &Folder, name: &str, begin: &[u8], size: usize) {
-    let file = OpenOptions::new().write(true).create(true).truncate(true).open(f.0.join(name)).unwrap();
-    file.write_all_at(begin, 0).unwrap();
-    file.set_len(size as u64).unwrap();
+/// Reads a sheet and compares what rule 18 says and the memory taken. Whatever else is refused by it, a sheet is read as it is.
+fn check_sheet(whole: &[u8]) -> bool {
+    let read = reading::file(&mut Drip(whole, Random(whole.len() as u64)), Kind::Sheet, None).unwrap();
+    assert_eq!(breaks_18(&read), breaks_18(whole), "{} bytes", whole.len());
+    assert!(breaks_18(whole) || read == whole, "{} bytes", whole.len());
+    let claimed = if whole.len() < 11 { 0 } else { 11 + reference::number_32(whole, 7) as usize };
+    assert!(read.capacity() <= (claimed + 1).max(1 << 16), "{} bytes of memory", read.capacity());
+    breaks_18(whole)
 }
 
-/// What is put to a body of Line.
-const MORE: usize = 300_000_000;
-
-/// Oracles and networks longer than any, by name and from a pipe.
+/// Contents that claim more and less than there is, and contents that are wrong, before few and many lines.
 #[test]
-fn long_files_by_name_and_from_a_pipe() {
-    let f = Folder::with_files("reading_long");
-    let questions = ["audit", "time 0 1", "far 0 1", "list 0", "way 0 1", "block 0 1", "draw p.svg"];
-    let call = |question: &str, name: &str| {
-        let (command, rest) = question.split_once(' ').unwrap_or((question, ""));
-        format!("{command} {name} {rest}")
-    };
-    // A long table; then one byte more; then another edition.
-    let size = 143 + MORE;
-    let mut begin = f.read("line.oracle");
-    begin[61..65].copy_from_slice(&bytes_32(4 + MORE));
-    sparse(&f, "table", &begin, size);
-    sparse(&f, "behind", &begin, size + 1);
-    begin[0] = 7;
-    sparse(&f, "edition", &begin, size);
-    questions.iter().for_each(|question| f.run(&call(question, "table")).is_refused(11));
-    for (name, rule) in [("table", 11), ("behind", 2), ("edition", 1)] {
-        f.run(&call("audit", name)).is_refused(rule);
-        let pipe = f.shell(&format!("cat {name} | $J audit -"));
-        assert_eq!((pipe.code, pipe.text()), (1, format!("refused {rule}\n")), "{}", pipe.err);
+fn sheets_of_all_lengths() {
+    for lines in [0, 1, 2, 7, 8, 9, 10_000, 100_000] {
+        let whole = sheet(&vec![(2, 3, 4); lines]);
+        assert!(!check_sheet(&whole));
+        for by in [-8, -7, -6, -1, 1, 6, 7, 8, 65_536, 7 * 65_536, 400_000_000] {
+            let mut other = whole.clone();
+            other[7..11].copy_from_slice(&((7 * lines as i64 + by) as u32).to_le_bytes());
+            assert!(check_sheet(&other), "{lines} lines, length by {by}");
+            if by > 0 && by < 1_000_000 {
+                other.resize(whole.len() + by as usize, 0);
+                assert!(check_sheet(&other), "{lines} lines and zeros, {by} bytes");
+            }
+            let size = whole.len() as i64 + by;
+            if (0..10_000_000).contains(&size) {
+                other = whole.clone();
+                other.resize(size as usize, 2);
+                assert!(check_sheet(&other), "{lines} lines, made {size} bytes");
+            }
+        }
+        for at in 0..7 {
+            let mut other = whole.clone();
+            other[at] ^= 4;
+            assert!(check_sheet(&other), "{lines} lines, byte {at}");
+        }
     }
-    // A network with as many roads.
-    let mut begin = f.read("line.net");
-    begin[16..20].copy_from_slice(&bytes_32(16 + MORE));
-    begin[21..25].copy_from_slice(&bytes_32(29 + 24 + 16 + MORE));
-    sparse(&f, "roads", &begin, 29 + 24 + 16 + MORE);
-    f.run("build roads 6 new").is_refused(5);
-    f.run("audit roads").is_refused(1);
-    assert!(!f.has("new") && !f.has("p.svg"));
-}
-
-/// A stream that never ends is refused for its beginning, or where it goes on behind the end that it claims.
-#[test]
-fn streams_without_an_end() {
-    let f = Folder::with_files("reading_endless");
-    for call in ["build /dev/zero 6 new", "audit /dev/zero", "time /dev/zero 0 1", "time /dev/zero", "listing /dev/zero", "draw /dev/zero p.svg"] {
-        f.run(call).is_refused(1);
-    }
-    for call in ["build - 6 new", "audit -", "list - 0"] {
-        f.shell(&format!("cat /dev/zero | $J {call}")).is_refused(1);
-        f.shell(&format!("cat line.net line.oracle /dev/zero | $J {call}")).is_refused(if call.starts_with("build") { 2 } else { 1 });
-    }
-    f.shell("cat line.oracle /dev/zero | $J audit -").is_refused(2);
-    let mut begin = f.read("line.oracle");
-    begin[61..65].copy_from_slice(&bytes_32(300_000_000));
-    f.write("claims", &begin);
-    f.shell("cat claims /dev/zero | $J audit -").is_refused(2);
-}
-
-/// Never more memory than the largest file of the kind, read from a pipe that is kept open.
-#[test]
-fn no_more_memory_than_the_largest() {
-    let f = Folder::with_files("reading_memory");
-    // The contents claim a gigabyte, most of which is given.
-    let mut begin = f.read("line.oracle");
-    begin[61..65].copy_from_slice(&bytes_32(1_000_000_000));
-    let most = |args: [&str; 4], begin: &[u8]| {
-        let mut child = f.command(args.into_iter().filter(|a| !a.is_empty())).spawn().unwrap();
-        let stdin = child.stdin.as_mut().unwrap();
-        stdin.write_all(begin).unwrap();
-        (0..250).for_each(|_| stdin.write_all(&[0; 1_000_000]).unwrap());
-        let most = touched(&child);
-        drop(child.stdin.take());
-        assert_eq!(child.wait_with_output().unwrap().stdout, b"refused 2\n");
-        most
-    };
-    let kilobytes = most(["audit", "-", "", ""], &begin);
-    assert!(kilobytes < ORACLE / 1024 + 10_000, "{kilobytes} kB");
-    let mut begin = f.read("line.net");
-    begin[25..29].copy_from_slice(&bytes_32(1_000_000_000));
-    let kilobytes = most(["build", "-", "6", "new"], &begin);
-    assert!(kilobytes < 10_000, "{kilobytes} kB");
-    // Nor is more asked for: what is left is the program itself.
-    f.shell(&format!("cat line.oracle /dev/zero | (ulimit -v {}; exec $J audit -)", ORACLE / 1024 + 20_000)).is_refused(2);
 }

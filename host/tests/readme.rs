@@ -1,15 +1,15 @@
-//! The first walk of the README: each command there prints what stands below it.
+//! The first walk of the README, and the example of docs/SHEETS.md: each command there prints what stands below it.
 
 mod common;
 
 use common::program::Folder;
 
 const README: &str = include_str!("../../README.md");
+const SHEETS: &str = include_str!("../../docs/SHEETS.md");
 
-#[test]
-fn the_first_walk() {
-    let f = Folder::new("readme");
-    let (_, walk) = README.split_once("## A first walk\n").unwrap();
+/// Runs the commands under a heading, and answers how many they are.
+fn run(f: &Folder, text: &str, heading: &str) -> usize {
+    let (_, walk) = text.split_once(&format!("## {heading}\n")).unwrap();
     let (walk, _) = walk.split_once("\n## ").unwrap();
     let lines: Vec<&str> = walk.lines().filter_map(|line| line.strip_prefix("    ")).collect();
     let mut commands = 0;
@@ -20,5 +20,20 @@ fn the_first_walk() {
         assert_eq!(ran.text(), printed, "{command}");
         commands += 1;
     }
-    assert!(commands >= 9, "{commands} commands");
+    commands
+}
+
+#[test]
+fn the_first_walk() {
+    assert!(run(&Folder::new("readme"), README, "A first walk") >= 13);
+}
+
+/// Its text is the one at the top of the page.
+#[test]
+fn the_example_of_sheets() {
+    let f = Folder::new("readme_sheets");
+    assert!(run(&f, SHEETS, "An example") >= 9);
+    let (_, text) = SHEETS.split_once("one line for each closure or delay:\n\n").unwrap();
+    let (text, _) = text.split_once("\n\n").unwrap();
+    assert_eq!(String::from_utf8(f.read("today.txt")).unwrap(), text.lines().map(|line| line.trim_start().to_string() + "\n").collect::<String>());
 }

@@ -67,6 +67,14 @@ pub fn closed_roads(sizes: &Sizes, number: usize) -> Item {
     Item::new(signs::closed_roads(sizes, sample_line()), SAMPLE, count(number, "closed road"))
 }
 
+pub fn shut_roads(sizes: &Sizes, number: usize) -> Item {
+    Item::new(signs::shut_roads(sizes, sample_line()), SAMPLE, format!("today: {}", count(number, "closed road")))
+}
+
+pub fn delayed_roads(number: usize) -> Item {
+    Item::new(signs::delayed_roads(sample_line()), SAMPLE, format!("today: {}", count(number, "delayed road")))
+}
+
 pub fn grid(g: u32) -> Item {
     let (low, high) = (4.0, 16.0);
     let lines = [low, high].into_iter().flat_map(|at| {

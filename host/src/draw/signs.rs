@@ -52,6 +52,16 @@ pub fn closed_roads(sizes: &Sizes, roads: impl IntoIterator<Item = (Point, Point
     lines(r##"class="closed" stroke="#d02020" stroke-dasharray="5 4""##, sizes.edge + 0.6, roads)
 }
 
+/// Closed by a sheet: dotted.
+pub fn shut_roads(sizes: &Sizes, roads: impl IntoIterator<Item = (Point, Point)>) -> String {
+    lines(r##"class="shut" stroke="#d02020" stroke-dasharray="1 6" stroke-linecap="round""##, sizes.edge + 1.6, roads)
+}
+
+/// Wider than the way, so that they are seen beneath it, and no wider than the room that numbers leave for roads.
+pub fn delayed_roads(roads: impl IntoIterator<Item = (Point, Point)>) -> String {
+    lines(r##"class="delayed" stroke="#f2b33d" stroke-linecap="round""##, WAY_WIDTH + 2.8, roads)
+}
+
 pub fn way(points: &[Point]) -> String {
     let list: Vec<String> = points.iter().map(Point::to_string).collect();
     let style = r##"class="way" fill="none" stroke="#2f7fe0" stroke-linejoin="round" stroke-linecap="round""##;

@@ -1,4 +1,4 @@
-/* The C interface as the header describes it: the file's form, room enough, null pointers, many threads, and how much stack each call takes.
+/* The C interface as the header describes it: the files' form, room enough, null pointers, many threads, and how much stack each call takes.
  * Prints one line for each; the Rust test reads them. */
 #define _POSIX_C_SOURCE 200809L
 #include "jukesogbi.h"
@@ -10,8 +10,9 @@
 
 enum { PLACES = JUKESOGBI_PLACES, WORDS = PLACES * JUKESOGBI_WORDS, STACK = 64 * 1024, THREADS = 8 };
 
-static uint8_t *network, *oracle, nodes[2 * PLACES];
-static size_t network_size, oracle_size, room;
+/* Enough for a line about each road. */
+static uint8_t *network, *oracle, nodes[2 * PLACES], sheet[11 + 7 * PLACES];
+static size_t network_size, oracle_size, sheet_size, room;
 static uint32_t work[WORDS];
 
 static void check(int right, const char *what) {
@@ -61,6 +62,28 @@ static void make_network(void) {
     }
 }
 
+/* A sheet without lines, and one line more. */
+static void begin_sheet(void) {
+    uint8_t *at = sheet;
+    put(&at, 1, 1);
+    put(&at, 1, 1);
+    put(&at, 8, 1);
+    put(&at, 11, 4);
+    put(&at, 0, 4);
+    sheet_size = 11;
+}
+
+static void put_line(uint32_t first, uint32_t road, uint32_t seconds) {
+    uint8_t *at = sheet + sheet_size, *length = sheet + 7;
+    put(&at, first, 1);
+    put(&at, road, 2);
+    put(&at, seconds, 4);
+    sheet_size += 7;
+    put(&length, (uint32_t)sheet_size - 11, 4);
+}
+
+static jukesogbi_reply time_under(uint32_t s, uint32_t t) { return jukesogbi_time_under(oracle, oracle_size, sheet, sheet_size, s, t, work, WORDS); }
+
 /* N, R and T as the header says where they stand. */
 static void find_numbers(uint32_t transit) {
     uint32_t first = get(oracle + 39, 4), count = get(oracle + 43, 4) / 2;
@@ -86,7 +109,32 @@ static void null_pointers(void) {
     check(jukesogbi_block(NULL, 0, NULL, 0, NULL, 0, NULL, 0).rule == 1, "block over nothing");
     check(jukesogbi_block(oracle, oracle_size, NULL, 0, &here, 1, work, WORDS).rule == 17, "block without starts");
     check(jukesogbi_block(oracle, oracle_size, &here, 1, NULL, 0, work, WORDS).rule == 17, "block without ends");
+    check(jukesogbi_time_under(NULL, 0, NULL, 0, 0, 0, NULL, 0).rule == 1, "time under a sheet over nothing");
+    check(jukesogbi_time_under(oracle, oracle_size, NULL, 0, 0, 9, NULL, 0).rule == 18, "time under nothing");
+    check(jukesogbi_way_under(oracle, oracle_size, NULL, 0, 0, 9, work, WORDS, NULL, 0).rule == 18, "way under nothing");
+    begin_sheet();
+    check(jukesogbi_time_under(oracle, oracle_size, sheet, sheet_size, 0, 9, NULL, 0).rule == 14, "time under a sheet without words");
+    check(jukesogbi_way_under(oracle, oracle_size, sheet, sheet_size, 0, 9, work, WORDS, NULL, 0).rule == 15, "way under a sheet without output");
     printf("null pointers\n");
+}
+
+/* The form of a sheet, and what its lines do: road i joins places i and i + 1 and takes i % 100 + 1 seconds. */
+static void sheets(void) {
+    begin_sheet();
+    check(time_under(0, PLACES - 1).kind == JUKESOGBI_FAR && time_under(2, 5).seconds == 12, "no lines change nothing");
+    put_line(JUKESOGBI_DELAYED, 3, 100);
+    check(time_under(2, 5).seconds == 112 && time_under(0, PLACES - 1).kind == JUKESOGBI_LOCAL, "a delay");
+    put_line(JUKESOGBI_CLOSED, 3, 0);
+    check(time_under(2, 5).seconds == JUKESOGBI_NO_WALK && time_under(4, 5).seconds == 5, "a closure");
+    check(jukesogbi_way_under(oracle, oracle_size, sheet, sheet_size, 2, 5, work, WORDS, nodes, sizeof nodes).nodes == 0, "no way");
+    put_line(JUKESOGBI_CLOSED, PLACES - 1, 0);
+    check(time_under(2, 5).rule == 19, "no such road");
+    sheet[sheet_size - 1] = 1;
+    check(time_under(2, 5).rule == 18, "seconds beside a closure");
+    begin_sheet();
+    put_line(JUKESOGBI_DELAYED, 3, 99997);
+    check(time_under(2, 5).rule == 20, "a road over 100,000 seconds");
+    printf("sheets\n");
 }
 
 /* ---- threads that share the oracle */
@@ -153,6 +201,16 @@ static void *block_asked(void *unused) {
     return unused;
 }
 
+static void *time_asked_under(void *unused) {
+    check(time_under(0, PLACES - 1).kind == JUKESOGBI_LOCAL, "the longest way's time under a sheet");
+    return unused;
+}
+static void *way_asked_under(void *unused) {
+    jukesogbi_route route = jukesogbi_way_under(oracle, oracle_size, sheet, sheet_size, 0, PLACES - 1, work, WORDS, nodes, sizeof nodes);
+    check(route.nodes == PLACES, "the longest way under a sheet");
+    return unused;
+}
+
 static size_t stack_of(void *(*call)(void *)) {
     static _Alignas(4096) uint8_t stack[STACK];
     pthread_attr_t small;
@@ -173,8 +231,13 @@ static void stacks(void) {
     const struct {
         const char *name;
         void *(*call)(void *);
-    } calls[] = {{"build", build}, {"audit", audit}, {"time", time_asked}, {"far", far_asked}, {"list", list_asked}, {"way", way_asked}, {"block", block_asked}};
+    } calls[] = {{"build", build}, {"audit", audit}, {"time", time_asked}, {"far", far_asked}, {"list", list_asked}, {"way", way_asked}, {"block", block_asked},
+                 {"time_under", time_asked_under}, {"way_under", way_asked_under}};
     const size_t empty = stack_of(nothing);
+    begin_sheet();
+    for (uint32_t i = 0; i < PLACES - 1; i++) {
+        put_line(JUKESOGBI_DELAYED, i, 1);
+    }
     for (size_t i = 0; i < sizeof calls / sizeof calls[0]; i++) {
         printf("stack %s %zu\n", calls[i].name, stack_of(calls[i].call) - empty);
     }
@@ -193,6 +256,7 @@ int main(void) {
     }
     null_pointers();
     many_threads();
+    sheets();
     stacks();
     free(network);
     free(oracle);

@@ -7,10 +7,12 @@
 pub mod networks;
 pub mod program;
 pub mod reference;
+pub mod sheets;
+pub mod tables;
 pub mod terminal;
 
 use jukesogbi::core::raw;
-use reference::{bytes_16, Answer, Built, Map, Outcome, Part, Times, SIDE, WORDS};
+use reference::{way_outcome, Answer, Built, Map, Outcome, Part, Times, SIDE, WORDS};
 use std::cell::Cell;
 use std::fmt::Debug;
 use std::rc::Rc;
@@ -330,12 +332,7 @@ impl OracleCase {
     /// asks for the times from each of its places. Both are places of the file.
     pub fn long_way(&self, s: u32, t: u32, room: usize) -> Outcome<usize> {
         let places = way_by_its_end(self.reference.map().unwrap(), s as usize, t as usize);
-        let fits = 2 * places.len() <= room;
-        let expected = Outcome {
-            result: if fits { Ok(places.len()) } else { Err(15) },
-            zeroed: self.words(),
-            written: if fits { places.into_iter().flat_map(bytes_16).collect() } else { Vec::new() },
-        };
+        let expected = way_outcome(places, self.words(), room);
         check_way(&self.input, s, t, self.words(), room, &expected);
         expected
     }

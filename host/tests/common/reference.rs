@@ -1,6 +1,9 @@
-//! Document 01 in plain Rust, and of document 02 the block, written from their text alone and as slow as their definitions read: every notion is
-//! worked out by going over all places, roads and cells. It shares nothing with the core nor with the host's own modules; bytes, too, are read
+//! Document 01 in plain Rust, and of document 02 the block and the day sheets, written from their text alone and as slow as their definitions read: every
+//! notion is worked out by going over all places, roads and cells. It shares nothing with the core nor with the host's own modules; bytes, too, are read
 //! and written here.
+
+#[path = "reference_sheet.rs"]
+pub mod sheets;
 
 use std::cell::{OnceCell, RefCell};
 use std::collections::{BTreeMap, BTreeSet};
@@ -461,6 +464,14 @@ pub struct Answer {
 /// The squares of a block.
 pub type Times = [[u32; SIDE]; SIDE];
 
+/// What a way of these places does to so many working words and so much output: 15 where it has no room.
+pub fn way_outcome(places: Vec<usize>, zeroed: usize, room: usize) -> Outcome<usize> {
+    if room < NUMBER * places.len() {
+        return Outcome { result: Err(15), zeroed, written: Vec::new() };
+    }
+    Outcome { result: Ok(places.len()), zeroed, written: places.into_iter().flat_map(bytes_16).collect() }
+}
+
 /// A part of the oracle.
 #[derive(Clone, Copy, Debug, PartialEq, Eq)]
 pub struct Part {
@@ -673,11 +684,7 @@ impl Questions {
         if words < needed {
             return Outcome::refused(14);
         }
-        let places = shaped.map.way(s as usize, t as usize);
-        if room < NUMBER * places.len() {
-            return Outcome { result: Err(15), zeroed: needed, written: Vec::new() };
-        }
-        Outcome { result: Ok(places.len()), zeroed: needed, written: places.iter().flat_map(|&u| bytes_16(u)).collect() }
+        way_outcome(shaped.map.way(s as usize, t as usize), needed, room)
     }
 
     /// The block: 1 to 12, 17, 14.

@@ -2,8 +2,8 @@
 //! a program can hold the command open and converse.
 
 use crate::args::Call;
-use crate::input::Input;
-use crate::lines::{Line, Lines, LONGEST};
+use crate::basis::Basis;
+use crate::lines::{shown, Line, Lines, LONGEST};
 use crate::output::complain;
 use crate::questions::{answer_line, way_reply, way_size};
 use crate::stop::{fault, Done, Stop};
@@ -29,37 +29,26 @@ impl Reply {
 const WRONG: &str = "wrong";
 
 pub fn times(call: &mut Call) -> Done {
-    let o = oracle(call)?;
-    let opened = opened(&o, call.lend.words(&o)?)?;
-    answer(call, opened, |oracle, s, t| oracle.time(s, t).map(|a| Reply::plain(answer_line(&a))))
+    let basis = Basis::beside_pairs(call)?;
+    let opened = basis.open(&call.lend)?;
+    answer(call, opened, |oracle, s, t| basis.opened_time(oracle, s, t).map(|a| Reply::plain(answer_line(&a))))
 }
 
 /// This question takes no words, so those lent are enough, whatever their number.
 pub fn fars(call: &mut Call) -> Done {
-    let o = oracle(call)?;
+    let o = Basis::beside_pairs(call)?.oracle;
     let opened = o.judged(Oracle::open(&o[..]))?;
     answer(call, opened, |oracle, s, t| oracle.far(s, t).map(|a| Reply::plain(answer_line(&a))))
 }
 
 pub fn ways(call: &mut Call) -> Done {
-    let o = oracle(call)?;
-    let opened = opened(&o, call.lend.words(&o)?)?;
-    let mut out = call.lend.room(way_size(&o))?;
+    let basis = Basis::beside_pairs(call)?;
+    let opened = basis.open(&call.lend)?;
+    let mut out = call.lend.room(way_size(&basis.oracle))?;
     answer(call, opened, |oracle, s, t| {
-        let nodes = oracle.way(s, t, &mut out)?;
+        let nodes = basis.opened_way(oracle, s, t, &mut out)?;
         Ok(way_reply(&files::numbers(&out[..NUMBER_SIZE * nodes]), s, t))
     })
-}
-
-fn oracle(call: &Call) -> Result<Input, Stop> {
-    if call.words[0] == "-" {
-        return fault("the oracle and the pairs cannot both come from standard input");
-    }
-    call.oracle(0)
-}
-
-fn opened(o: &Input, work: Vec<u32>) -> Result<Oracle<'_>, Stop> {
-    o.judged(Oracle::open_in(&o[..], work))
 }
 
 /// Each line that is not blank has one answer: what `ask` says, `refused N`, or `wrong`.
@@ -108,10 +97,6 @@ fn pair(line: Line) -> Result<Option<(u32, u32)>, String> {
     }
 }
 
-/// The most bytes of a line that are shown.
-const SHOWN: usize = 60;
-
 fn no_pair(bytes: &[u8]) -> String {
-    let (shown, rest) = bytes.split_at(bytes.len().min(SHOWN));
-    format!("`{}{}` is no pair `S T` of numbers from 0 to {}", shown.escape_ascii(), if rest.is_empty() { "" } else { ".." }, u32::MAX)
+    format!("`{}` is no pair `S T` of numbers from 0 to {}", shown(bytes), u32::MAX)
 }

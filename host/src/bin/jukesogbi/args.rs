@@ -5,7 +5,7 @@ use crate::output::Output;
 use crate::stop::{fault, slip, Done, Stop};
 use jukesogbi::files::{self, Kind};
 use jukesogbi::memory;
-use std::ffi::OsString;
+use std::ffi::{OsStr, OsString};
 
 /// How many words and bytes to lend where not as many as are needed.
 #[derive(Clone, Copy, Default)]
@@ -33,6 +33,7 @@ impl Lend {
 pub struct Arguments {
     pub words: Vec<OsString>,
     pub lend: Lend,
+    pub sheet: Option<OsString>,
     pub help: bool,
     pub version: bool,
     /// The options used.
@@ -56,29 +57,43 @@ impl Arguments {
         given
     }
 
-    /// `--words K` or `--words=K`, and so for `--room`.
+    /// `--words K` or `--words=K`, and so for the others.
     fn option(&mut self, text: &str, rest: &mut impl Iterator<Item = OsString>) {
         let (name, value) = text.split_once('=').map_or((text, None), |(name, value)| (name, Some(OsString::from(value))));
-        let (name, place) = match name {
-            "--words" => ("--words", &mut self.lend.words),
-            "--room" => ("--room", &mut self.lend.room),
-            _ => {
-                self.wrong.get_or_insert(format!("there is no option `{name}`"));
-                return;
-            }
+        let Some(name) = OPTIONS.into_iter().find(|&option| option == name) else {
+            self.wrong.get_or_insert(format!("there is no option `{name}`"));
+            return;
         };
         self.options.push(name);
-        *place = value.or_else(|| rest.next()).and_then(|value| value.to_str()?.parse().ok());
-        if place.is_none() {
-            self.wrong.get_or_insert(format!("`{name}` wants a number from 0 to {} after it", usize::MAX));
+        let value = value.or_else(|| rest.next());
+        let count = || value.as_ref()?.to_str()?.parse().ok();
+        let understood = match name {
+            "--words" => set(&mut self.lend.words, count()),
+            "--room" => set(&mut self.lend.room, count()),
+            _ => set(&mut self.sheet, value),
+        };
+        if !understood {
+            let wanted = if name == SHEET { "a file".to_string() } else { format!("a number from 0 to {}", usize::MAX) };
+            self.wrong.get_or_insert(format!("`{name}` wants {wanted} after it"));
         }
     }
+}
+
+const SHEET: &str = "--sheet";
+const OPTIONS: [&str; 3] = ["--words", "--room", SHEET];
+
+/// Whether there is something to set it to.
+fn set<T>(place: &mut Option<T>, value: Option<T>) -> bool {
+    *place = value;
+    place.is_some()
 }
 
 /// A command as it was called, with as many words as it takes.
 pub struct Call<'a> {
     pub words: &'a [OsString],
     pub lend: Lend,
+    /// The name of the day sheet.
+    pub sheet: Option<&'a OsStr>,
     pub out: &'a mut Output,
 }
 

@@ -3,7 +3,7 @@
 use crate::args::{Arguments, Call};
 use crate::output::Output;
 use crate::stop::{slip, Done, Stop};
-use crate::{bench, demo, making, questions};
+use crate::{bench, demo, making, questions, sheets};
 use std::ffi::{OsStr, OsString};
 use std::fmt::Write;
 
@@ -19,6 +19,7 @@ struct Command {
     run: fn(&mut Call) -> Done,
 }
 
+const SHEET: &str = "--sheet SHEET";
 const WORDS: &str = "--words K";
 const ROOM: &str = "--room B";
 
@@ -29,6 +30,18 @@ A pair that is refused is answered by `refused N`. A line that is no pair (or no
 Standard error then has the line's number and the cause, and the rest goes on. A blank line is passed over, without an answer.
 At the end the status is 2 if a line was wrong, else 1 if a pair was refused, else 0.
 An oracle that is refused, as are too few words, ends the command at once, with one `refused N` and status 1.";
+
+/// Of commands that may go by a day sheet.
+const UNDER: &str = "With --sheet the roads are as that day sheet leaves them; `jukesogbi sheet --help` tells what its lines do.
+A time found by a search over those roads is marked local, with 0 pairs. A sheet that is refused ends the command at once, with one `refused N`.";
+
+/// What the lines of a day sheet do.
+const LINES: &str = "TEXT has a line for each closure and each delay, and nothing else but blank lines, which are passed over:
+  closed ROAD            nothing drives road ROAD
+  delayed ROAD SECONDS   road ROAD takes SECONDS more
+ROAD is a number from 0 to 65535, counted from 0 in the order of the network, and SECONDS one from 0 to 4294967295.
+The last line about a road holds. A road that the network has closed stays closed. Whether the roads are there is seen when the sheet is used.
+A line of another form, or one longer than 4096 bytes, ends the command with its number and status 2, and nothing is written.";
 
 /// Of commands that write files.
 const WRITES: &str = "An older file of that name is replaced when the new one is whole, and stays as it is where anything fails.";
@@ -53,9 +66,9 @@ const COMMANDS: &[Command] = &[
     Command {
         name: "time",
         takes: "ORACLE [S T]",
-        options: &[WORDS],
+        options: &[SHEET, WORDS],
         does: "the time from place S to place T: seconds (`-` for none), far or local, pairs tried",
-        more: &[PAIRS],
+        more: &[UNDER, PAIRS],
         run: questions::time,
     },
     Command {
@@ -77,9 +90,9 @@ const COMMANDS: &[Command] = &[
     Command {
         name: "way",
         takes: "ORACLE [S T]",
-        options: &[WORDS, ROOM],
+        options: &[SHEET, WORDS, ROOM],
         does: "the places of the way from S to T, on one line, which is empty where there is none",
-        more: &[PAIRS],
+        more: &[UNDER, PAIRS],
         run: questions::way,
     },
     Command {
@@ -112,10 +125,26 @@ const COMMANDS: &[Command] = &[
     Command {
         name: "draw",
         takes: "ORACLE PICTURE.svg [S T]",
-        options: &[WORDS, ROOM],
+        options: &[SHEET, WORDS, ROOM],
         does: "draw the network, its grid and transit places, and the way from S to T",
-        more: &[WRITES],
+        more: &["With --sheet it shows the roads that the day sheet closes and delays, and the way under it.", WRITES],
         run: making::draw,
+    },
+    Command {
+        name: "sheet",
+        takes: "TEXT SHEET",
+        options: &[],
+        does: "make a day sheet from lines `closed ROAD` and `delayed ROAD SECONDS`",
+        more: &[LINES, WRITES],
+        run: sheets::make,
+    },
+    Command {
+        name: "sheet-text",
+        takes: "SHEET",
+        options: &[],
+        does: "print a day sheet, each line as `sheet` reads it",
+        more: &["The core says whether it is a sheet: one that breaks rule 18 is refused. Rules 19 and 20 take an oracle, and are not looked at."],
+        run: sheets::print,
     },
     Command { name: "demo", takes: "", options: &[], does: "try all of this on a sample", more: &["It writes demo.svg."], run: demo::run },
     Command {
@@ -149,7 +178,7 @@ pub fn run(args: impl Iterator<Item = OsString>, out: &mut Output) -> Done {
     if given.help {
         return out.line(command.help());
     }
-    let call = Call { words: &given.words[1..], lend: given.lend, out };
+    let call = Call { words: &given.words[1..], lend: given.lend, sheet: given.sheet.as_deref(), out };
     command.call(&given, call).map_err(|stop| stop.with_usage(&command.usage()))
 }
 
@@ -227,7 +256,8 @@ fn page() -> String {
     }
     text + "`jukesogbi COMMAND --help` says more of each.\n\
         time, far and way without S T answer pairs `S T` from standard input, one a line.\n\
-        options: --words K lends K working words, --room B lends B bytes of output, where the default is as many as are needed; -- ends the options.\n\
+        options: --sheet SHEET answers under a day sheet; --words K lends K working words, --room B lends B bytes of output, where the default is\n\
+        as many as are needed; -- ends the options.\n\
         status: 0 done; 1 refused, as `refused N`, with the rule on standard error; 2 wrong use, or a file, a stream or memory that fails."
 }
 

@@ -30,7 +30,7 @@ pub fn run(call: &mut Call) -> Done {
     let nodes = core::way(&oracles[0], s, t, &mut work, &mut room)?;
     let way = files::numbers(&room[..NUMBER_SIZE * nodes]);
     out.say(format_args!("way {s} to {t}: {}", nodes_text(&way)))?;
-    out.deliver(OsStr::new(PICTURE), draw::svg(&oracles[0], Some((s, t)), &way).as_bytes(), &format!("drawn: {PICTURE}"))
+    out.deliver(OsStr::new(PICTURE), draw::svg(&oracles[0], None, Some((s, t)), &way).as_bytes(), &format!("drawn: {PICTURE}"))
 }
 
 fn build(out: &mut Output, network: &[u8], g: u32, work: &mut [u32]) -> Result<Vec<u8>, Stop> {

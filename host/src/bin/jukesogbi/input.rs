@@ -23,8 +23,13 @@ impl Deref for Input {
     }
 }
 
+/// The name of a file, for messages.
+pub fn title(name: &OsStr) -> &OsStr {
+    if name == "-" { OsStr::new("standard input") } else { name }
+}
+
 /// Hands the file of this name, and its size where it is known, to a function that reads.
-fn read<T>(name: &OsStr, get: impl FnOnce(&mut dyn Read, Option<u64>) -> io::Result<T>) -> Result<T, Stop> {
+pub fn read<T>(name: &OsStr, get: impl FnOnce(&mut dyn Read, Option<u64>) -> io::Result<T>) -> Result<T, Stop> {
     let got = if name == "-" {
         get(&mut io::stdin().lock(), None)
     } else {
@@ -33,8 +38,7 @@ fn read<T>(name: &OsStr, get: impl FnOnce(&mut dyn Read, Option<u64>) -> io::Res
             get(&mut file, size)
         })
     };
-    let shown = if name == "-" { OsStr::new("standard input") } else { name };
-    got.or_else(|e| fault(format!("cannot read {}: {e}", shown.display())))
+    got.or_else(|e| fault(format!("cannot read {}: {e}", title(name).display())))
 }
 
 impl Input {
@@ -56,14 +60,16 @@ impl Input {
         verdict.map_err(|refused| Stop::Refused(refused, self.note()))
     }
 
-    /// A word where it is the other kind of file.
+    /// A word where it is another kind of file.
     pub fn note(&self) -> Option<&'static str> {
+        let looks = |kind| looks_like(self, kind);
         match self.kind {
-            Kind::Oracle if looks_like(self, Kind::Network) => {
-                Some("this looks like a network: `jukesogbi build` makes an oracle of it")
-            }
-            Kind::Network if looks_like(self, Kind::Oracle) => {
-                Some("this looks like an oracle: building wants the network that it is of")
+            Kind::Oracle if looks(Kind::Network) => Some("this looks like a network: `jukesogbi build` makes an oracle of it"),
+            Kind::Network if looks(Kind::Oracle) => Some("this looks like an oracle: building wants the network that it is of"),
+            Kind::Oracle | Kind::Network if looks(Kind::Sheet) => Some("this looks like a day sheet, which is for the option `--sheet`"),
+            Kind::Sheet if looks(Kind::Network) || looks(Kind::Oracle) => Some("this looks like a network or an oracle, and no day sheet"),
+            Kind::Sheet if self.starts_with(b"closed ") || self.starts_with(b"delayed ") => {
+                Some("this looks like the text of a day sheet: `jukesogbi sheet` makes a sheet of it")
             }
             _ => None,
         }

@@ -2,6 +2,7 @@
 
 mod answerer;
 mod args;
+mod basis;
 mod bench;
 mod commands;
 mod demo;
@@ -12,6 +13,7 @@ mod output;
 mod progress;
 mod questions;
 mod replace;
+mod sheets;
 mod stop;
 mod system;
 

@@ -1,6 +1,7 @@
-//! The commands that make files: oracles, samples, pictures.
+//! The commands that make files: oracles, samples, pictures. (Those of day sheets are in `sheets`.)
 
 use crate::args::Call;
+use crate::basis::Basis;
 use crate::output::complain;
 use crate::progress::Clock;
 use crate::questions::{no_way, way_nodes};
@@ -34,14 +35,14 @@ pub fn write_sample(call: &mut Call) -> Done {
 
 pub fn draw(call: &mut Call) -> Done {
     let pair = call.pair_if(2)?;
-    let o = call.oracle(0)?;
+    let basis = Basis::read(call)?;
     let way = match pair {
-        Some((s, t)) => way_nodes(call, &o, s, t)?,
-        // The list of node 0 is refused for rules 1 to 11 alone.
-        None => o.judged(core::list(&o, 0)).map(|_| Vec::new())?,
+        Some((s, t)) => way_nodes(call, &basis, s, t)?,
+        None => basis.check(&call.lend).map(|()| Vec::new())?,
     };
     if let (Some((s, t)), []) = (pair, &way[..]) {
         complain(no_way(s, t));
     }
-    call.deliver(1, draw::svg(&o, pair, &way).as_bytes(), &format!("drawn {} places", files::node_count(&o)))
+    let picture = draw::svg(&basis.oracle, basis.sheet.as_deref(), pair, &way);
+    call.deliver(1, picture.as_bytes(), &format!("drawn {} places", files::node_count(&basis.oracle)))
 }

@@ -2,6 +2,7 @@
 
 use crate::answerer::{self, Reply};
 use crate::args::Call;
+use crate::basis::Basis;
 use crate::input::Input;
 use crate::output::complain;
 use crate::progress::Clock;
@@ -21,9 +22,7 @@ pub fn audit(call: &mut Call) -> Done {
 
 pub fn time(call: &mut Call) -> Done {
     let Some((s, t)) = call.pair_if(1)? else { return answerer::times(call) };
-    let o = call.oracle(0)?;
-    let mut work = call.lend.words(&o)?;
-    let answer = o.judged(core::time(&o, s, t, &mut work))?;
+    let answer = Basis::read(call)?.time(s, t, &call.lend)?;
     call.out.line(answer_line(&answer))
 }
 
@@ -36,16 +35,16 @@ pub fn far(call: &mut Call) -> Done {
 
 pub fn way(call: &mut Call) -> Done {
     let Some((s, t)) = call.pair_if(1)? else { return answerer::ways(call) };
-    let o = call.oracle(0)?;
-    let reply = way_reply(&way_nodes(call, &o, s, t)?, s, t);
+    let basis = Basis::read(call)?;
+    let reply = way_reply(&way_nodes(call, &basis, s, t)?, s, t);
     reply.note.into_iter().for_each(complain);
     call.out.line(reply.line)
 }
 
 /// The nodes of the way, none where there is none.
-pub fn way_nodes(call: &Call, o: &Input, s: u32, t: u32) -> Result<Vec<u16>, Stop> {
-    let (mut work, mut out) = (call.lend.words(o)?, call.lend.room(way_size(o))?);
-    let nodes = o.judged(core::way(o, s, t, &mut work, &mut out))?;
+pub fn way_nodes(call: &Call, basis: &Basis, s: u32, t: u32) -> Result<Vec<u16>, Stop> {
+    let mut out = call.lend.room(way_size(&basis.oracle))?;
+    let nodes = basis.way(s, t, &call.lend, &mut out)?;
     Ok(files::numbers(&out[..NUMBER_SIZE * nodes]))
 }
 

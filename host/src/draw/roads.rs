@@ -1,0 +1,70 @@
+//! Roads as they are drawn: those side by side are one line of each sort.
+
+use crate::files::Network;
+use std::collections::{BTreeMap, BTreeSet};
+
+/// The two ends, the smaller number first.
+pub type Ends = (u16, u16);
+
+pub fn ends(a: u16, b: u16) -> Ends {
+    (a.min(b), a.max(b))
+}
+
+/// So many roads of a sort, and the lines that show them.
+#[derive(Default)]
+pub struct Sort {
+    pub count: usize,
+    pub lines: BTreeSet<Ends>,
+}
+
+impl Sort {
+    fn put(&mut self, ends: Ends) {
+        self.count += 1;
+        self.lines.insert(ends);
+    }
+}
+
+#[derive(Default)]
+pub struct Roads {
+    /// Each line with the least seconds of its open roads.
+    pub open: BTreeMap<Ends, u32>,
+    pub open_count: usize,
+    /// Closed in the network.
+    pub closed: Sort,
+    /// Closed by the sheet.
+    pub shut: Sort,
+    /// Open, and slower by the sheet.
+    pub delayed: Sort,
+}
+
+impl Roads {
+    /// Of a network, and as a sheet leaves it.
+    pub fn of(net: &Network, today: &Network) -> Roads {
+        let mut roads = Roads::default();
+        for (i, (old, new)) in net.edges.iter().zip(&today.edges).enumerate() {
+            let (ends, is_in) = (ends(old.first, old.second), |closed: &[u16]| closed.binary_search(&(i as u16)).is_ok());
+            if is_in(&net.closed) {
+                roads.closed.put(ends);
+            } else if is_in(&today.closed) {
+                roads.shut.put(ends);
+            } else {
+                roads.open_count += 1;
+                roads.open.entry(ends).and_modify(|s: &mut u32| *s = new.seconds.min(*s)).or_insert(new.seconds);
+                if new.seconds > old.seconds {
+                    roads.delayed.put(ends);
+                }
+            }
+        }
+        roads
+    }
+
+    /// All lines. Delayed ones are among the open.
+    pub fn lines(&self) -> impl Iterator<Item = &Ends> {
+        self.open.keys().chain(&self.closed.lines).chain(&self.shut.lines)
+    }
+
+    /// The seconds of a way: between two nodes it takes the quickest of the open roads.
+    pub fn total(&self, way: &[u16]) -> u64 {
+        way.windows(2).map(|step| self.open[&ends(step[0], step[1])] as u64).sum()
+    }
+}

@@ -1,0 +1,202 @@
+//! The reference's day sheets held against what else is known: document 02's sentences by example, and all least walks one by one. No call of the core
+//! is made here.
+
+// The differential tests use the rest.
+#![allow(dead_code)]
+
+#[path = "common/networks.rs"]
+mod networks;
+#[path = "common/reference.rs"]
+mod reference;
+
+use jukesogbi::sample::Random;
+use networks::Plan;
+use reference::sheets::{breaks_18, sheet, with_contents, Under, CLOSED, DELAYED};
+use reference::{Answer, Map, Network, Questions};
+
+/// More than any small network needs.
+const MUCH: usize = 10_000;
+
+type Line = (u8, u16, u32);
+
+fn asked(plan: &Plan, g: u32) -> Questions {
+    Questions::of(Network::of(plan.bytes()).oracle(g).bytes.clone())
+}
+
+/// Time and way under these lines.
+fn under(o: &Questions, lines: &[Line], s: u32, t: u32) -> (Result<Answer, u32>, Vec<u8>) {
+    let under = Under::of(o, sheet(lines));
+    let way = under.way(s, t, MUCH, MUCH);
+    let places: Vec<u8> = way.written.chunks(2).map(|place| place[0]).collect();
+    assert_eq!(way.result, under.time(s, t, MUCH).result.map(|_| places.len()));
+    (under.time(s, t, MUCH).result, places)
+}
+
+fn far(seconds: u64, pairs: usize) -> Result<Answer, u32> {
+    Ok(Answer { far: true, seconds: Some(seconds), pairs })
+}
+
+fn local(seconds: Option<u64>) -> Result<Answer, u32> {
+    Ok(Answer { far: false, seconds, pairs: 0 })
+}
+
+#[test]
+fn lines_on_fork() {
+    let fork = asked(&networks::fork(), 6);
+    let on = |lines: &[Line]| under(&fork, lines, 0, 4);
+    let old = (far(11, 4), vec![0, 1, 3, 4]);
+    // No line, none on the way, a delay of nothing, and a line that is taken back.
+    assert_eq!(on(&[]), old);
+    assert_eq!(on(&[(CLOSED, 1, 0), (DELAYED, 3, 99_995)]), old);
+    assert_eq!(on(&[(DELAYED, 0, 0)]), old);
+    assert_eq!(on(&[(CLOSED, 0, 0), (DELAYED, 0, 0)]), old);
+    // A step slower or closed: the other side is as quick, and found by a search.
+    for lines in [&[(DELAYED, 0, 1)][..], &[(CLOSED, 2, 0)], &[(DELAYED, 0, 0), (CLOSED, 0, 0)], &[(CLOSED, 0, 0), (CLOSED, 0, 0)]] {
+        assert_eq!(on(lines), (local(Some(11)), vec![0, 2, 3, 4]));
+    }
+    assert_eq!(on(&[(DELAYED, 4, 99_999)]), (local(Some(100_010)), vec![0, 1, 3, 4]));
+    assert_eq!(on(&[(CLOSED, 4, 0)]), (local(None), vec![]));
+    assert_eq!(under(&fork, &[(CLOSED, 4, 0), (CLOSED, 0, 0)], 0, 0), (local(Some(0)), vec![0]));
+    // What is closed in body 3 stays closed, and what was 'none' stays as it was.
+    let closed = asked(&networks::fork_closed(), 6);
+    for line in [(DELAYED, 4, 0), (DELAYED, 4, u32::MAX), (CLOSED, 4, 0), (CLOSED, 0, 0)] {
+        assert_eq!(under(&closed, &[line], 0, 4), (Ok(Answer { far: true, seconds: None, pairs: 0 }), vec![]));
+    }
+}
+
+#[test]
+fn a_parallel_road_serves() {
+    let with = |seconds: u32| Plan { roads: vec![(0, 1, 7), (1, 2, 9), (1, 0, seconds)], ..networks::line() };
+    let way = vec![0, 1, 2];
+    assert_eq!(under(&asked(&with(7), 6), &[(CLOSED, 0, 0)], 0, 2), (far(16, 1), way.clone()));
+    assert_eq!(under(&asked(&with(7), 6), &[(DELAYED, 0, 1)], 0, 2), (far(16, 1), way.clone()));
+    assert_eq!(under(&asked(&with(7), 6), &[(DELAYED, 0, 1), (DELAYED, 2, 2)], 0, 2), (local(Some(17)), way.clone()));
+    assert_eq!(under(&asked(&with(8), 6), &[(CLOSED, 0, 0)], 0, 2), (local(Some(17)), way.clone()));
+    // A quicker road, delayed to just the old time, is no road of the old way; the old way is by the quicker one.
+    assert_eq!(under(&asked(&with(6), 6), &[(DELAYED, 2, 1)], 0, 2), (local(Some(16)), way));
+    assert_eq!(under(&asked(&with(7), 6), &[(CLOSED, 0, 0), (CLOSED, 2, 0)], 0, 2), (local(None), vec![]));
+}
+
+#[test]
+fn rules_by_example() {
+    let line = asked(&networks::line(), 6);
+    let rule = |bytes: Vec<u8>| Under::of(&line, bytes).time(0, 2, MUCH).result.err();
+    let lines = |lines: &[Line]| rule(sheet(lines));
+    assert_eq!((lines(&[]), lines(&[(CLOSED, 1, 0)])), (None, None));
+    for (wrong, line) in [(0, (0, 0, 0)), (1, (3, 0, 0)), (2, (255, 0, 0)), (3, (CLOSED, 0, 1)), (4, (CLOSED, 0, 1 << 24))] {
+        assert_eq!(lines(&[(DELAYED, 0, 1), line]), Some(18), "{wrong}");
+        // Over all lines before 19, and 19 before 20.
+        assert_eq!(lines(&[(CLOSED, 9, 0), (DELAYED, 0, u32::MAX), line]), Some(18), "{wrong}");
+    }
+    assert_eq!((lines(&[(CLOSED, 2, 0)]), lines(&[(DELAYED, 0, u32::MAX), (DELAYED, 65_535, 0)])), (Some(19), Some(19)));
+    assert_eq!((lines(&[(DELAYED, 0, 99_993)]), lines(&[(DELAYED, 0, 99_994)])), (None, Some(20)));
+    // By the line that holds.
+    assert_eq!(lines(&[(DELAYED, 0, 99_994), (DELAYED, 0, 1)]), None);
+    assert_eq!(lines(&[(DELAYED, 0, 99_994), (CLOSED, 0, 0)]), None);
+    assert_eq!(lines(&[(DELAYED, 0, 1), (CLOSED, 1, 0), (DELAYED, 0, u32::MAX)]), Some(20));
+    for cut in 0..11 {
+        assert!(breaks_18(&sheet(&[])[..cut]));
+    }
+    let good = sheet(&[(DELAYED, 0, 1)]);
+    for at in 0..11 {
+        let mut bytes = good.clone();
+        bytes[at] ^= 1;
+        assert_eq!(rule(bytes), Some(18), "byte {at}");
+    }
+    assert_eq!(rule([&good[..], &[0]].concat()), Some(18));
+    for size in 0..30 {
+        assert_eq!(breaks_18(&with_contents(vec![2; size])), size % 7 != 0, "a body of {size} bytes");
+    }
+}
+
+/// Times are whatever bodies 6 and 7 hold: an old answer without any old way is not kept, and an old 'none' is.
+#[test]
+fn oracles_never_built() {
+    let mut bodies: Vec<Vec<u8>> = (1..=7).map(|kind| reference::body(&asked(&networks::line(), 6).bytes, kind).to_vec()).collect();
+    bodies[6] = vec![50, 0, 0, 0];
+    let slower = Questions::of(reference::file(&bodies));
+    assert_eq!(under(&slower, &[], 0, 2), (far(66, 1), vec![0, 1, 2]));
+    assert_eq!(under(&slower, &[(DELAYED, 0, 1)], 0, 2), (local(Some(17)), vec![0, 1, 2]));
+    let mut islands = bodies.clone();
+    islands[2] = vec![0, 0];
+    assert_eq!(under(&Questions::of(reference::file(&islands)), &[], 0, 2), (local(None), vec![]));
+    bodies[6] = vec![255; 4];
+    let none = Questions::of(reference::file(&bodies));
+    let old = Ok(Answer { far: true, seconds: None, pairs: 1 });
+    assert_eq!(under(&none, &[], 0, 2), (old, vec![0, 1, 2]));
+    assert_eq!(under(&none, &[(CLOSED, 0, 0)], 0, 2), (old, vec![]));
+}
+
+// ---- All walks ----
+
+/// All walks from the last of `walk` to t that come by no place twice, each with its total.
+fn all_walks(map: &Map, walk: &mut Vec<usize>, total: u64, t: usize, found: &mut Vec<(u64, Vec<usize>)>) {
+    let u = *walk.last().unwrap();
+    if u == t {
+        found.push((total, walk.clone()));
+        return;
+    }
+    for (from, to, seconds) in map.steps() {
+        if from == u && !walk.contains(&to) {
+            walk.push(to);
+            all_walks(map, walk, total + seconds, t, found);
+            walk.pop();
+        }
+    }
+}
+
+/// Over a built oracle the time is the least total over walks on the roads as the sheet leaves them, and the way the first of the least ones. The roads
+/// are changed here in the plan, so that the reference's own map of them is judged too.
+#[test]
+fn built_oracles_answer_least_totals() {
+    let (mut kept, mut searched, mut none, mut refused) = (0, 0, 0, 0);
+    for seed in 0..3_000 {
+        let mut random = Random(seed);
+        let plan = networks::network(&mut random);
+        if plan.places.len() > 8 || plan.roads.len() > 12 || plan.roads.is_empty() {
+            continue;
+        }
+        let o = asked(&plan, networks::grid(&mut random));
+        let road = |random: &mut Random| random.below(plan.roads.len() as u64) as u16;
+        let line = |random: &mut Random| if random.once_in(2) { (CLOSED, road(random), 0) } else { (DELAYED, road(random), random.below(9) as u32) };
+        let lines: Vec<Line> = (0..random.below(6)).map(|_| line(&mut random)).collect();
+        let mut left = plan.clone();
+        for (i, road) in left.roads.iter_mut().enumerate() {
+            match lines.iter().rev().find(|line| line.1 as usize == i) {
+                Some((CLOSED, ..)) => left.closed.push(i as u16),
+                Some(line) => road.2 += line.2,
+                None => {}
+            }
+        }
+        left.closed.sort_unstable();
+        left.closed.dedup();
+        let under = Under::of(&o, sheet(&lines));
+        // The plan's roads over 100,000 seconds are refused as a network's, by 6, where the sheet is refused by 20.
+        let over = left.roads.iter().enumerate().any(|(i, road)| road.2 > 100_000 && !left.closed.contains(&(i as u16)));
+        assert_eq!(under.map().is_none(), over, "seed {seed}");
+        if over {
+            refused += 1;
+            continue;
+        }
+        left.roads.iter_mut().for_each(|road| road.2 = road.2.min(100_000));
+        let network = Network::of(left.bytes());
+        for s in 0..plan.places.len() {
+            for t in 0..plan.places.len() {
+                let mut walks = Vec::new();
+                all_walks(network.map().unwrap(), &mut vec![s], 0, t, &mut walks);
+                let (least, at) = (walks.iter().min().cloned(), format!("seed {seed}, {s} to {t}, {lines:?}"));
+                let (answer, way) = (under.time(s as u32, t as u32, MUCH).result.unwrap(), under.way(s as u32, t as u32, MUCH, MUCH));
+                assert_eq!(answer.seconds, least.as_ref().map(|w| w.0), "{at}");
+                assert_eq!(way.written, least.map_or(vec![], |w| w.1.into_iter().flat_map(reference::bytes_16).collect()), "{at}");
+                // Far is kept or nothing is.
+                let old = o.time(s as u32, t as u32, MUCH).result.unwrap();
+                assert!(answer == old || !answer.far && answer.pairs == 0, "{at}");
+                kept += (answer.far && answer.seconds.is_some()) as u32;
+                searched += (old.far && !answer.far) as u32;
+                none += (old.seconds.is_some() && answer.seconds.is_none()) as u32;
+            }
+        }
+    }
+    println!("far kept {kept}, far no more {searched}, no more a walk {none}, refused {refused}");
+    assert!(kept > 1_000 && searched > 1_000 && none > 1_000 && refused > 5);
+}
