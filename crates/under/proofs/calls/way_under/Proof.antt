@@ -46,10 +46,12 @@ returns-2 : tie.Need-returns-2
 unfolding effects
 returns-2 c =
     let r = c .before .before .before .before .before .before .before .before .way-under-of .ensures in
-    way-given _ _ _ _ _ _
-    (c .before .before .before .before .before .before .before .before .before .before .before .before .before .before .before .before .before .time-under-refusal .ensures) _ (c .before .before .before .before .before .before .before .before .before .before .before .before .before .before .before .before .if1 .left) _ _ _ _ (rw (c .before .before .before .before .before .before .before .before .before .before .before .line-body .ensures) at (r .0))
-    (r .1 .rest ∙ c .before .before .before .before .before .before .before .before .before .before .before .before .before .before .open-words .ensures .1)
-    (c .before .before .zero-words .ensures)
+    let e = c .before .before .before .before .before .before .before .before .before .before .before .before
+    .before .before .before .before .before .time-under-refusal .ensures in
+    let z = c .before .before .before .before .before .before .before .before .before .before .before .before .before .before .before .before .if1 .left in
+    let l = c .before .before .before .before .before .before .before .before .before .before .before .line-body .ensures in
+    let q = c .before .before .before .before .before .before .before .before .before .before .before .before .before .before .open-words .ensures .1 in
+    way-given _ _ _ _ _ _ e _ z _ _ _ _ (rw l at (r .0)) (r .1 .rest ∙ q) (c .before .before .zero-words .ensures)
 
 pub way-under-spec : {M : Type 1} → statement M
 way-under-spec =
