@@ -8,7 +8,7 @@ use Rattle.model.specs.Bytes.{Bytes}
 use Rattle.model.specs.Contents.{nodeBody}
 use Rattle.model.specs.Network.{network, nodeCount, distance}
 use Rattle.model.specs.Oracle.{coded}
-use Rattle.model.specs.Query.{distanceOf, farAnswer, localAnswer, kindBetween, answerOf, timeAnswer}
+use Rattle.model.specs.Query.{distanceOf, farAnswer, localAnswer, kindBetween, answerOf, timeAnswer, timeWord}
 use Rattle.model.specs.Rules.{isLocal, localPair}
 use Rattle.model.specs.declared.Kind.{Kind}
 use Rattle.model.specs.declared.Kind.the-variants.{Far, Local}
@@ -17,7 +17,6 @@ use Rattle.theory.specs.Given.{distance-of}
 use Rattle.bitset.specs.Bits.{isIn}
 use Rattle.words.specs.Regions.{regionAt, want}
 use Rattle.words.specs.Times.{time}
-use Rattle.block.specs.Block.{entryOf}
 use Rattle.block.specs.Near.{NearTime}
 
 module _ (o : Bytes) (s t : ℕ) where
@@ -40,10 +39,10 @@ module _ (o : Bytes) (s t : ℕ) where
   kind-other Far e = refl
   kind-other Local e = absurd (true≢false e)
 
-  pub entry-far : (a : Answer) (r : ℕ) → localPair o s t ≡ false → a ≡ farAnswer o s t → r ≡ coded (distanceOf a) → r ≡ entryOf o s t
-  unfolding entryOf timeAnswer answerOf localPair
+  pub entry-far : (a : Answer) (r : ℕ) → localPair o s t ≡ false → a ≡ farAnswer o s t → r ≡ coded (distanceOf a) → r ≡ timeWord o s t
+  unfolding timeWord timeAnswer answerOf localPair
   entry-far a r l e q = q ∙ rw (e, kind-other (kindBetween o s t) l)
 
-  pub entry-local : (work : List ℕ) → localPair o s t ≡ true → NearTime o s t work → time (nodeCount (nodeBody o)) work t ≡ entryOf o s t
-  unfolding entryOf timeAnswer answerOf localAnswer localPair
+  pub entry-local : (work : List ℕ) → localPair o s t ≡ true → NearTime o s t work → time (nodeCount (nodeBody o)) work t ≡ timeWord o s t
+  unfolding timeWord timeAnswer answerOf localAnswer localPair
   entry-local work l near = near .time l ∙ rw (kind-told (kindBetween o s t) l) (ap coded (sym (distance-of Local 0 (distance (network o) s t))))

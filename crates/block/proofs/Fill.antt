@@ -5,8 +5,9 @@ use mathlib.Core.Path.{_≡_, refl, sym, _∙_, ap}
 use mathlib.Core.List.{List, []}
 use lib.ListN.{length, getD, take, set, replicate}
 use lib.Seq.{set-set, set-getD, getD-set-same, getD-take, length-take-le}
+use Rattle.model.specs.Query.{timeWord}
 use Rattle.model.specs.Bytes.{Bytes}
-use Rattle.block.specs.Block.{maxNames, entryOf, twelve, rowOf, unusedRow, blockOf}
+use Rattle.block.specs.Block.{maxNames, twelve, rowOf, unusedRow, blockOf}
 use Rattle.block.specs.Twelve.{used-at, unused-at, twelve-more}
 
 -- ---- a row
@@ -21,9 +22,9 @@ row-is {B} t i r e = sym (ap (λ (q : List B). set t i q) (sym e) ∙ set-getD t
 
 module _ (o : Bytes) where
   pub row-more : (s : ℕ) (ends : List ℕ) (j : ℕ) → j < length ends → j < maxNames
-      → set (rowOf o (take j ends) s) j (entryOf o s (getD ends j 0)) ≡ rowOf o (take (j + 1) ends) s
+      → set (rowOf o (take j ends) s) j (timeWord o s (getD ends j 0)) ≡ rowOf o (take (j + 1) ends) s
   unfolding rowOf
-  row-more s ends j h k = twelve-more (entryOf o s) 0 ends j h k
+  row-more s ends j h k = twelve-more (timeWord o s) 0 ends j h k
 
   pub no-entries : (s : ℕ) → unusedRow ≡ rowOf o [] s
   unfolding rowOf twelve

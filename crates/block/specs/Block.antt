@@ -6,8 +6,7 @@ use mathlib.Core.List.{List, [], _∷_, _++_, map}
 use lib.ListN.{length, replicate}
 use lib.Dec.{eqb, ltb}
 use Rattle.model.specs.Bytes.{Bytes}
-use Rattle.model.specs.Oracle.{coded}
-use Rattle.model.specs.Query.{distanceOf, timeAnswer}
+use Rattle.model.specs.Query.{timeWord}
 use Rattle.model.specs.Rules.{Rule, rule, firstBroken, workTooSmall}
 use Rattle.model.specs.Calls.{workAfter}
 use Rattle.checks.specs.RuleLists.{namedRules}
@@ -31,17 +30,14 @@ blockRules o starts ends words = sidesRules o starts ends ++ (rule 14 (workTooSm
 
 -- ---- the block
 
--- "Each square equals the single answer for its pair", "'no walk' marked as in the table".
-unfoldable pub entryOf : Bytes → ℕ → ℕ → ℕ
-entryOf o s t = coded (distanceOf (timeAnswer o s t))
-
 -- Twelve of them, the unused ones at the end.
 unfoldable pub twelve : {A : Type 0} → A → List A → List A
 twelve unused used = used ++ replicate (maxNames - length used) unused
 
--- "A row for each start and a column for each end in the order named, with unused squares zero."
+-- "A row for each start and a column for each end in the order named, with unused squares zero." "Each square equals the single answer for its pair",
+-- "'no walk' marked as in the table" (model Query `timeWord`).
 unfoldable pub rowOf : Bytes → List ℕ → ℕ → List ℕ
-rowOf o ends s = twelve 0 (map (entryOf o s) ends)
+rowOf o ends s = twelve 0 (map (timeWord o s) ends)
 
 abbrev pub unusedRow : List ℕ
 unusedRow = replicate maxNames 0

@@ -12,7 +12,7 @@ use Rattle.model.specs.Walk.{Walk}
 use Rattle.model.specs.Distance.{IsLeast}
 use Rattle.model.specs.Network.{network, nodeCount, arcs, distance}
 use Rattle.model.specs.Oracle.{oracle, coded, decoded}
-use Rattle.model.specs.Query.{distanceOf}
+use Rattle.model.specs.Query.{distanceOf, timeWord}
 use Rattle.model.specs.Lists.{any}
 use Rattle.model.specs.Rules.{accepted, noSuchNode, wordsNeeded}
 use Rattle.model.specs.Calls.{cleared, answerAfter, timeResult, TimeCall}
@@ -30,7 +30,7 @@ use Rattle.theory.specs.FarModel.{exact}
 use Rattle.model.specs.Meanings.{meaning-injective}
 use Rattle.demands.specs.Outcomes.{Refuses}
 use Rattle.demands.specs.CallLaws as laws
-use Rattle.block.specs.Block.{maxNames, blockRules, entryOf, rowOf, unusedRow, blockOf, blockRefusal, blockAfter, BlockCall}
+use Rattle.block.specs.Block.{maxNames, blockRules, rowOf, unusedRow, blockOf, blockRefusal, blockAfter, BlockCall}
 use Rattle.block.specs.Twelve.{used-at, unused-at}
 use Rattle.checks.proofs.NameLists.{named-there}
 use Rattle.block.specs.Kept.{BlockKept, block-kept}
@@ -83,7 +83,7 @@ module _ {o : Bytes} {starts ends work work′ : List ℕ} {r : Block} (call : B
 
       pub unused-square : (j : ℕ) → length ends ≤ j → j < maxNames → getD (getD (r .times) i []) j 0 ≡ 0
       unfolding rowOf
-      unused-square j h k = rw row-is (unused-at (entryOf o (getD starts i 0)) 0 ends 0 j h k)
+      unused-square j h k = rw row-is (unused-at (timeWord o (getD starts i 0)) 0 ends 0 j h k)
 
       module _ (j : ℕ) (hj : j < length ends) where
         abbrev s : ℕ
@@ -92,14 +92,14 @@ module _ {o : Bytes} {starts ends work work′ : List ℕ} {r : Block} (call : B
         abbrev t : ℕ
         t = getD ends j 0
 
-        square-is : getD (getD (r .times) i []) j 0 ≡ entryOf o s t
+        square-is : getD (getD (r .times) i []) j 0 ≡ timeWord o s t
         unfolding rowOf
-        square-is = rw row-is (used-at (entryOf o s) 0 ends 0 j hj)
+        square-is = rw row-is (used-at (timeWord o s) 0 ends 0 j hj)
 
         -- "Each square equals the single answer for its pair, equal places and repeated names included": what `time` hands back, of any words that are enough.
         pub square-as-time : {words words′ : List ℕ} {a : Answer} → TimeCall o s t words a words′ → wordsNeeded o ≤ length words
             → getD (getD (r .times) i []) j 0 ≡ coded (distanceOf a)
-        unfolding timeResult answerAfter entryOf
+        unfolding timeResult answerAfter timeWord
         square-as-time {words} single enough =
             square-is ∙ rw (
               meaning-injective _ _ (single .result),
@@ -115,7 +115,7 @@ module _ (f : Bytes) (dv : Division) (ok : accepted f dv ≡ true) {starts ends 
 
   pub square-least : (i j : ℕ) → i < length starts → j < length ends → IsLeast (Walk (arcs (network f)) (getD starts i 0) (getD ends j 0))
       (decoded (getD (getD (r .times) i []) j 0))
-  unfolding entryOf
+  unfolding timeWord
   square-least i j hi hj = rw (square-is call given i hi j hj, time-exact f dv ok s t (rw (count-nodes f) hs) (rw (count-nodes f) ht), small)
       (exact (network f) (sound.ends f (all-passed f dv ok .sound)) s t (rw (count-nodes f) hs))
     where

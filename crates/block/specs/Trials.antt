@@ -1,24 +1,18 @@
 -- Blocks over document 01's Line and Fork, computed by the definitions. Assumes nothing.
 use Prim.Native.Nat.{ℕ}
 use mathlib.Core.Path.{_≡_, refl}
-use mathlib.Core.Bool.{Bool, true}
+use mathlib.Core.Bool.{true}
 use mathlib.Core.List.{List, [], _∷_, _++_, map}
 use lib.ListN.{replicate, take}
+use Rattle.model.specs.Query.{timeWord}
 use Rattle.model.specs.Bytes.{Bytes}
-use Rattle.model.specs.Lists.{all, concat, equal}
+use Rattle.model.specs.Lists.{all, concat}
 use Rattle.model.specs.Oracle.{oracle, noWalk}
-use Rattle.model.specs.Trials.{line, fork, usual}
+use Rattle.model.specs.Trials.{line, fork, usual, Trial, _⇒_, holds}
 use Rattle.model.specs.Compute.{computed}
 use Rattle.checks.specs.RuleLists.{namedRules}
-use Rattle.block.specs.Block.{namesBroken, sidesRules, blockRules, entryOf, twelve, rowOf, blockOf, blockRefusal, blockAfter}
+use Rattle.block.specs.Block.{namesBroken, sidesRules, blockRules, twelve, rowOf, blockOf, blockRefusal, blockAfter}
 use Rattle.block.specs.declared.Block.{Block}
-
-pub record Trial : Type 0 where
-  pub given : List ℕ
-  pub expected : List ℕ
-
-pub holds : Trial → Bool
-holds t = equal (t .given) (t .expected)
 
 -- The number and the 144 squares, row by row.
 told : Block → List ℕ
@@ -41,26 +35,19 @@ trials =
     let forkOracle = oracle (fork []) (usual 6) in
     let closedOracle = oracle (fork (4 ∷ [])) (usual 6) in
     -- Line: 0 to 2 is far; a start named again, and places that are both start and end.
-    record {
-      given = block lineOracle (0 ∷ 1 ∷ 2 ∷ 0 ∷ []) (2 ∷ 1 ∷ 0 ∷ []);
-      expected = rows
-          ((16 ∷ 7 ∷ 0 ∷ []) ∷ (9 ∷ 0 ∷ 7 ∷ []) ∷ (0 ∷ 9 ∷ 16 ∷ []) ∷ (16 ∷ 7 ∷ 0 ∷ []) ∷ []);
-    } ∷
+    (block lineOracle (0 ∷ 1 ∷ 2 ∷ 0 ∷ []) (2 ∷ 1 ∷ 0 ∷ [])
+    ⇒ rows ((16 ∷ 7 ∷ 0 ∷ []) ∷ (9 ∷ 0 ∷ 7 ∷ []) ∷ (0 ∷ 9 ∷ 16 ∷ []) ∷ (16 ∷ 7 ∷ 0 ∷ []) ∷ [])) ∷
     -- Fork: 0 to 4 is far; an end named again.
-    record { given = block forkOracle (4 ∷ 1 ∷ []) (0 ∷ 1 ∷ 2 ∷ 4 ∷ 4 ∷ []); expected = rows ((11 ∷ 6 ∷ 6 ∷ 0 ∷ 0 ∷ []) ∷ (5 ∷ 0 ∷ 10 ∷ 6 ∷ 6 ∷ []) ∷ []) } ∷
+    (block forkOracle (4 ∷ 1 ∷ []) (0 ∷ 1 ∷ 2 ∷ 4 ∷ 4 ∷ []) ⇒ rows ((11 ∷ 6 ∷ 6 ∷ 0 ∷ 0 ∷ []) ∷ (5 ∷ 0 ∷ 10 ∷ 6 ∷ 6 ∷ []) ∷ [])) ∷
     -- Fork with road 4 closed: no walk to place 4, by the table (0) and by the roads (3).
-    record {
-      given = block closedOracle (0 ∷ 4 ∷ 3 ∷ []) (4 ∷ 3 ∷ 2 ∷ []);
-      expected = rows
-          ((noWalk ∷ 10 ∷ 5 ∷ []) ∷ (0 ∷ noWalk ∷ noWalk ∷ []) ∷ (noWalk ∷ 0 ∷ 5 ∷ []) ∷ []);
-    } ∷
+    (block closedOracle (0 ∷ 4 ∷ 3 ∷ []) (4 ∷ 3 ∷ 2 ∷ []) ⇒ rows ((noWalk ∷ 10 ∷ 5 ∷ []) ∷ (0 ∷ noWalk ∷ noWalk ∷ []) ∷ (noWalk ∷ 0 ∷ 5 ∷ []) ∷ [])) ∷
     -- 17 without a name and with thirteen; 12 looks at the thirteenth.
-    record { given = block lineOracle [] (0 ∷ []); expected = refused 17 } ∷
-    record { given = block lineOracle (0 ∷ []) (replicate 13 2); expected = refused 17 } ∷
-    record { given = block lineOracle (replicate 12 2 ++ (3 ∷ [])) (0 ∷ []); expected = refused 12 } ∷
+    (block lineOracle [] (0 ∷ []) ⇒ refused 17) ∷
+    (block lineOracle (0 ∷ []) (replicate 13 2) ⇒ refused 17) ∷
+    (block lineOracle (replicate 12 2 ++ (3 ∷ [])) (0 ∷ []) ⇒ refused 12) ∷
     []
 
 pub trials-hold : all holds trials ≡ true
-unfolding trials holds told block rows refused namedRules namesBroken sidesRules blockRules entryOf twelve rowOf blockOf blockRefusal blockAfter line fork
+unfolding trials holds _⇒_ told block rows refused namedRules namesBroken sidesRules blockRules timeWord twelve rowOf blockOf blockRefusal blockAfter line fork
     computed
 trials-hold = refl

@@ -8,46 +8,29 @@ ghost use lib.ListN.{length, getD, take, set};
 ghost use Rattle.model.specs.Lists.{any};
 ghost use Rattle.model.specs.Contents.{nodeBody};
 ghost use Rattle.model.specs.Network.{nodeCount};
-ghost use Rattle.model.specs.Oracle.{coded};
-ghost use Rattle.model.specs.Query.{distanceOf};
+ghost use Rattle.model.specs.Query.{timeWord};
 ghost use Rattle.model.specs.Rules.{noSuchNode};
 ghost use Rattle.grid.specs.Stored.{gridOf};
 ghost use Rattle.checks.specs.Grids.{oracleGrid};
 ghost use Rattle.opened.specs.Opened.{Opened};
 ghost use Rattle.words.specs.Frames.{KeptFrom};
-ghost use Rattle.block.specs.Block.{maxNames, entryOf, rowOf, unusedRow, blockOf};
+ghost use Rattle.block.specs.Block.{maxNames, rowOf, unusedRow, blockOf};
 ghost use Rattle.block.specs.Near.{NearTime, NearTimes};
 ghost use Rattle.words.specs.Regions.{gridAt};
 use crate::near::search_near;
-use codec::records::NO_WALK;
 use grid::Grid;
-use model::Answer;
 use opened::answers::far_of;
+use opened::answers::seconds_of;
 use opened::opening::opened_grid;
 use reader::oracle::node_count;
 use words::regions::WANT;
 use words::regions::has;
 use words::times::time_of;
 
-// The seconds of an answer as the table marks them.
-pub fn seconds_of(a: Answer) -> u32
-    ensures { λ r. ⌜ r ≡ coded (distanceOf a) ⌝ }
-{
-    match a {
-        Answer::Time {
-            seconds,
-            kind,
-            pairs,
-        } => seconds,
-        Answer::None { kind, pairs } => NO_WALK,
-        Answer::Refused { rule } => NO_WALK,
-    }
-}
-
 // The entry (02's square) of s and t: the time that the search from s has left where t is local, else by the lists and the table.
 fn entry_of(o: &[u8], s: usize, t: usize, work: &[u32]) -> u32
     requires { ⌜ Opened (now o) (now work) × (s < nodeCount (nodeBody (now o))) × (t < nodeCount (nodeBody (now o))) × NearTime (now o) s t (now work) ⌝ }
-    ensures { λ r. ⌜ r ≡ entryOf (now (o .entry)) s t ⌝ }
+    ensures { λ r. ⌜ r ≡ timeWord (now (o .entry)) s t ⌝ }
 {
     let n = node_count(o);
     if has(work, n, WANT, t) {

@@ -23,7 +23,7 @@ use Rattle.access.specs.Networks.{networkIn}
 use Rattle.words.specs.Regions.{regionAt, region, own, transit, searchWords}
 use Rattle.emit.specs.Members.{Among}
 use Rattle.emit.specs.Parts.{listBytesOf}
-use Rattle.emit.proofs.Writing.{take-splice, drop-splice, length-splice}
+use Rattle.theory.specs.Splices.{take-splice, drop-splice, length-splice}
 use Rattle.passes.specs.Building.{accessOf, transitIn, listIn, membersIn}
 use Rattle.passes.specs.BuildingLaws.{list-words, among, same-access}
 use Rattle.passes.specs.Sought.{Sought}

@@ -4,7 +4,7 @@ use native.Mathlib.Omega.{arith}
 use mathlib.Core.Path.{_≡_, ap}
 use mathlib.Core.List.{List, _++_}
 use lib.ListN.{length, drop, length-append, length-drop}
-use Rattle.model.specs.Lists.{concatMap}
+use Rattle.model.specs.Lists.{concatMap, total}
 use Rattle.model.specs.Bytes.{Bytes, bytes16, numberSize}
 use Rattle.model.specs.Contents.{entryAt, networkHead, oracleEdition, oracleEntries, oracleHead}
 use Rattle.model.specs.Network.{distance, maxNodes, nodeCount}
@@ -15,7 +15,7 @@ use Rattle.index.specs.Index.{IndexedEdges}
 use Rattle.grid.specs.declared.Grid.{Grid}
 use Rattle.access.specs.Networks.{networkIn}
 use Rattle.access.specs.Pairs.{NotAlone}
-use Rattle.emit.specs.Parts.{headBytes, numbersBytes, total}
+use Rattle.emit.specs.Parts.{headBytes, numbersBytes}
 use Rattle.emit.specs.PartLaws.{length-numbers, length-head}
 use Rattle.emit.specs.Records.{Wrote}
 use Rattle.words.specs.Regions.{regionAt, transit}

@@ -13,7 +13,7 @@ use Rattle.model.specs.Calls.{clears, cleared, outputAfter, builtAfter, buildRe
 use Rattle.model.specs.declared.Built.{Built}
 use Rattle.model.specs.declared.Division.{Division}
 use Rattle.theory.specs.Firsts.{counted, split}
-use Rattle.theory.specs.FileLaws.{splice-front}
+use Rattle.theory.specs.Splices.{splice-front}
 use Rattle.theory.specs.Passed.{Passed, all-passed}
 use Rattle.checks.proofs.AfterCall.{unclearing, words-kept, last-clears}
 use Rattle.words.specs.Frames.{KeptFrom}

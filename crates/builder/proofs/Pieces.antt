@@ -9,7 +9,7 @@ use lib.ListN.{length, take, drop, length-append}
 use lib.Seq.{length-take-le}
 use Rattle.model.specs.Bytes.{Bytes, splice}
 use Rattle.emit.specs.Records.{Wrote}
-use Rattle.emit.proofs.Writing.{splice-then}
+use Rattle.theory.specs.Splices.{splice-then}
 use Rattle.bodies.proofs.Lent.{part-written}
 
 -- One part after another is one of both.

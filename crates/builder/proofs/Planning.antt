@@ -3,6 +3,7 @@ use Prim.Native.Nat.{ℕ, _+_, _*_, _≤_}
 use native.Mathlib.Omega.{arith}
 use mathlib.Core.Path.{_≡_, _∙_}
 use mathlib.Core.List.{List}
+use Rattle.model.specs.Lists.{total}
 use Rattle.model.specs.Bytes.{Bytes}
 use Rattle.model.specs.Network.{maxNodes, nodeCount}
 use Rattle.model.specs.declared.Division.{Division}
@@ -14,7 +15,7 @@ use Rattle.grid.proofs.Cells.{over-made}
 use Rattle.crossing.specs.Ground.{Ground}
 use Rattle.crossing.specs.Sets.{ones}
 use Rattle.words.specs.Regions.{regionAt, countsIn, regionFlags, transit}
-use Rattle.emit.specs.Parts.{Counted, listSizes, total}
+use Rattle.emit.specs.Parts.{Counted, listSizes}
 use Rattle.passes.specs.Building.{transitIn, listIn, membersIn}
 use Rattle.passes.specs.Stands.{length-whole}
 use Rattle.passes.proofs.Listing.{count-members}

@@ -4,12 +4,12 @@ use native.Mathlib.Omega.{arith}
 use mathlib.Core.Path.{_≡_, refl, _∙_, ap}
 use mathlib.Core.List.{List, [], _∷_, map, map-map}
 use lib.ListN.{length, getD, length-append}
-use Rattle.model.specs.Lists.{concat, upTo}
+use Rattle.model.specs.Lists.{concat, upTo, total}
 use Rattle.model.specs.Bytes.{Bytes}
 use Rattle.model.specs.Oracle.{listSize}
 use Rattle.theory.specs.RangeLaws.{rest, rest-all, rest-step, rest-end}
 use Rattle.theory.specs.Members.{range→}
-use Rattle.emit.specs.Parts.{listSizes, total}
+use Rattle.emit.specs.Parts.{listSizes}
 use Rattle.emit.specs.PartLaws.{map-same}
 
 module _ (counts : List ℕ) (n : ℕ) where

@@ -1,11 +1,12 @@
 // The parts of an oracle that need no search, each written at its place: the head, bodies 1 to 4, and the transit nodes.
 ghost use Prim.Native.Nat.{_+_, _*_, _<_, _≤_};
 ghost use lib.ListN.{length, drop};
+ghost use Rattle.model.specs.Lists.{total};
 ghost use Rattle.model.specs.Contents.{entryAt, oracleEdition, oracleEntries, networkHead, oracleHead};
 ghost use Rattle.model.specs.Bytes.{numberSize};
 ghost use Rattle.model.specs.Network.{maxNodes};
 ghost use Rattle.model.specs.Grid.{divisionSize, divisionBytes};
-ghost use Rattle.emit.specs.Parts.{headBytes, numbersBytes, total};
+ghost use Rattle.emit.specs.Parts.{headBytes, numbersBytes};
 ghost use Rattle.emit.specs.Records.{Wrote};
 ghost use Rattle.words.specs.Regions.{transit};
 ghost use Rattle.passes.specs.Building.{membersIn};

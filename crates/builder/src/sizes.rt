@@ -1,11 +1,12 @@
 // The sizes of the bodies, and of the whole oracle, from the numbers of transit nodes and of access nodes.
 ghost use mathlib.Core.Path.{_≡_};
 ghost use Prim.Native.Nat.{_+_, _*_, _<_, _≤_};
+ghost use Rattle.model.specs.Lists.{total};
 ghost use Rattle.words.specs.Regions.{countsIn};
 ghost use Rattle.model.specs.Contents.{networkHead};
 ghost use Rattle.model.specs.Network.{maxNodes};
 ghost use Rattle.model.specs.Oracle.{startSize, listSize};
-ghost use Rattle.emit.specs.Parts.{Counted, listSizes, total};
+ghost use Rattle.emit.specs.Parts.{Counted, listSizes};
 ghost use Rattle.words.specs.Frames.{Enough};
 ghost use Rattle.builder.specs.Plan.{sizesIn, wholeSize};
 use codec::lists::list_size;

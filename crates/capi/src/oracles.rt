@@ -7,6 +7,7 @@ ghost use Rattle.model.specs.Network.{nodeCount};
 ghost use Rattle.model.specs.Rules.{wellShaped};
 ghost use Rattle.model.specs.Calls.{workAfter, timeRefusal, timeResult, farResult, listRefusal, WayCall};
 ghost use Rattle.block.specs.Block.{BlockCall};
+ghost use Rattle.wages.specs.Wages.{WagesCall};
 ghost use Rattle.capi.specs.Replies.{kindNumber, reply, span, listReply};
 use block::Block;
 use block::calls as blocks;
@@ -16,12 +17,14 @@ use contents::OFFSET_AT;
 use contents::entry_at;
 use model::Answer;
 use model::Kind;
+use model::Output;
 use model::Route;
 use query::calls;
 use reader::oracle::ACCESS;
 use reader::oracle::oracle_body;
 use tables::lists::list_part;
 use tables::lists::list_start;
+use wages::calls::wages;
 
 // An answer: 0 or the number of the broken rule, the kind (1 far, 2 local), the seconds (4,294,967,295 where there is no walk) and the pairs tried;
 // all zeros beside a broken rule.
@@ -134,4 +137,11 @@ pub extern "C" fn jukesogbi_block(o: &[u8], starts: &[u32], ends: &[u32], work: 
     ensures { λ r. ⌜ BlockCall (now (o .entry)) (now (starts .entry)) (now (ends .entry)) (now (work .entry)) r (now (work .exit)) ⌝ }
 {
     blocks::block(o, starts, ends, work)
+}
+
+#[no_mangle]
+pub extern "C" fn jukesogbi_wages(o: &[u8], legs: &[u8], work: &mut [u32], out: &mut [u8]) -> Output
+    ensures { λ r. ⌜ WagesCall (now (o .entry)) (now (legs .entry)) (now (work .entry)) (now (out .entry)) r (now (work .exit)) (now (out .exit)) ⌝ }
+{
+    wages(o, legs, work, out)
 }

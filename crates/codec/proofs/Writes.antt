@@ -5,7 +5,9 @@ use mathlib.Core.Path.{_≡_}
 use mathlib.Core.List.{[], _∷_}
 use lib.ListN.{length, set}
 use lib.Seq.{sets-eq}
-use Rattle.model.specs.Bytes.{Bytes, bytes16, bytes32, splice}
+use Rattle.model.specs.Bytes.{Bytes, bytes16, bytes32, bytes64, splice}
+use Rattle.theory.specs.FileLaws.{bytes-low, length-32}
+use Rattle.theory.specs.Splices.{splice-then}
 
 pub write-2 : (b : Bytes) (i x : ℕ) → i + 2 ≤ length b → set (set b i (x % 256)) (i + 1) (x / 256 % 256) ≡ splice i (bytes16 x) b
 unfolding splice bytes16
@@ -19,3 +21,11 @@ write-4 b i x h =
     let two : i + 2 ≡ suc (suc i) = omega arith in
     let three : i + 3 ≡ suc (suc (suc i)) = omega arith in
     rw (one, two, three) (sets-eq (x % 256 ∷ x / 256 % 256 ∷ x / 65536 % 256 ∷ x / 65536 / 256 % 256 ∷ []) b i h)
+
+-- The low half and the high half.
+pub write-8 : (b : Bytes) (i x : ℕ) → i + 8 ≤ length b
+    → splice (i + 4) (bytes32 (x / 4294967296)) (splice i (bytes32 (x % 4294967296)) b) ≡ splice i (bytes64 x) b
+unfolding bytes64
+write-8 b i x h =
+    let e : i + 4 ≡ i + length (bytes32 x) = omega (arith, length-32 x) in
+    rw (bytes-low x, e) (splice-then b i (bytes32 x) (omega (arith, length-32 x)) (bytes32 (x / 4294967296)))

@@ -1,8 +1,8 @@
-// Numbers of 16 and 32 bits in bytes, the low byte first.
+// Numbers of 16, 32 and 64 bits in bytes, the low byte first.
 ghost use mathlib.Core.Path.{_≡_};
 ghost use Prim.Native.Nat.{_+_, _<_, _≤_};
 ghost use lib.ListN.{length, getD};
-ghost use Rattle.model.specs.Bytes.{word16, word32, bytes16, bytes32, splice};
+ghost use Rattle.model.specs.Bytes.{word16, word32, bytes16, bytes32, bytes64, splice};
 
 pub fn byte(b: &[u8], i: usize) -> u32
     requires { ⌜ i < length (now b) ⌝ }
@@ -42,4 +42,12 @@ pub fn write32(b: &mut [u8], i: usize, x: u32)
     b[i + 1] = (x / 256 % 256) as u8;
     b[i + 2] = (x / 65536 % 256) as u8;
     b[i + 3] = (x / 65536 / 256 % 256) as u8;
+}
+
+pub fn write64(b: &mut [u8], i: usize, x: u64)
+    requires { ⌜ i + 8 ≤ length (now b) ⌝ }
+    ensures { λ _. ⌜ now (b .exit) ≡ splice i (bytes64 x) (now (b .entry)) ⌝ }
+{
+    write32(b, i, (x % 4294967296) as u32);
+    write32(b, i + 4, (x / 4294967296) as u32);
 }

@@ -14,7 +14,8 @@ use Rattle.words.specs.Regions.{timesIn}
 use Rattle.emit.specs.Members.{Among, ifIn}
 use Rattle.emit.specs.Parts.{timeBytes, indexedBytes, listBytesOf}
 use Rattle.emit.specs.PartLaws.{length-list}
-use Rattle.emit.proofs.Writing.{Then, Written, written-start, written-next, splice-then}
+use Rattle.emit.proofs.Writing.{Then, Written, written-start, written-next}
+use Rattle.theory.specs.Splices.{splice-then}
 use Rattle.emit.proofs.Turns.{membersFrom, members-all, members-step}
 use Rattle.bitset.proofs.Ranks.{rank-index}
 

@@ -6,15 +6,17 @@ use mathlib.Core.Path.{_≡_, refl, _∙_}
 use mathlib.Core.List.{List, [], _∷_, map}
 use lib.ListN.{length, getD, drop, set, drop-of-length-le}
 use lib.Seq.{drop-cons, sets-eq}
+use Rattle.model.specs.Lists.{total}
 use Rattle.model.specs.Bytes.{Bytes, bytes16, bytes32, splice}
 use Rattle.model.specs.Contents.{contentsEntrySize, entryAt, oracleEntries}
 use Rattle.model.specs.Network.{maxNodes}
 use Rattle.model.specs.Oracle.{startSize, listSize}
 use Rattle.theory.specs.RangeLaws.{rest, rest-all, rest-step, rest-end}
 use Rattle.theory.specs.FileLaws.{nine}
-use Rattle.emit.specs.Parts.{entriesOf, headBytes, total, startsOf, listSizes}
+use Rattle.emit.specs.Parts.{entriesOf, headBytes, startsOf, listSizes}
 use Rattle.emit.specs.Records.{Wrote}
-use Rattle.emit.proofs.Writing.{Then, splice-byte, splice-then}
+use Rattle.emit.proofs.Writing.{Then}
+use Rattle.theory.specs.Splices.{splice-byte, splice-then}
 
 -- ---- the starts
 

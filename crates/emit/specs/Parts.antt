@@ -20,10 +20,6 @@ entriesOf k at (s ∷ ss) = nine k at s ++ entriesOf (suc k) (at + s) ss
 unfoldable pub headBytes : ℕ → List ℕ → Bytes
 headBytes edition sizes = edition ∷ (length sizes ∷ entriesOf 0 (entryAt (length sizes)) sizes)
 
-unfoldable pub total : List ℕ → ℕ
-total [] = 0
-total (s ∷ ss) = s + total ss
-
 -- ---- bodies 5 and 7: the transit nodes, and a row of the table
 
 unfoldable pub numbersBytes : List ℕ → Bytes

@@ -2,10 +2,11 @@
 ghost use mathlib.Core.Path.{_≡_};
 ghost use Prim.Native.Nat.{_+_, _<_, _≤_};
 ghost use lib.ListN.{length};
+ghost use Rattle.model.specs.Lists.{total};
 ghost use Rattle.model.specs.Bytes.{splice};
 ghost use Rattle.model.specs.Contents.{entryAt, oracleEntries};
 ghost use Rattle.theory.specs.FileLaws.{nine};
-ghost use Rattle.emit.specs.Parts.{headBytes, total};
+ghost use Rattle.emit.specs.Parts.{headBytes};
 use codec::bytes::write32;
 use contents::OFFSET_AT;
 use contents::ORACLE_ENTRIES;

@@ -9,7 +9,7 @@ use lib.Seq.{take-at}
 use borrow.Rule.Slice.PartMut.{putMid, post-is}
 use Rattle.model.specs.Bytes.{Bytes, splice}
 use Rattle.emit.specs.Records.{Wrote}
-use Rattle.emit.proofs.Writing.{length-splice, splice-then, splice-byte}
+use Rattle.theory.specs.Splices.{length-splice, splice-then, splice-byte}
 use Rattle.lines.specs.Texts.{Room, HoldsText}
 
 -- No text, and a byte.

@@ -15,6 +15,7 @@ use Rattle.model.specs.declared.Answer.{Answer}
 use Rattle.model.specs.declared.Answer.the-variants.{Refused}
 use Rattle.model.specs.declared.Built.{Built}
 use Rattle.model.specs.declared.Division.{Division}
+use Rattle.model.specs.declared.Output.{Output}
 use Rattle.model.specs.declared.Route.{Route}
 
 -- ---- what the number of the broken rule, or 0, does to what the caller lent
@@ -33,6 +34,10 @@ workAfter rule f work = cond (clears rule) (cleared (wordsNeeded f) work) work
 -- Only success writes output: the result at its front.
 unfoldable pub outputAfter : ℕ → Bytes → Bytes → Bytes
 outputAfter rule result out = cond (eqb rule 0) (result ++ drop (length result) out) out
+
+-- "A call that writes output hands back its length in bytes where nothing else is said" (document 02, T-04).
+unfoldable pub sizeAfter : ℕ → Bytes → Output
+sizeAfter rule result = cond (eqb rule 0) (record { rule = 0; size = length result }) (record { rule = rule; size = 0 })
 
 unfoldable pub answerAfter : ℕ → Answer → Answer
 answerAfter rule answer = cond (eqb rule 0) answer (Refused rule)

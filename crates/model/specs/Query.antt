@@ -11,7 +11,7 @@ use Rattle.model.specs.Walk.{Arc}
 use Rattle.model.specs.Distance.{Distance, unreachable, finite, plus, agree, soonest}
 use Rattle.model.specs.Network.{Network, network, nodes, arcs, distance}
 use Rattle.model.specs.Grid.{gridOver, division, cells, cellAt, kindOf}
-use Rattle.model.specs.Oracle.{AccessEntry, transitCount, accessList, listPart, tableEntry}
+use Rattle.model.specs.Oracle.{coded, AccessEntry, transitCount, accessList, listPart, tableEntry}
 use Rattle.model.specs.declared.Kind.{Kind}
 use Rattle.model.specs.declared.Kind.the-variants.{Far, Local}
 use Rattle.model.specs.declared.Answer.{Answer}
@@ -90,6 +90,10 @@ answerOf Local o s t = localAnswer (network o) s t
 
 unfoldable pub timeAnswer : Bytes → ℕ → ℕ → Answer
 timeAnswer o s t = answerOf (kindBetween o s t) o s t
+
+-- The time alone, where document 02 wants "'no walk' marked as in the table".
+unfoldable pub timeWord : Bytes → ℕ → ℕ → ℕ
+timeWord o s t = coded (distanceOf (timeAnswer o s t))
 
 -- ---- the way, a list of nodes
 

@@ -27,7 +27,7 @@ pub enum Answer {
     },
 }
 
-// Both cross to other languages as they stand.
+// These cross to other languages as they stand.
 // What building hands back: the number of the broken rule and zeros, or 0 with the oracle's size in bytes and its number of transit nodes.
 #[repr(C)]
 pub struct Built {
@@ -41,4 +41,11 @@ pub struct Built {
 pub struct Route {
     pub rule: u32,
     pub nodes: u32,
+}
+
+// What a call that writes output hands back where nothing else is said: the number of the broken rule and a zero, or 0 with the length of the result in bytes.
+#[repr(C)]
+pub struct Output {
+    pub rule: u32,
+    pub size: u32,
 }

@@ -5,29 +5,24 @@ use mathlib.Core.Path.{_≡_, refl, sym, ap, _∙_}
 use mathlib.Core.List.{List, _++_}
 use lib.ListN.{length, take, drop, length-append}
 use lib.Seq.{take-at}
-use borrow.Author.Tests.{lt-ltb, le-ltb}
 use Rattle.model.specs.Lists.{concatMap}
 use Rattle.model.specs.Bytes.{Bytes, bytes16, splice, numberSize}
-use Rattle.theory.specs.FileLaws.{splice-front}
+use Rattle.theory.specs.Splices.{splice-front}
 use Rattle.theory.specs.ReadLaws.{length-numbers}
-use Rattle.model.specs.Rules.{outputTooSmall}
-use Rattle.model.specs.Calls.{outputAfter, routeAfter}
-use Rattle.opened.specs.Room.{roomRule, NodesGiven}
+use Rattle.model.specs.Calls.{routeAfter}
+use Rattle.opened.specs.Room.{NodesGiven}
+use Rattle.opened.proofs.Outputs as outputs
 
 -- `nodes` are those of the way, and `size` is its length in bytes as the code has it.
 module _ (nodes : List ℕ) (size : ℕ) (e : size ≡ numberSize * length nodes) (out : Bytes) where
   pub given-short : length out < size → NodesGiven nodes out (record { rule = 15; nodes = 0 }) out
-  given-short h = record { result = rw broken (unfold routeAfter in refl); bytes = rw broken (unfold outputAfter in refl) }
-    where
-      broken : roomRule nodes (length out) ≡ 15
-      broken = unfold roomRule outputTooSmall in rw (lt-ltb (length out) (numberSize * length nodes) (omega (arith, e)))
+  given-short h = outputs.given-short (λ k. routeAfter k nodes) (numberSize * length nodes) (concatMap bytes16 nodes) out (omega (arith, e))
+      (unfold routeAfter in refl)
 
   pub given-way : (count : ℕ) → count ≡ length nodes → (out′ : Bytes) → size ≤ length out
       → out′ ≡ concatMap bytes16 nodes ++ drop (length (concatMap bytes16 nodes)) out → NodesGiven nodes out (record { rule = 0; nodes = count }) out′
-  given-way count k out′ h q = record { result = rw (kept, k) (unfold routeAfter in refl); bytes = rw kept (unfold outputAfter in q) }
-    where
-      kept : roomRule nodes (length out) ≡ 0
-      kept = unfold roomRule outputTooSmall in rw (le-ltb (length out) (numberSize * length nodes) (omega (arith, e)))
+  given-way count k out′ h q = outputs.given-whole (λ k. routeAfter k nodes) (numberSize * length nodes) (concatMap bytes16 nodes) out (omega (arith, e))
+      (rw k (unfold routeAfter in refl)) q
 
   -- It was written at the front of other bytes first.
   pub found-room : (found rest : Bytes) → found ≡ splice 0 (concatMap bytes16 nodes) rest → size ≤ length found

@@ -1,4 +1,4 @@
--- The last rule of the way, and what it leaves. Assumes nothing.
+-- The last rule of a call that writes output, and what it leaves. Assumes nothing.
 use Prim.Native.Nat.{ℕ, _*_}
 use mathlib.Core.Path.{_≡_}
 use mathlib.Core.Bool.{cond}
@@ -12,15 +12,19 @@ use Rattle.model.specs.Rules.{outputTooSmall}
 use Rattle.model.specs.Calls.{routeAfter, outputAfter}
 use Rattle.model.specs.declared.Route.{Route}
 
--- 15 where the output is too short for all nodes of a way, else 0.
-unfoldable pub roomRule : List ℕ → ℕ → ℕ
-roomRule nodes room = cond (outputTooSmall (numberSize * length nodes) room) 15 0
+-- 15 where the output is too short for a result of this size, else 0.
+unfoldable pub roomRule : ℕ → ℕ → ℕ
+roomRule size room = cond (outputTooSmall size room) 15 0
 
--- What writing them hands back and writes.
-pub record NodesGiven (nodes : List ℕ) (out : Bytes) (r : Route) (out′ : Bytes) : Type 0 where
-  pub result : r ≡ routeAfter (roomRule nodes (length out)) nodes
-  pub bytes : out′ ≡ outputAfter (roomRule nodes (length out)) (concatMap bytes16 nodes) out
+-- What a call that no rule before 15 sends back hands back and writes. `after` is what it hands back beside the number of a rule, and `written`, of this
+-- size, is its result.
+pub record Given {A : Type 0} (after : ℕ → A) (size : ℕ) (written out : Bytes) (r : A) (out′ : Bytes) : Type 0 where
+  pub result : r ≡ after (roomRule size (length out))
+  pub bytes : out′ ≡ outputAfter (roomRule size (length out)) written out
 
--- What a way that no rule before 15 sends back hands back and writes.
+-- The same of the nodes of a way.
+abbrev pub NodesGiven : List ℕ → Bytes → Route → Bytes → Type 0
+NodesGiven nodes = Given (λ k. routeAfter k nodes) (numberSize * length nodes) (concatMap bytes16 nodes)
+
 abbrev pub WayGiven : Bytes → ℕ → ℕ → Bytes → Route → Bytes → Type 0
 WayGiven o s t = NodesGiven (way (network o) s t)

@@ -4,7 +4,8 @@ ghost use mathlib.Core.Bool.{true};
 ghost use Prim.Native.Nat.{_<_};
 ghost use Rattle.model.specs.Contents.{nodeBody};
 ghost use Rattle.model.specs.Network.{network, nodeCount};
-ghost use Rattle.model.specs.Query.{farAnswer, localAnswer, timeAnswer};
+ghost use Rattle.model.specs.Oracle.{coded};
+ghost use Rattle.model.specs.Query.{distanceOf, farAnswer, localAnswer, timeAnswer, timeWord};
 ghost use Rattle.model.specs.Rules.{wellShaped};
 ghost use Rattle.words.specs.Frames.{KeptFrom};
 ghost use Rattle.opened.specs.Opened.{Opened};
@@ -13,6 +14,7 @@ ghost use Rattle.words.specs.Regions.{gridAt};
 use crate::local::local_seconds;
 use crate::opening::opened_kind;
 use crate::ways::write_way_to;
+use codec::records::NO_WALK;
 use model::Answer;
 use model::Kind;
 use model::Route;
@@ -61,6 +63,30 @@ pub fn time_of(o: &[u8], s: usize, t: usize, work: &mut [u32]) -> Answer
         Kind::Far => far_of(o, s, t),
         Kind::Local => local_of(o, s, t, work),
     }
+}
+
+// The seconds of an answer as the table marks them.
+pub fn seconds_of(a: Answer) -> u32
+    ensures { λ r. ⌜ r ≡ coded (distanceOf a) ⌝ }
+{
+    match a {
+        Answer::Time {
+            seconds,
+            kind,
+            pairs,
+        } => seconds,
+        Answer::None { kind, pairs } => NO_WALK,
+        Answer::Refused { rule } => NO_WALK,
+    }
+}
+
+// The time alone, marked so.
+pub fn seconds_between(o: &[u8], s: usize, t: usize, work: &mut [u32]) -> u32
+    requires { ⌜ Opened (now o) (now work) × (s < nodeCount (nodeBody (now o))) × (t < nodeCount (nodeBody (now o))) ⌝ }
+    ensures time { λ r. ⌜ r ≡ timeWord (now (o .entry)) s t ⌝ }
+    ensures others { λ _. ⌜ KeptFrom (gridAt (nodeCount (nodeBody (now (o .entry))))) (now (work .entry)) (now (work .exit)) ⌝ }
+{
+    seconds_of(time_of(o, s, t, work))
 }
 
 // The way where no rule before 15 is broken.

@@ -8,20 +8,23 @@ ghost use Rattle.model.specs.Lists.{concatMap};
 ghost use Rattle.model.specs.Network.{network};
 ghost use Rattle.model.specs.Query.{way};
 ghost use Rattle.model.specs.Rules.{wordsNeeded};
-ghost use Rattle.model.specs.Calls.{timeResult, farResult, wayRefusal, routeAfter, outputAfter};
+ghost use Rattle.model.specs.Calls.{timeResult, farResult, wayRefusal, routeAfter, outputAfter, sizeAfter};
 ghost use Rattle.sheet.specs.Sheet.{effects};
 ghost use Rattle.sheet.specs.Under.{wayUnder};
 ghost use Rattle.sheet.specs.SheetCalls.{timeUnderResult, wayUnderRefusal};
 ghost use Rattle.opened.specs.Opened.{Opened, OpenCall, Stays};
 ghost use Rattle.block.specs.Block.{blockOf, blockRefusal, blockAfter};
+ghost use Rattle.wages.specs.Wages.{wagesBytes, wagesRefusal};
 ghost use Rattle.capi.specs.Replies.{reply};
 use block::Block;
 use block::questions as blocks;
 use capi::oracles::Reply;
 use capi::oracles::reply_of;
+use model::Output;
 use model::Route;
 use query::questions;
 use under::questions as sheets;
+use wages::questions::wages;
 
 // Checks an oracle and opens it: 0, or the number of the broken rule, where nothing is written.
 #[no_mangle]
@@ -81,6 +84,23 @@ pub extern "C" fn jukesogbi_opened_block(
     ensures rest { λ _. ⌜ drop (wordsNeeded (now (o .entry))) (now (work .exit)) ≡ drop (wordsNeeded (now (o .entry))) (now (work .entry)) ⌝ }
 {
     blocks::block(o, starts, ends, work)
+}
+
+#[no_mangle]
+pub extern "C" fn jukesogbi_opened_wages(
+    o: &[u8],
+    legs: &[u8],
+    work: &mut [u32],
+    out: &mut [u8],
+) -> Output
+    requires { ⌜ Opened (now o) (now work) ⌝ }
+    ensures result { λ r. ⌜ r ≡ sizeAfter (wagesRefusal (now (o .entry)) (now (legs .entry)) (now (work .entry)) (now (out .entry)))
+        (wagesBytes (now (o .entry)) (now (legs .entry))) ⌝ }
+    ensures bytes { λ _. ⌜ now (out .exit) ≡ outputAfter (wagesRefusal (now (o .entry)) (now (legs .entry)) (now (work .entry)) (now (out .entry)))
+        (wagesBytes (now (o .entry)) (now (legs .entry))) (now (out .entry)) ⌝ }
+    ensures stays { λ _. ⌜ Stays (now (o .entry)) (now (work .entry)) (now (work .exit)) ⌝ }
+{
+    wages(o, legs, work, out)
 }
 
 #[no_mangle]

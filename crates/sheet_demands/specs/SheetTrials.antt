@@ -1,15 +1,15 @@
 -- Calls under day sheets, worked by the definitions: one table, and one theorem that each comes out as it should. Assumes nothing.
 use Prim.Native.Nat.{ℕ}
 use mathlib.Core.Path.{_≡_, refl}
-use mathlib.Core.Bool.{Bool, true}
+use mathlib.Core.Bool.{true}
 use mathlib.Core.List.{List, [], _∷_, _++_}
 use lib.ListN.{drop, replicate}
-use Rattle.model.specs.Lists.{concatMap, all, equal}
+use Rattle.model.specs.Lists.{concatMap, all}
 use Rattle.model.specs.Bytes.{Bytes, bytes16, bytes32}
 use Rattle.model.specs.Contents.{file, networkEdition, oracleEdition, nodeBody, edgeBody, gridBody, transitBody, accessBody, tableBody}
 use Rattle.model.specs.Oracle.{oracle}
 use Rattle.model.specs.Calls.{outputAfter, routeAfter, timeResult}
-use Rattle.model.specs.Trials.{line, fork, usual, Trial}
+use Rattle.model.specs.Trials.{line, fork, usual, Trial, _⇒_, holds}
 use Rattle.model.specs.Compute.{computed}
 use Rattle.model.specs.declared.Kind.{Kind}
 use Rattle.model.specs.declared.Kind.the-variants.{Far, Local}
@@ -77,13 +77,6 @@ route o ls s t =
     let nodes = under.wayUnder (sheets.effects sheet) o s t in
     let r = routeAfter refusal nodes in
     r .rule ∷ r .nodes ∷ outputAfter refusal (concatMap bytes16 nodes) out
-
-infix 5 _⇒_
-_⇒_ : List ℕ → List ℕ → Trial
-g ⇒ e = record { given = g; expected = e }
-
-pub holds : Trial → Bool
-holds t = equal (t .given) (t .expected)
 
 -- To unfold it is to unfold every definition of crate sheet that the calls go by.
 unfoldable pub sheets-computed : Unit {0}

@@ -1,4 +1,4 @@
 pub mod Premises
 pub mod Entries
-pub mod Codes
 pub mod Oracles
+pub mod Bounds

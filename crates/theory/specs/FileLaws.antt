@@ -1,13 +1,13 @@
 -- Reading back what `file` writes: each body of a file is the body that went in. Assumes nothing.
-use Prim.Native.Nat.{ℕ, zero, suc, _+_, _*_, _≤_, _<_}
-use native.Mathlib.Nat.{add-assoc, zero-add}
+use Prim.Native.Nat.{ℕ, zero, suc, _+_, _*_, _/_, _%_, _≤_, _<_}
+use native.Mathlib.Nat.{add-assoc}
 use native.Mathlib.Omega.{arith}
-use mathlib.Core.Path.{_≡_, refl, _∙_, ap}
-use mathlib.Core.List.{List, [], _∷_, _++_}
+use mathlib.Core.Path.{_≡_, refl, sym, _∙_, ap}
+use mathlib.Core.List.{List, [], _∷_, _++_, append-assoc}
 use lib.ListN.{length, getD, take, drop, length-append}
 use lib.Seq.{getD-append-add, drop-append-add, take-append-seam}
 use Rattle.model.specs.Lists.{concat}
-use Rattle.model.specs.Bytes.{Bytes, word16, word32, bytes16, bytes32, cut, splice}
+use Rattle.model.specs.Bytes.{Bytes, word16, word32, word64, bytes16, bytes32, bytes64, cut}
 use Rattle.model.specs.Contents.{entry, entryAt, bodyPart, body, entries, file, headSize, contentsEntrySize}
 
 -- ---- numbers
@@ -29,11 +29,70 @@ pub word32-read : (n : ℕ) (l : Bytes) → n < 4294967296 → word32 (bytes32 n
 unfolding word32 word16 bytes32 bytes16
 word32-read n l h = omega arith
 
--- ---- bytes written at the front
+-- Of a number that is longer the low 32 bits are written, and both halves of 64 bits are read.
+low-parts : (r q : ℕ) → ((r + 4294967296 * q) % 256 ≡ r % 256) × ((r + 4294967296 * q) / 256 ≡ r / 256 + 16777216 * q)
+    × ((r + 4294967296 * q) / 65536 ≡ r / 65536 + 65536 * q)
+low-parts r q = (omega arith, omega arith, omega arith)
 
-pub splice-front : (xs out : Bytes) → splice 0 xs out ≡ xs ++ drop (length xs) out
-unfolding splice
-splice-front xs out = rw zero-add
+pub bytes-low : (n : ℕ) → bytes32 (n % 4294967296) ≡ bytes32 n
+unfolding bytes32 bytes16
+bytes-low n = λ i. a i ∷ b i ∷ c i ∷ d i ∷ []
+  where
+    r : ℕ
+    r = n % 4294967296
+
+    q : ℕ
+    q = n / 4294967296
+
+    whole : n ≡ r + 4294967296 * q
+    whole = omega arith
+
+    at-256 : n / 256 ≡ r / 256 + 16777216 * q
+    at-256 = ap (λ (k : ℕ). k / 256) whole ∙ low-parts r q .1
+
+    at-65536 : n / 65536 ≡ r / 65536 + 65536 * q
+    at-65536 = ap (λ (k : ℕ). k / 65536) whole ∙ low-parts r q .2
+
+    a : r % 256 ≡ n % 256
+    a = sym (ap (λ (k : ℕ). k % 256) whole ∙ low-parts r q .0)
+
+    b : r / 256 % 256 ≡ n / 256 % 256
+    b = omega (arith, at-256)
+
+    c : r / 65536 % 256 ≡ n / 65536 % 256
+    c = omega (arith, at-65536)
+
+    d : r / 65536 / 256 % 256 ≡ n / 65536 / 256 % 256
+    d = omega (arith, at-65536)
+
+word32-low : (n : ℕ) (l : Bytes) → word32 (bytes32 n ++ l) 0 ≡ n % 4294967296
+word32-low n l = rw (← bytes-low n) (word32-read (n % 4294967296) l (omega arith))
+
+pub length-32 : (n : ℕ) → length (bytes32 n) ≡ 4
+unfolding bytes32 bytes16
+length-32 n = refl
+
+pub word64-append : (xs ys : Bytes) (n : ℕ) → word64 (xs ++ ys) (length xs + n) ≡ word64 ys n
+unfolding word64
+word64-append xs ys n = rw (word32-append xs ys n, add-assoc, word32-append xs ys (n + 4))
+
+pub word64-read : (n : ℕ) (l : Bytes) → n < 4294967296 * 4294967296 → word64 (bytes64 n ++ l) 0 ≡ n
+unfolding word64 bytes64
+word64-read n l h = omega (arith, low, high)
+  where
+    rest : Bytes
+    rest = bytes32 (n / 4294967296) ++ l
+
+    halves : (bytes32 n ++ bytes32 (n / 4294967296)) ++ l ≡ bytes32 n ++ rest
+    halves = append-assoc (bytes32 n) (bytes32 (n / 4294967296)) l
+
+    low : word32 ((bytes32 n ++ bytes32 (n / 4294967296)) ++ l) 0 ≡ n % 4294967296
+    low = ap (λ (b : Bytes). word32 b 0) halves ∙ word32-low n rest
+
+    high : word32 ((bytes32 n ++ bytes32 (n / 4294967296)) ++ l) (0 + 4) ≡ n / 4294967296
+    high =
+        let e : 0 + 4 ≡ length (bytes32 n) + 0 = omega (arith, length-32 n) in
+        rw (halves, e) (word32-append (bytes32 n) rest 0 ∙ word32-read (n / 4294967296) l (omega arith))
 
 -- ---- the contents
 

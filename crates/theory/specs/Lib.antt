@@ -4,6 +4,7 @@ pub mod RangeLaws
 pub mod Scans
 pub mod Members
 pub mod Extremes
+pub mod Splices
 pub mod FileLaws
 pub mod ReadLaws
 pub mod Numbers

@@ -1,5 +1,5 @@
 -- What the rules under a sheet give when none is broken, and what the calls hand back and leave. Assumes nothing.
-use Prim.Native.Nat.{ℕ, _≤_}
+use Prim.Native.Nat.{ℕ, _*_, _≤_}
 use native.Mathlib.Decide.{ℕ-discrete}
 use native.Mathlib.Omega.{arith}
 use mathlib.Core.Path.{_≡_, refl, sym, _∙_}
@@ -7,9 +7,10 @@ use mathlib.Core.Bool.{true, false}
 use mathlib.Core.List.{List, _++_}
 use lib.ListN.{length}
 use borrow.Author.Tests.{ltb-false, le-ltb}
-use Rattle.model.specs.Bytes.{Bytes}
+use Rattle.model.specs.Lists.{concatMap}
+use Rattle.model.specs.Bytes.{Bytes, bytes16, numberSize}
 use Rattle.model.specs.Rules.{Rule, firstBroken, networkRules, shapeRules, pairRules, workTooSmall, wordsNeeded}
-use Rattle.model.specs.Calls.{clears, cleared, workAfter}
+use Rattle.model.specs.Calls.{clears, cleared, workAfter, routeAfter}
 use Rattle.model.specs.declared.Answer.the-variants.{Refused}
 use Rattle.model.specs.declared.Route.{Route}
 use Rattle.theory.specs.Firsts.{counted, first-append, first-stays, passed, split}
@@ -25,7 +26,7 @@ use Rattle.sheet.specs.SheetCalls.{sheetRules, pairUnderRules, timeUnderRules, 
 use Rattle.sheet.specs.SheetCalls.{WayUnderCall}
 use Rattle.opened.specs.Opened.{Opened}
 use Rattle.opened.specs.Room.{NodesGiven}
-use Rattle.opened.proofs.Routes.{route-refused, route-given}
+use Rattle.opened.proofs.Outputs.{route-refused, call-refused, call-given}
 use Rattle.under.specs.Judged.{QuickLines}
 use Rattle.sheet.specs.Sheet.{lineBody}
 
@@ -107,12 +108,14 @@ module _ (o sheet : Bytes) (s t : ℕ) (work : List ℕ) (r : ℕ) (e : r ≡ fi
     pub way-refused : (r ≡ 0 → ⊥) → WayUnderCall o sheet s t work out (record { rule = r; nodes = 0 }) work out
     unfolding wayUnderRefusal wayUnderRules
     way-refused h =
-        let k = route-refused (timeUnderRules o sheet s t (length work)) unwritten numbered r e o nodes work out h in
+        let k = call-refused (λ k. routeAfter k nodes) (numberSize * length nodes) (concatMap bytes16 nodes) (timeUnderRules o sheet s t (length work))
+        unwritten numbered r e o work out h (route-refused r nodes h) in
         record { result = k .result; words = k .words; bytes = k .bytes }
 
     pub way-given : r ≡ 0 → (work′ mid : List ℕ) (route : Route) (out′ : Bytes) → NodesGiven nodes out route out′
         → KeptFrom (wordsNeeded o) work mid → work′ ≡ cleared (wordsNeeded o) mid → WayUnderCall o sheet s t work out route work′ out′
     unfolding wayUnderRefusal wayUnderRules
     way-given z work′ mid route out′ g d c =
-        let k = route-given (timeUnderRules o sheet s t (length work)) unwritten numbered r e o nodes work out z work′ mid route out′ g d c in
+        let k = call-given (λ k. routeAfter k nodes) (numberSize * length nodes) (concatMap bytes16 nodes) (timeUnderRules o sheet s t (length work))
+        unwritten numbered r e o work out z work′ mid route out′ g d c in
         record { result = k .result; words = k .words; bytes = k .bytes }

@@ -2,7 +2,7 @@
 use native.Mathlib.Omega.{arith}
 use mathlib.Core.Path.{refl}
 use borrow.Author.Needs.{needs}
-use Rattle.emit.specs.Parts.{total}
+use Rattle.model.specs.Lists.{total}
 use Rattle.builder.specs.Plan.{sizesIn}
 use Rattle.builder.proofs.sizes.head_sizes.Statement.{statement}
 use Rattle.builder.proofs.sizes.head_sizes.Tie as tie

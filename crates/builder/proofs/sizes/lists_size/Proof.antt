@@ -3,9 +3,10 @@ use Prim.Native.Nat.{_+_, _-_, _*_, _≤_}
 use native.Mathlib.Omega.{arith}
 use mathlib.Core.Path.{_≡_}
 use borrow.Author.Needs.{needs}
+use Rattle.model.specs.Lists.{total}
 use Rattle.model.specs.Network.{maxNodes}
 use Rattle.model.specs.Oracle.{listSize}
-use Rattle.emit.specs.Parts.{listSizes, total}
+use Rattle.emit.specs.Parts.{listSizes}
 use Rattle.builder.proofs.Sums.{left, sum-all, sum-step, sum-end}
 use Rattle.builder.proofs.sizes.lists_size.Statement.{statement}
 use Rattle.builder.proofs.sizes.lists_size.Tie as tie

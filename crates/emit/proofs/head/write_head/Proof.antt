@@ -1,9 +1,10 @@
 -- `emit::head::write_head` meets its contract. The loop's invariant: what stands before entry k is written, and the entries from k on are left; the sizes that
 -- are left fit the offset. Assumes nothing.
+use Rattle.model.specs.Lists.{total}
 use Rattle.emit.specs.PartLaws.{length-head}
 use Rattle.emit.proofs.Offsets.{contents-step, contents-end, total-step, head-start, head-wrote, contents-wrote}
 use Rattle.emit.proofs.Writing.{Written, written-start, written-next, written-end}
-use Rattle.emit.specs.Parts.{headBytes, entriesOf, total}
+use Rattle.emit.specs.Parts.{headBytes, entriesOf}
 use Rattle.model.specs.Contents.{entryAt, oracleEntries}
 use lib.ListN.{length, drop, length-set}
 use native.Mathlib.Omega.{arith}

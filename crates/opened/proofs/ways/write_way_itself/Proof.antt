@@ -2,7 +2,7 @@
 use mathlib.Core.Path.{refl, _∙_}
 use mathlib.Core.List.{[], _∷_, append-nil}
 use Rattle.model.specs.Lists.{concatMap}
-use Rattle.theory.specs.FileLaws.{splice-front}
+use Rattle.theory.specs.Splices.{splice-front}
 use Rattle.opened.proofs.WayNodes.{given-short, given-way}
 use borrow.Author.Needs.{needs}
 use Rattle.opened.proofs.ways.write_way_itself.Statement.{statement}

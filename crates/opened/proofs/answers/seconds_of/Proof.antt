@@ -1,9 +1,9 @@
--- `rows::seconds_of` meets its contract.
+-- `answers::seconds_of` meets its contract.
 use Rattle.model.specs.Query.{distanceOf}
 use Rattle.model.specs.Oracle.{coded}
 use borrow.Author.Needs.{needs}
-use Rattle.block.proofs.rows.seconds_of.Statement.{statement}
-use Rattle.block.proofs.rows.seconds_of.Tie as tie
+use Rattle.opened.proofs.answers.seconds_of.Statement.{statement}
+use Rattle.opened.proofs.answers.seconds_of.Tie as tie
 
 enum-known-a : tie.Need-enum-known-a
 enum-known-a c = search needs

@@ -1,1 +1,0 @@
--- A value and its distance: each settles the other. Assumes nothing.
