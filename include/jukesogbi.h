@@ -14,10 +14,10 @@
  * Beside a refusal, every other number of a record is 0.
  *
  * Threads: a call reads and writes what it is lent and nothing else, and keeps nothing: as many may run at once as have words and output of their own.
- * They may share the network, the oracle and the sheet.
+ * They may share the network, the oracle, the sheet and the legs.
  *
- * Stack, in bytes, on x86-64, whatever the network and the sheet: jukesogbi_way and jukesogbi_way_under take at most 12,288, jukesogbi_block 4,096,
- * every other call 2,048.
+ * Stack, in bytes, on x86-64, whatever the network, the sheet and the legs: jukesogbi_way and jukesogbi_way_under take at most 12,288,
+ * jukesogbi_block 4,096, every other call 2,048.
  *
  * Files. Numbers are little-endian. A network has 3 bodies, an oracle 7, the first 3 of them the network's own, a sheet 1. Byte 0 is the edition, 1, and
  * byte 1 the number of bodies; from byte 2 on stands an entry of 9 bytes for each body: its number (1 byte), where it begins in the file (4) and its length
@@ -48,7 +48,7 @@
  *   10  an access body that breaks its layout, an index not below T, or a value out of range
  *   11  a table not of 4 * T * T bytes, or a value out of range
  *   12  a place number in the call not below N
- *   17  either side of a block names no place or more than 12
+ *   17  either side of a block names no place or more than 12, or there are over 1,000 legs or a part of a leg
  *   18  a sheet's form, a line's first byte, or the seconds of a closed line are wrong
  *   19  a line of the sheet names no road
  *   20  the line that holds takes a road open in body 3 over 100,000 seconds
@@ -73,6 +73,9 @@ extern "C" {
 /* The most places that either side of a block may name. */
 #define JUKESOGBI_SIDE 12
 
+/* The most legs of a wages sheet. */
+#define JUKESOGBI_LEGS 1000
+
 /* The most places, and roads, of a network. */
 #define JUKESOGBI_PLACES 4096
 #define JUKESOGBI_ROADS 16384
@@ -81,7 +84,7 @@ extern "C" {
 #define JUKESOGBI_CLOSED 1
 #define JUKESOGBI_DELAYED 2
 
-/* `seconds`, or a square of `times`, where there is no walk. */
+/* `seconds`, a square of `times`, or a leg's time, where there is no walk. */
 #define JUKESOGBI_NO_WALK UINT32_MAX
 
 /* `kind` of a pair of places; 0 beside a refusal. */
@@ -120,6 +123,12 @@ typedef struct {
     uint32_t rule;
     uint32_t times[JUKESOGBI_SIDE][JUKESOGBI_SIDE];
 } jukesogbi_times;
+
+/* How many bytes of output the result takes. */
+typedef struct {
+    uint32_t rule;
+    uint32_t size;
+} jukesogbi_output;
 
 /* Output enough for the oracle of a network of so many places and roads, closed roads counted, under any grid: as there is a transit place for each road
  * at the most, and all of them may be in each list. 168 MB for the largest network; most oracles are far smaller. */
@@ -168,6 +177,13 @@ jukesogbi_reply jukesogbi_time_under(const uint8_t *oracle, size_t oracle_size, 
 /* The way from s to t over the roads as the sheet leaves them, in the form of jukesogbi_way. Rules 1 to 12, 18, 19, 20, 14, 15. */
 jukesogbi_route jukesogbi_way_under(const uint8_t *oracle, size_t oracle_size, const uint8_t *sheet, size_t sheet_size,
                                     uint32_t s, uint32_t t, uint32_t *work, size_t words, uint8_t *out, size_t room);
+
+/* The times of up to 1,000 legs, and what they come to. A leg is two 16-bit place numbers, its start and its end, low byte first; no leg at all is allowed.
+ * At the front of `out` stand a 32-bit time for each leg in the order entered, the `seconds` of jukesogbi_time for its places, then the 32-bit number of legs
+ * that are JUKESOGBI_NO_WALK, and the 64-bit total of the others, low byte first: 4 bytes for each leg, and 12. Rules 1 to 12, 17, 14, 15, where 12 looks at
+ * the places of every whole leg, also past the 1,000th. */
+jukesogbi_output jukesogbi_wages(const uint8_t *oracle, size_t oracle_size, const uint8_t *legs, size_t legs_size,
+                                 uint32_t *work, size_t words, uint8_t *out, size_t room);
 
 #ifdef __cplusplus
 }

@@ -111,6 +111,14 @@ pub mod raw {
         pub times: [[u32; SIDE]; SIDE],
     }
 
+    /// Of a call that writes output: how many bytes its result takes.
+    #[repr(C)]
+    #[derive(Clone, Copy, Debug, PartialEq, Eq)]
+    pub struct Output {
+        pub rule: u32,
+        pub size: u32,
+    }
+
     extern "C" {
         pub fn jukesogbi_build(network: *const u8, network_size: usize, g: u32, work: *mut u32, words: usize, out: *mut u8, room: usize) -> Built;
         pub fn jukesogbi_audit(oracle: *const u8, oracle_size: usize, work: *mut u32, words: usize) -> u32;
@@ -128,6 +136,9 @@ pub mod raw {
         pub fn jukesogbi_way_under(
             oracle: *const u8, oracle_size: usize, sheet: *const u8, sheet_size: usize, s: u32, t: u32, work: *mut u32, words: usize, out: *mut u8, room: usize,
         ) -> Route;
+        pub fn jukesogbi_wages(
+            oracle: *const u8, oracle_size: usize, legs: *const u8, legs_size: usize, work: *mut u32, words: usize, out: *mut u8, room: usize,
+        ) -> Output;
     }
 
     // The questions over an opened oracle, which are in no header. The duty that they ask for (crates/opened_capi) is `Oracle`'s: bytes and words are as
@@ -146,10 +157,13 @@ pub mod raw {
         pub fn jukesogbi_opened_way_under(
             oracle: *const u8, oracle_size: usize, sheet: *const u8, sheet_size: usize, s: u32, t: u32, work: *mut u32, words: usize, out: *mut u8, room: usize,
         ) -> Route;
+        pub fn jukesogbi_opened_wages(
+            oracle: *const u8, oracle_size: usize, legs: *const u8, legs_size: usize, work: *mut u32, words: usize, out: *mut u8, room: usize,
+        ) -> Output;
     }
 }
 
-/// In `raw::Answer` and a block's squares, and in an oracle's bodies 6 and 7: no walk.
+/// In `raw::Answer`, a block's squares and the times of legs, and in an oracle's bodies 6 and 7: no walk.
 pub const NO_WALK: u32 = u32::MAX;
 
 /// The time that such a number stands for.
@@ -169,6 +183,13 @@ pub(crate) fn squares(b: raw::Times) -> Result<Block, Refused> {
         return Err(Refused(b.rule));
     }
     Ok(Block { times: b.times })
+}
+
+pub(crate) fn written(o: raw::Output) -> Result<usize, Refused> {
+    if o.rule != 0 {
+        return Err(Refused(o.rule));
+    }
+    Ok(o.size as usize)
 }
 
 pub(crate) fn answer(a: raw::Answer) -> Result<Answer, Refused> {
@@ -244,4 +265,10 @@ pub fn time_under(oracle: &[u8], sheet: &[u8], s: u32, t: u32, work: &mut [u32])
 pub fn way_under(oracle: &[u8], sheet: &[u8], s: u32, t: u32, work: &mut [u32], out: &mut [u8]) -> Result<usize, Refused> {
     let (o, l) = (oracle.as_ptr(), sheet.as_ptr());
     route(unsafe { raw::jukesogbi_way_under(o, oracle.len(), l, sheet.len(), s, t, work.as_mut_ptr(), work.len(), out.as_mut_ptr(), out.len()) })
+}
+
+/// Writes the times of these legs and what they come to (see `wages`) at the front of `out`, and answers how many bytes they take.
+pub fn wages(oracle: &[u8], legs: &[u8], work: &mut [u32], out: &mut [u8]) -> Result<usize, Refused> {
+    let (o, l) = (oracle.as_ptr(), legs.as_ptr());
+    written(unsafe { raw::jukesogbi_wages(o, oracle.len(), l, legs.len(), work.as_mut_ptr(), work.len(), out.as_mut_ptr(), out.len()) })
 }

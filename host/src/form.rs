@@ -1,5 +1,5 @@
-//! The form of network, oracle and sheet files, each number once. For showing, making and measuring files only: the core reads for itself, and the tests'
-//! reference has numbers of its own.
+//! The form of network, oracle and sheet files, and of legs and their wages, each number once. For showing, making and measuring only: the core reads for
+//! itself, and the tests' reference has numbers of its own.
 
 pub const NETWORK_EDITION: u8 = 1;
 pub const ORACLE_EDITION: u8 = 1;
@@ -44,6 +44,12 @@ pub const LIST_ENTRY_SIZE: usize = NUMBER_SIZE + VALUE_SIZE;
 pub const LINE_SIZE: usize = 1 + NUMBER_SIZE + VALUE_SIZE;
 pub const CLOSED_LINE: u8 = 1;
 pub const DELAYED_LINE: u8 = 2;
+
+/// A leg is two numbers. Behind the times of all legs stand how many have no walk, and the total.
+pub const LEG_SIZE: usize = 2 * NUMBER_SIZE;
+pub const NONE_SIZE: usize = 4;
+pub const TOTAL_SIZE: usize = 8;
+pub const MAX_LEGS: usize = 1000;
 
 pub const MAX_NODES: usize = 4096;
 pub const MAX_EDGES: usize = 16_384;

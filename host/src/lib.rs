@@ -11,3 +11,4 @@ pub mod plain;
 pub mod reading;
 pub mod sample;
 pub mod sheet;
+pub mod wages;

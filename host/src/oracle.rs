@@ -68,4 +68,10 @@ impl<'a> Oracle<'a> {
         let (o, l, work, words) = (self.bytes.as_ptr(), sheet.as_ptr(), self.work.as_mut_ptr(), self.work.len());
         core::route(unsafe { raw::jukesogbi_opened_way_under(o, self.bytes.len(), l, sheet.len(), s, t, work, words, out.as_mut_ptr(), out.len()) })
     }
+
+    /// The times of these legs and what they come to, written as `core::wages` does.
+    pub fn wages(&mut self, legs: &[u8], out: &mut [u8]) -> Result<usize, Refused> {
+        let (o, l, work, words) = (self.bytes.as_ptr(), legs.as_ptr(), self.work.as_mut_ptr(), self.work.len());
+        core::written(unsafe { raw::jukesogbi_opened_wages(o, self.bytes.len(), l, legs.len(), work, words, out.as_mut_ptr(), out.len()) })
+    }
 }

@@ -154,7 +154,7 @@ fn block_refuses_by_number() {
     for (starts, ends) in [("''", "0"), ("0", "''"), ("''", "''"), ("0,0,0,0,0,0,0,0,0,0,0,0,0", "1"), ("1", "0,0,0,0,0,0,0,0,0,0,0,0,0")] {
         let ran = f.run(&format!("block line.oracle {starts} {ends}"));
         ran.is_refused(17);
-        assert_eq!(ran.err, "rule 17: either side of a block names no place or more than 12\n");
+        assert_eq!(ran.err, "rule 17: either side of a block names no place or more than 12, or there are over 1,000 legs or a part of a leg\n");
         f.run(&format!("block line.oracle {starts} {ends} --words 0")).is_refused(17);
         f.run(&format!("block line.net {starts} {ends}")).is_refused(1);
     }

@@ -13,6 +13,7 @@ fn defined(name: &str) -> &'static str {
 fn the_same_numbers() {
     assert_eq!(defined("JUKESOGBI_WORDS"), form::WORDS.to_string());
     assert_eq!(defined("JUKESOGBI_SIDE"), core::SIDE.to_string());
+    assert_eq!(defined("JUKESOGBI_LEGS"), form::MAX_LEGS.to_string());
     assert_eq!(defined("JUKESOGBI_PLACES"), form::MAX_NODES.to_string());
     assert_eq!(defined("JUKESOGBI_ROADS"), form::MAX_EDGES.to_string());
     assert_eq!(defined("JUKESOGBI_CLOSED"), form::CLOSED_LINE.to_string());
@@ -29,6 +30,8 @@ fn a_text_for_each_rule() {
     }
     assert_eq!(core::rule_text(4), "a coordinate outside -1,000,000 to 1,000,000");
     assert_eq!(core::rule_text(16), "an audited oracle that differs in any byte from the one built from its bodies 1 to 4");
+    let many = "either side of a block names no place or more than 12, or there are over 1,000 legs or a part of a leg";
+    assert_eq!(core::rule_text(17), many);
     assert_eq!(core::rule_text(sheet::FORM), "a sheet's form, a line's first byte, or the seconds of a closed line are wrong");
     for rule in [0, 21, u32::MAX] {
         assert_eq!(core::rule_text(rule), "no such rule");

@@ -43,7 +43,7 @@ fn a_c_program_finds_what_the_header_says() {
         let bodies = form::NODE_SIZE * n + (form::EDGE_SIZE + form::NUMBER_SIZE) * roads;
         assert_eq!(lines.next(), Some(format!("room {}", files::room(n, roads, bodies)).as_str()));
     }
-    for expected in ["null pointers", "threads 8", "sheets"] {
+    for expected in ["null pointers", "threads 8", "sheets", "wages"] {
         assert_eq!(lines.next(), Some(expected));
     }
     let mut calls = Vec::new();
@@ -53,7 +53,7 @@ fn a_c_program_finds_what_the_header_says() {
         assert!((100..=allowed(call)).contains(&bytes.parse().unwrap()), "{line}");
         calls.push(call);
     }
-    assert_eq!(calls, ["build", "audit", "time", "far", "list", "way", "block", "time_under", "way_under"]);
+    assert_eq!(calls, ["build", "audit", "time", "far", "list", "way", "block", "time_under", "way_under", "wages"]);
 }
 
 /// In Rust too, from an opened oracle: a thread of 64 KB.
@@ -95,7 +95,7 @@ fn the_entry_points_alone() {
     let text = String::from_utf8(symbols.stdout).unwrap();
     let mut exported: Vec<&str> = text.lines().filter_map(|line| line.split_once(" T ")).map(|(_, name)| name).collect();
     exported.sort_unstable();
-    let names = ["audit", "block", "build", "far", "list", "list_rule", "time", "time_under", "way", "way_under"];
+    let names = ["audit", "block", "build", "far", "list", "list_rule", "time", "time_under", "wages", "way", "way_under"];
     let calls = names.map(|name| format!("jukesogbi_{name}"));
     assert_eq!(exported, calls);
     for call in calls {

@@ -22,7 +22,7 @@ const MORE: usize = 300_000_000;
 #[test]
 fn long_files_by_name_and_from_a_pipe() {
     let f = Folder::with_files("reading_long");
-    let questions = ["audit", "time 0 1", "far 0 1", "list 0", "way 0 1", "block 0 1", "draw p.svg"];
+    let questions = ["audit", "time 0 1", "far 0 1", "list 0", "way 0 1", "block 0 1", "wages", "draw p.svg"];
     let call = |question: &str, name: &str| {
         let (command, rest) = question.split_once(' ').unwrap_or((question, ""));
         format!("{command} {name} {rest}")

@@ -5,8 +5,8 @@ mod common;
 use common::program::{Folder, Ran};
 use std::path::Path;
 
-const COMMANDS: [&str; 16] = [
-    "build", "audit", "time", "far", "list", "way", "block", "listing", "sample", "draw", "sheet", "sheet-text", "demo", "bench", "help", "version",
+const COMMANDS: [&str; 17] = [
+    "build", "audit", "time", "far", "list", "way", "block", "wages", "listing", "sample", "draw", "sheet", "sheet-text", "demo", "bench", "help", "version",
 ];
 
 /// The usage line of a command, as its help has it.
@@ -84,7 +84,7 @@ fn no_such_command_or_option() {
     is_slip_without_command(f.run("--wrods 5 audit line.oracle"), "there is no option `--wrods`", none);
     is_slip(&f, f.run("audit line.oracle --room 5"), "`audit` has no option `--room`", "audit");
     is_slip(&f, f.run("sample 5 1 new --words=5"), "`sample` has no option `--words`", "sample");
-    for command in ["far line.oracle 0 2", "block line.oracle 0 2", "audit line.oracle", "sheet-text line.oracle"] {
+    for command in ["far line.oracle 0 2", "block line.oracle 0 2", "wages line.oracle", "audit line.oracle", "sheet-text line.oracle"] {
         let name = command.split(' ').next().unwrap();
         is_slip(&f, f.run(&format!("{command} --sheet day")), &format!("`{name}` has no option `--sheet`"), name);
     }
@@ -106,6 +106,7 @@ fn a_wrong_number_of_arguments() {
         ("list", "2", "| line.oracle| line.oracle 0 1"),
         ("way", "1 or 3", "| line.oracle 1| line.oracle 0 1 2"),
         ("block", "3", "| line.oracle| line.oracle 0| line.oracle 0 1 2"),
+        ("wages", "1", "| line.oracle 0| line.oracle 0 1"),
         ("listing", "1", "| line.oracle more"),
         ("sample", "3", "| 5 1| 5 1 new more"),
         ("draw", "2 or 4", "| line.oracle| line.oracle p.svg 0| line.oracle p.svg 0 1 2"),
@@ -167,7 +168,7 @@ fn the_other_kind_of_file() {
     let network = format!("{rule}this looks like a network: `jukesogbi build` makes an oracle of it\n");
     for call in [
         "audit line.net", "time line.net 0 1", "time line.net", "far line.net 0 1", "far line.net", "list line.net 0", "way line.net 0 1", "way line.net",
-        "block line.net 0 1", "listing line.net", "draw line.net p.svg", "draw line.net p.svg 0 1",
+        "block line.net 0 1", "wages line.net", "listing line.net", "draw line.net p.svg", "draw line.net p.svg 0 1",
     ] {
         f.run(call).does(1, "refused 1\n", &network);
     }
@@ -197,8 +198,8 @@ fn no_way() {
 fn files_that_cannot_be_read() {
     let f = Folder::with_files("messages_unread");
     for command in [
-        "build none 6 new", "audit none", "time none 0 1", "time none", "far none 0 1", "list none 0", "way none 0 1", "block none 0 1", "listing none",
-        "draw none p.svg",
+        "build none 6 new", "audit none", "time none 0 1", "time none", "far none 0 1", "list none 0", "way none 0 1", "block none 0 1", "wages none",
+        "listing none", "draw none p.svg",
     ] {
         f.run(command).does(2, "", "jukesogbi: cannot read none: No such file or directory (os error 2)\n");
     }
@@ -243,6 +244,7 @@ fn bench_of_one_size_and_grid() {
             let counts = ["far", "local"].map(|kind| rows(&format!("{kind} {what} under {count} lines")));
             assert_eq!(counts, [far, 1], "{}", ran.text());
         }
+        assert_eq!(["1000 legs,", "1000 legs with the check,"].map(rows), [1, 1], "{}", ran.text());
     }
 }
 
@@ -261,5 +263,6 @@ fn bench_of_a_small_size() {
         assert!(text.starts_with("| what | core | plain | unit | core's time / plain's |\n|---|---|---|---|---|\n"));
         assert!(text.contains("\n\n| what | block | single answers | unit | block's time / single answers' |\n|---|---|---|---|---|\n"));
         assert!(text.contains("\n\n| what | under a sheet | ways without it | unit | time under the sheet / ways' |\n|---|---|---|---|---|\n"));
+        assert!(text.contains("\n\n| what | wages | single answers | unit | wages' time / single answers' |\n|---|---|---|---|---|\n"));
     }
 }

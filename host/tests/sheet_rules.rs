@@ -3,12 +3,11 @@
 
 mod common;
 
-use common::networks;
 use common::program::oracle;
 use common::reference::sheets::{breaks_18, sheet, with_contents, CLOSED, DELAYED};
 use common::reference::{self, WORDS};
 use common::sheets::{Line, SheetCase};
-use common::OracleCase;
+use common::{damaged, networks, OracleCase};
 use jukesogbi::core::Refused;
 
 /// How often each rule was given, with 0 for none.
@@ -74,28 +73,7 @@ fn the_first_broken_rule() {
 /// The oracle's own rules come before all of these.
 #[test]
 fn rules_of_the_oracle_come_first() {
-    let good = oracle(&networks::fork(), 6);
-    let bodies: Vec<Vec<u8>> = (1..=7).map(|kind| reference::body(&good, kind).to_vec()).collect();
-    let changed = |change: &dyn Fn(&mut Vec<Vec<u8>>)| {
-        let mut bodies = bodies.clone();
-        change(&mut bodies);
-        reference::file(&bodies)
-    };
-    let damaged = [
-        (1, Vec::new()),
-        (1, good[1..].to_vec()),
-        (2, [&good[..], &[0]].concat()),
-        (3, changed(&|b| b[0].clear())),
-        (4, changed(&|b| b[0][3] = 0x7f)),
-        (5, changed(&|b| b[1].push(0))),
-        (6, changed(&|b| b[1][0] = 5)),
-        (7, changed(&|b| b[2] = vec![5, 0])),
-        (8, changed(&|b| b[3][0] = 65)),
-        (9, changed(&|b| b[4][0] = 5)),
-        (10, changed(&|b| b[5][0] = 0)),
-        (11, changed(&|b| b[6].push(0))),
-    ];
-    for (rule, bytes) in damaged {
+    for (rule, bytes) in damaged::forks() {
         let case = OracleCase::new(move || format!("an oracle that breaks {rule}"), bytes);
         for faults in [&[][..], &[18], &[19], &[20], &[18, 19, 20]] {
             for bytes in [sheet(&lines_with(faults)), Vec::new()] {

@@ -11,7 +11,7 @@ use std::os::unix::ffi::OsStrExt;
 use std::process::Stdio;
 
 /// Every kind of command, with what it reads from standard input.
-const CALLS: [(&str, &str); 23] = [
+const CALLS: [(&str, &str); 24] = [
     ("build line.net 6 new", ""),
     ("build line.net 6 -", ""),
     ("audit line.oracle", ""),
@@ -23,6 +23,7 @@ const CALLS: [(&str, &str); 23] = [
     ("way line.oracle 0 2", ""),
     ("way line.oracle", "0 2\n0 1\n"),
     ("block line.oracle 0,1 1,2", ""),
+    ("wages line.oracle", "0 2\n1 1\n"),
     ("listing line.oracle", ""),
     ("sample 60 2 new", ""),
     ("sample 60 2 -", ""),
@@ -120,6 +121,7 @@ fn output_that_nobody_reads() {
 fn input_that_cannot_be_read() {
     let f = Folder::with_files("streams_input");
     f.shell("$J time line.oracle < .").does(2, "", "jukesogbi: cannot read standard input: Is a directory (os error 21)\n");
+    f.shell("$J wages line.oracle < .").does(2, "", "jukesogbi: cannot read standard input: Is a directory (os error 21)\n");
     f.shell("$J audit - < .").does(2, "", "jukesogbi: cannot read standard input: Is a directory (os error 21)\n");
 }
 
@@ -202,14 +204,14 @@ fn memory_that_no_machine_has() {
     for count in ["99999999999999", "9223372036854775807", "18446744073709551615"] {
         let words = format!("jukesogbi: there is no memory for {count} working words (--words K lends K)\n");
         for call in ["build line.net 6 new", "audit line.oracle", "time line.oracle 0 1", "time line.oracle", "way line.oracle 0 1", "way line.oracle",
-            "block line.oracle 0 1", "draw line.oracle new 0 1"]
+            "block line.oracle 0 1", "wages line.oracle", "draw line.oracle new 0 1"]
         {
             f.run(&format!("{call} --words {count}")).does(2, "", &words);
         }
     }
     for count in ["999999999999999", "18446744073709551615"] {
         let room = format!("jukesogbi: there is no memory for {count} bytes of output (--room B lends B)\n");
-        for call in ["build line.net 6 new", "way line.oracle 0 1", "way line.oracle", "draw line.oracle new 0 1"] {
+        for call in ["build line.net 6 new", "way line.oracle 0 1", "way line.oracle", "wages line.oracle", "draw line.oracle new 0 1"] {
             f.run(&format!("{call} --room {count}")).does(2, "", &room);
         }
     }

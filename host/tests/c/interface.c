@@ -10,8 +10,8 @@
 
 enum { PLACES = JUKESOGBI_PLACES, WORDS = PLACES * JUKESOGBI_WORDS, STACK = 64 * 1024, THREADS = 8 };
 
-/* Enough for a line about each road. */
-static uint8_t *network, *oracle, nodes[2 * PLACES], sheet[11 + 7 * PLACES];
+/* Enough for a line about each road, and for one leg too many. */
+static uint8_t *network, *oracle, nodes[2 * PLACES], sheet[11 + 7 * PLACES], legs[4 * (JUKESOGBI_LEGS + 1)], times[4 * JUKESOGBI_LEGS + 12];
 static size_t network_size, oracle_size, sheet_size, room;
 static uint32_t work[WORDS];
 
@@ -115,6 +115,10 @@ static void null_pointers(void) {
     begin_sheet();
     check(jukesogbi_time_under(oracle, oracle_size, sheet, sheet_size, 0, 9, NULL, 0).rule == 14, "time under a sheet without words");
     check(jukesogbi_way_under(oracle, oracle_size, sheet, sheet_size, 0, 9, work, WORDS, NULL, 0).rule == 15, "way under a sheet without output");
+    check(jukesogbi_wages(NULL, 0, NULL, 0, NULL, 0, NULL, 0).rule == 1, "wages over nothing");
+    check(jukesogbi_wages(oracle, oracle_size, NULL, 0, NULL, 0, NULL, 0).rule == 14, "wages without words");
+    check(jukesogbi_wages(oracle, oracle_size, NULL, 0, work, WORDS, NULL, 0).rule == 15, "wages without output");
+    check(jukesogbi_wages(oracle, oracle_size, NULL, 0, work, WORDS, times, sizeof times).size == 12, "no legs");
     printf("null pointers\n");
 }
 
@@ -135,6 +139,31 @@ static void sheets(void) {
     put_line(JUKESOGBI_DELAYED, 3, 99997);
     check(time_under(2, 5).rule == 20, "a road over 100,000 seconds");
     printf("sheets\n");
+}
+
+/* Legs, each to the next place or back, and what is written of them. */
+static jukesogbi_output wages(uint32_t count, size_t left, size_t space) {
+    uint8_t *at = legs;
+    for (uint32_t i = 0; i < count; i++) {
+        put(&at, 3 * i + i % 2, 2);
+        put(&at, 3 * i + 1 - i % 2, 2);
+    }
+    return jukesogbi_wages(oracle, oracle_size, legs, 4 * count - left, work, WORDS, times, space);
+}
+
+static void many_legs(void) {
+    uint32_t total = 0;
+    jukesogbi_output output = wages(JUKESOGBI_LEGS, 0, sizeof times);
+    check(output.rule == 0 && output.size == 4 * JUKESOGBI_LEGS + 12, "as many legs as may be");
+    for (uint32_t i = 0; i < JUKESOGBI_LEGS; i++) {
+        check(get(times + 4 * i, 4) == 3 * i % 100 + 1, "the time of a leg");
+        total += 3 * i % 100 + 1;
+    }
+    check(get(times + 4 * JUKESOGBI_LEGS, 4) == 0 && get(times + 4 * JUKESOGBI_LEGS + 4, 4) == total, "none and the total");
+    check(get(times + 4 * JUKESOGBI_LEGS + 8, 4) == 0, "the total has 64 bits");
+    check(wages(2, 1, sizeof times).rule == 17 && wages(JUKESOGBI_LEGS + 1, 0, sizeof times).rule == 17, "a part of a leg, and too many");
+    check(wages(2, 0, 19).rule == 15 && wages(2, 0, 20).size == 20, "output");
+    printf("wages\n");
 }
 
 /* ---- threads that share the oracle */
@@ -211,6 +240,11 @@ static void *way_asked_under(void *unused) {
     return unused;
 }
 
+static void *wages_asked(void *unused) {
+    check(jukesogbi_wages(oracle, oracle_size, legs, 4 * JUKESOGBI_LEGS, work, WORDS, times, sizeof times).rule == 0, "wages");
+    return unused;
+}
+
 static size_t stack_of(void *(*call)(void *)) {
     static _Alignas(4096) uint8_t stack[STACK];
     pthread_attr_t small;
@@ -232,7 +266,7 @@ static void stacks(void) {
         const char *name;
         void *(*call)(void *);
     } calls[] = {{"build", build}, {"audit", audit}, {"time", time_asked}, {"far", far_asked}, {"list", list_asked}, {"way", way_asked}, {"block", block_asked},
-                 {"time_under", time_asked_under}, {"way_under", way_asked_under}};
+                 {"time_under", time_asked_under}, {"way_under", way_asked_under}, {"wages", wages_asked}};
     const size_t empty = stack_of(nothing);
     begin_sheet();
     for (uint32_t i = 0; i < PLACES - 1; i++) {
@@ -257,6 +291,7 @@ int main(void) {
     null_pointers();
     many_threads();
     sheets();
+    many_legs();
     stacks();
     free(network);
     free(oracle);

@@ -4,12 +4,14 @@
 // Each test file uses its own part of this.
 #![allow(dead_code)]
 
+pub mod damaged;
 pub mod networks;
 pub mod program;
 pub mod reference;
 pub mod sheets;
 pub mod tables;
 pub mod terminal;
+pub mod wages;
 
 use jukesogbi::core::raw;
 use reference::{way_outcome, Answer, Built, Map, Outcome, Part, Times, SIDE, WORDS};

@@ -1,9 +1,11 @@
-//! Document 01 in plain Rust, and of document 02 the block and the day sheets, written from their text alone and as slow as their definitions read: every
-//! notion is worked out by going over all places, roads and cells. It shares nothing with the core nor with the host's own modules; bytes, too, are read
-//! and written here.
+//! Document 01 in plain Rust, and of document 02 the block, the day sheets and the wages sheet, written from their text alone and as slow as their
+//! definitions read: every notion is worked out by going over all places, roads and cells. It shares nothing with the core nor with the host's own modules;
+//! bytes, too, are read and written here.
 
 #[path = "reference_sheet.rs"]
 pub mod sheets;
+#[path = "reference_wages.rs"]
+pub mod wages;
 
 use std::cell::{OnceCell, RefCell};
 use std::collections::{BTreeMap, BTreeSet};

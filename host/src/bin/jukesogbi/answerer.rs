@@ -25,24 +25,27 @@ impl Reply {
     }
 }
 
+/// What standard input has.
+const PAIRS: &str = "the pairs";
+
 /// Stands for the answer to a line that is no question.
 const WRONG: &str = "wrong";
 
 pub fn times(call: &mut Call) -> Done {
-    let basis = Basis::beside_pairs(call)?;
+    let basis = Basis::beside_lines(call, PAIRS)?;
     let opened = basis.open(&call.lend)?;
     answer(call, opened, |oracle, s, t| basis.opened_time(oracle, s, t).map(|a| Reply::plain(answer_line(&a))))
 }
 
 /// This question takes no words, so those lent are enough, whatever their number.
 pub fn fars(call: &mut Call) -> Done {
-    let o = Basis::beside_pairs(call)?.oracle;
+    let o = Basis::beside_lines(call, PAIRS)?.oracle;
     let opened = o.judged(Oracle::open(&o[..]))?;
     answer(call, opened, |oracle, s, t| oracle.far(s, t).map(|a| Reply::plain(answer_line(&a))))
 }
 
 pub fn ways(call: &mut Call) -> Done {
-    let basis = Basis::beside_pairs(call)?;
+    let basis = Basis::beside_lines(call, PAIRS)?;
     let opened = basis.open(&call.lend)?;
     let mut out = call.lend.room(way_size(&basis.oracle))?;
     answer(call, opened, |oracle, s, t| {
@@ -84,7 +87,7 @@ fn answer(call: &mut Call, mut oracle: Oracle, mut ask: impl FnMut(&mut Oracle, 
 }
 
 /// The pair on a line, none on a blank one, or what is wrong.
-fn pair(line: Line) -> Result<Option<(u32, u32)>, String> {
+pub fn pair(line: Line) -> Result<Option<(u32, u32)>, String> {
     let Line::Whole(bytes) = line else { return Err(format!("longer than {LONGEST} bytes")) };
     let mut words = std::str::from_utf8(bytes).map_err(|_| no_pair(bytes))?.split_whitespace();
     match (words.next(), words.next(), words.next()) {

@@ -20,14 +20,15 @@ impl Basis {
         Basis::beside(call, None)
     }
 
-    /// The same where standard input has pairs.
-    pub fn beside_pairs(call: &Call) -> Result<Basis, Stop> {
-        Basis::beside(call, Some(OsStr::new("-")))
+    /// The same where standard input has lines of this kind.
+    pub fn beside_lines(call: &Call, lines: &str) -> Result<Basis, Stop> {
+        Basis::beside(call, Some((lines, Some(OsStr::new("-")))))
     }
 
-    fn beside(call: &Call, pairs: Option<&OsStr>) -> Result<Basis, Stop> {
-        let names = [("the oracle", Some(call.words[0].as_os_str())), ("the sheet", call.sheet), ("the pairs", pairs)];
-        let streams: Vec<&str> = names.into_iter().filter(|(_, name)| *name == Some(OsStr::new("-"))).map(|(what, _)| what).collect();
+    fn beside(call: &Call, lines: Option<(&str, Option<&OsStr>)>) -> Result<Basis, Stop> {
+        let files = [("the oracle", Some(call.words[0].as_os_str())), ("the sheet", call.sheet)];
+        let names = files.into_iter().chain(lines);
+        let streams: Vec<&str> = names.filter(|(_, name)| *name == Some(OsStr::new("-"))).map(|(what, _)| what).collect();
         if let [one, other, ..] = streams[..] {
             return fault(format!("{one} and {other} cannot both come from standard input"));
         }

@@ -1,6 +1,8 @@
-//! The benchmark: the proved core beside plain Rust, its block beside single answers, and answers under a sheet beside ways, in one run on one machine.
+//! The benchmark: the proved core beside plain Rust, its block and its wages beside single answers, and answers under a sheet beside ways, in one run on
+//! one machine.
 
 mod sheets;
+mod wages;
 
 use crate::args::Call;
 use crate::making::sample_size;
@@ -195,13 +197,14 @@ pub fn run(call: &mut Call) -> Done {
 /// Builds under all grids, and asks under one.
 fn measure(out: &mut Output, sizes: &[usize], grids: &[u32], asked: u32) -> Done {
     head(out, "| what | core | plain | unit | core's time / plain's |")?;
-    let (mut blocks, mut under) = (Vec::new(), Vec::new());
+    let (mut blocks, mut under, mut legs) = (Vec::new(), Vec::new(), Vec::new());
     for (&n, &g) in sizes.iter().flat_map(|n| grids.iter().map(move |g| (n, g))) {
         let case = building(out, n, g)?;
         if g == asked {
             asking(out, &case)?;
             blocks.push(block(out, &case)?);
             under.extend(sheets::rows(&case));
+            legs.extend(wages::rows(&case));
         }
     }
     out.say("")?;
@@ -209,5 +212,8 @@ fn measure(out: &mut Output, sizes: &[usize], grids: &[u32], asked: u32) -> Done
     blocks.iter().try_for_each(|(name, block, calls)| answered(out, name, SQUARES, (*block, *calls)))?;
     out.say("")?;
     head(out, "| what | under a sheet | ways without it | unit | time under the sheet / ways' |")?;
-    under.iter().try_for_each(|row| row.show(out))
+    under.iter().try_for_each(|row| row.show(out))?;
+    out.say("")?;
+    head(out, "| what | wages | single answers | unit | wages' time / single answers' |")?;
+    legs.iter().try_for_each(|row| row.show(out))
 }

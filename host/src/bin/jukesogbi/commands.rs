@@ -3,7 +3,7 @@
 use crate::args::{Arguments, Call};
 use crate::output::Output;
 use crate::stop::{slip, Done, Stop};
-use crate::{bench, demo, making, questions, sheets};
+use crate::{bench, demo, making, questions, sheets, wages};
 use std::ffi::{OsStr, OsString};
 use std::fmt::Write;
 
@@ -42,6 +42,12 @@ const LINES: &str = "TEXT has a line for each closure and each delay, and nothin
 ROAD is a number from 0 to 65535, counted from 0 in the order of the network, and SECONDS one from 0 to 4294967295.
 The last line about a road holds. A road that the network has closed stays closed. Whether the roads are there is seen when the sheet is used.
 A line of another form, or one longer than 4096 bytes, ends the command with its number and status 2, and nothing is written.";
+
+/// How a wages sheet is entered.
+const LEGS: &str = "Legs `S T` are read from standard input to its end, one a line, 1000 at the most; none is allowed. A leg may come again.
+A line is printed for each, its seconds or `-` for none, and behind them `none K total SECONDS`: how many have none, and the sum of the others.
+A sheet is answered or refused as a whole. A number beyond those of the places, however large, is refused by rule 12; more legs by rule 17.
+A line that is no pair (or blank, or no text, or longer than 4096 bytes) ends the command with its number and status 2, and nothing is printed.";
 
 /// Of commands that write files.
 const WRITES: &str = "An older file of that name is replaced when the new one is whole, and stays as it is where anything fails.";
@@ -102,6 +108,14 @@ const COMMANDS: &[Command] = &[
         does: "all times from up to 12 places S to up to 12 places T, a line for each S",
         more: &[],
         run: questions::block,
+    },
+    Command {
+        name: "wages",
+        takes: "ORACLE",
+        options: &[WORDS, ROOM],
+        does: "the times of up to 1000 legs `S T` from standard input, one a line, and their total",
+        more: &[LEGS],
+        run: wages::run,
     },
     Command {
         name: "listing",
@@ -255,7 +269,7 @@ fn page() -> String {
         let _ = writeln!(text, "  {:wide$}  {}", command.head(), command.does);
     }
     text + "`jukesogbi COMMAND --help` says more of each.\n\
-        time, far and way without S T answer pairs `S T` from standard input, one a line.\n\
+        time, far and way without S T answer pairs `S T` from standard input, one a line; wages answers legs so, all at once.\n\
         options: --sheet SHEET answers under a day sheet; --words K lends K working words, --room B lends B bytes of output, where the default is\n\
         as many as are needed; -- ends the options.\n\
         status: 0 done; 1 refused, as `refused N`, with the rule on standard error; 2 wrong use, or a file, a stream or memory that fails."

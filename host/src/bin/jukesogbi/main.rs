@@ -16,6 +16,7 @@ mod replace;
 mod sheets;
 mod stop;
 mod system;
+mod wages;
 
 use output::{complain, Output};
 use std::process::ExitCode;
