@@ -18,7 +18,7 @@ use Rattle.sheet.specs.Under.{leftOf, edgesUnder, tooSlow}
 use Rattle.sheet.specs.ArcsUnder.{leftUnder}
 use Rattle.sheet.specs.Codes.{effectIn}
 use Rattle.sheet.specs.Slow.{overBy, lineSlow, Quick}
-use Rattle.sheet.proofs.Lasts.{last-holds, none-holds, which}
+use Rattle.sheet.proofs.Lasts.{last-holds, none-holds, left-open, which}
 use Rattle.sheet.proofs.Ground.{left→, →left, under→, →under}
 
 -- Edges that keep rule 6.
@@ -106,7 +106,7 @@ module _ (b : Bytes) (closed : List ℕ) (ls : List Line) (at-most : Quick b) (n
       let m : List·Memᴰ l ls = subst (List·Memᴰ l) (sym (r .all)) (Memᴰ·append-right (r .before) (List·Memᴰ·head refl)) in
       →any (lineSlow (holds ls) b closed) ls m
       (subst (λ (i : ℕ). (overBy (effectOf l) (edge b i) && (isOpen closed i && overBy (holds ls i) (edge b i))) ≡ true) (sym (r .named))
-      (and (→over (edge b (z .i)) (sym (last-holds r) ∙ z .delays) (z .over)) (and (z .unclosed) s)))
+      (and (→over (edge b (z .i)) (sym (last-holds (left-open (z .delays)) r) ∙ z .delays) (z .over)) (and (z .unclosed) s)))
 
   line-named : {l : Line} → List·Memᴰ l ls → l .edge < edgeCount b
   unfolding namesNone

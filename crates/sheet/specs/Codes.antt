@@ -10,6 +10,11 @@ use Rattle.sheet.specs.Sheet.{Line, line, Effect, Effect.shut, Effect.de
 unfoldable pub effectIn : ℕ → Effect
 effectIn x = cond (ltb x 4_294_967_296) (delayed x) shut
 
+-- What holds after x where a later line about the edge does y: a closure stays, and over a delay the later line holds.
+unfoldable pub heldAfter : Effect → Effect → Effect
+heldAfter shut y = shut
+heldAfter (delayed x) y = y
+
 -- The lines from the first to before the end.
 unfoldable pub linesFrom : Bytes → ℕ → ℕ → List Line
 linesFrom b first end = map (line b) (range first (end - first))

@@ -1,7 +1,7 @@
--- A day sheet (document 02, T-03): its lines, which of them holds for an edge, and rules 18 and 19. Assumes nothing.
+-- A day sheet (document 02, T-03 and T-05): its lines, which of them holds for an edge, and rules 18 and 19. Assumes nothing.
 use Prim.Native.Nat.{ℕ, _+_, _*_, _/_, _%_}
 use mathlib.Core.Path.{_≡_}
-use mathlib.Core.Bool.{Bool, not, _&&_, _||_, cond}
+use mathlib.Core.Bool.{Bool, false, not, _&&_, _||_, cond}
 use mathlib.Core.List.{List, [], _∷_, _++_, map, List·Memᴰ}
 use lib.ListN.{length}
 use lib.Dec.{eqb, leb}
@@ -83,11 +83,15 @@ unfoldable pub lastEffect : Effect → List Line → Effect
 lastEffect x [] = x
 lastEffect x (l ∷ ls) = lastEffect (effectOf l) ls
 
--- "The last line about a road holds." What the lines do to edge i.
+-- "Any closure in a sheet holds over every delay for that road; among delays the last still holds" (T-05). What the lines do to edge i.
 unfoldable pub holds : List Line → ℕ → Effect
-holds ls i = lastEffect (delayed 0) (about ls i)
+holds ls i = cond (any closes (about ls i)) shut (lastEffect (delayed 0) (about ls i))
 
--- The same in words, for statements: l is about edge i, and no line after it is.
+-- The same in words, for statements: no line closes edge i ..
+abbrev pub NoneCloses : List Line → ℕ → Type 0
+NoneCloses ls i = (k : Line) → List·Memᴰ k ls → k .edge ≡ i → closes k ≡ false
+
+-- .. and l is about edge i, and no line after it is.
 pub record Last (ls : List Line) (i : ℕ) (l : Line) : Type 0 where
   pub before : List Line
   pub after : List Line

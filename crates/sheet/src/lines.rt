@@ -4,7 +4,7 @@ ghost use mathlib.Core.Bool.{cond};
 ghost use Prim.Native.Nat.{_+_, _*_, _<_, _≤_};
 ghost use lib.ListN.{length};
 ghost use Rattle.sheet.specs.Sheet.{lineSize, line, lineCount, linesIn, isAbout, effectOf, holds};
-ghost use Rattle.sheet.specs.Codes.{effectIn, linesFrom};
+ghost use Rattle.sheet.specs.Codes.{effectIn, heldAfter, linesFrom};
 use codec::bytes::byte;
 use codec::bytes::read16;
 use codec::bytes::read32;
@@ -42,13 +42,16 @@ pub fn line_effect(lines: &[u8], k: usize) -> u64
     read32(lines, LINE_SIZE * k + ADDED_AT) as u64
 }
 
-// What is done to edge i by line k, after x.
+// What is done to edge i by line k, after x: a closure stays.
 fn after_line(lines: &[u8], k: usize, i: usize, x: u64) -> u64
     requires { ⌜ lineSize * k + lineSize ≤ length (now lines) ⌝ }
-    ensures { λ r. ⌜ effectIn r ≡ cond (isAbout i (line (now (lines .entry)) k)) (effectOf (line (now (lines .entry)) k)) (effectIn x) ⌝ }
+    ensures { λ r.
+        ⌜ effectIn r ≡ cond (isAbout i (line (now (lines .entry)) k)) (heldAfter (effectIn x) (effectOf (line (now (lines .entry)) k))) (effectIn x) ⌝ }
 {
     if line_edge(lines, k) == i {
-        return line_effect(lines, k);
+        if x < SHUT {
+            return line_effect(lines, k);
+        }
     }
     x
 }

@@ -7,6 +7,8 @@ pub mod DrivenLaws
 pub mod UnderLaws
 pub mod UnderCalls
 pub mod SheetLaws
+pub mod Former
+pub mod FormerLaws
 -- ---- the statements and the trials
 pub mod SheetDemands
 pub mod SheetTrials

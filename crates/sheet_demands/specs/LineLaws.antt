@@ -11,7 +11,7 @@ use Rattle.model.specs.Network.{network, nodeCount}
 use Rattle.theory.specs.Passed.{Sound}
 use Rattle.sheet.specs.Sheet.{Line, lineCount, linesIn, lineBody, holds, effects, namesBroken}
 use Rattle.sheet.specs.Under.{networkUnder, slowBroken}
-use Rattle.sheet.proofs.Lasts.{last-holds, no-lines, none-held}
+use Rattle.sheet.proofs.Lasts.{last-holds, left-open, no-lines, none-held}
 use Rattle.sheet.proofs.Ground.{open-quick}
 use Rattle.sheet.proofs.SlowLines.{quick, SlowEdge, slow→, →slow, slow-last}
 use Rattle.sheet_demands.specs.SheetOutcomes.{Slowed}
@@ -25,7 +25,7 @@ module _ (o sheet : Bytes) (sound : Sound o) where
   abbrev SlowOne : Type 0
   SlowOne = SlowEdge (holds lines) (edgeBody o) (words16 (closedBody o))
 
-  -- What takes an edge over the limit is the last line about it.
+  -- What takes an edge over the limit is the last line about it, and none closes it.
   there : SlowOne → Slowed o sheet
   there z =
       let (k, l) = slow-last (edgeBody o) (words16 (closedBody o)) lines (quick (nodeCount (nodeBody o)) (edgeBody o) (sound .some-edge)) z in
@@ -33,10 +33,11 @@ module _ (o sheet : Bytes) (sound : Sound o) where
         i = z .i;
         is-road = z .below;
         is-open = open→ (words16 (closedBody o)) (z .i) (z .unclosed);
+        unclosed = left-open (z .delays);
         line = k;
         last = l;
         added = z .added;
-        delays = sym (last-holds l) ∙ z .delays;
+        delays = sym (last-holds (left-open (z .delays)) l) ∙ z .delays;
         over = z .over;
       }
 
@@ -46,7 +47,7 @@ module _ (o sheet : Bytes) (sound : Sound o) where
     below = z .is-road;
     unclosed = →open (words16 (closedBody o)) (z .i) (z .is-open);
     added = z .added;
-    delays = last-holds (z .last) ∙ z .delays;
+    delays = last-holds (z .unclosed) (z .last) ∙ z .delays;
     over = z .over;
   }
 

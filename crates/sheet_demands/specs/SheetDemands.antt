@@ -1,4 +1,4 @@
--- What document 02 promises under a day sheet (T-03), over the calls: each statement is about any outcome that keeps the calls' contracts.
+-- What document 02 promises under a day sheet (T-03, T-05), over the calls: each statement is about any outcome that keeps the calls' contracts.
 -- `TimeUnderCall` and `WayUnderCall` are the contracts of the time and the way under a sheet, `TimeCall` and `WayCall` those of `time` and `way`.
 -- `roads f sheet` are the arcs that the sheet leaves of a file's roads. The other words used here are defined in `SheetOutcomes`, in `sheet`, Sheet,
 -- and in `demands`, Outcomes; the proofs are in `SheetLaws` and below it. Assumes nothing.
@@ -27,7 +27,7 @@ use Rattle.model.specs.declared.Route.{Route}
 use Rattle.theory.specs.Way.{Exact, Step}
 use Rattle.theory.specs.Passed.{all-shaped}
 use Rattle.demands.specs.Outcomes.{Refuses, handed, Answers, WayWritten}
-use Rattle.sheet.specs.Sheet.{Line, Effect.delayed, lineCount, lineBody, effectOf, holds, Last, effects, sheetBroken}
+use Rattle.sheet.specs.Sheet.{Line, Effect.shut, Effect.delayed, lineCount, lineBody, closes, effectOf, holds, NoneCloses, Last, effects, sheetBroken}
 use Rattle.sheet.specs.Under.{networkUnder, slowBroken, stillDriven, oldStands, wayUnder}
 use Rattle.sheet.specs.SheetCalls.{sheetRules, pairUnderRules, timeUnderRules, wayUnderRules, TimeUnderCall, WayUnderCall}
 use Rattle.sheet.proofs.Lasts as lasts
@@ -36,6 +36,8 @@ use Rattle.sheet_demands.specs.Changed as changed
 use Rattle.sheet_demands.specs.LineLaws as lines
 use Rattle.sheet_demands.specs.DrivenLaws as drives
 use Rattle.sheet_demands.specs.SheetLaws as laws
+use Rattle.sheet_demands.specs.Former.{lastHolds, formerly, Reopened, Reopening, TimeBy, WayBy}
+use Rattle.sheet_demands.specs.FormerLaws as former
 
 -- ==== Refusals
 
@@ -60,8 +62,11 @@ twenty-just o sheet shaped = lines.slow-just o sheet (all-shaped o shaped .sound
 
 -- ==== The roads as a sheet leaves them, of any bytes
 
--- "The last line about a road holds", and a road that no line is about has no second more.
-pub last-holds : {ls : List Line} {i : ℕ} {l : Line} → Last ls i l → holds ls i ≡ effectOf l
+-- "Any closure in a sheet holds over every delay for that road; among delays the last still holds", and a road that no line is about has no second more.
+pub closure-holds : {ls : List Line} {i : ℕ} {l : Line} → List·Memᴰ l ls → l .edge ≡ i → closes l ≡ true → holds ls i ≡ shut
+closure-holds = lasts.closure-holds
+
+pub last-holds : {ls : List Line} {i : ℕ} {l : Line} → NoneCloses ls i → Last ls i l → holds ls i ≡ effectOf l
 last-holds = lasts.last-holds
 
 pub none-holds : {ls : List Line} {i : ℕ} → ((k : Line) → List·Memᴰ k ls → k .edge ≡ i → ⊥) → holds ls i ≡ delayed 0
@@ -189,3 +194,33 @@ pub empty-built : {f : Bytes} {dv : Division} {work work′ : List ℕ} {out out
     → (sheet : Bytes) → sheetBroken sheet ≡ false → lineCount (lineBody sheet) ≡ 0 → {s t : ℕ} {words words′ plain-words : List ℕ} {a b : Answer}
     → TimeUnderCall (handed r out′) sheet s t words a words′ → TimeCall (handed r out′) s t words b plain-words → (a ≡ b) × (words′ ≡ plain-words)
 empty-built call done sheet = laws.empty-built call done sheet
+
+-- ==== What T-05 changed. `Former` has the rule of before it, T-03's "the last line about a road holds"
+
+-- Road by road: what the lines do is what they did, but to a road where "a delay follows a closure of its road and no later line closes it", which was open
+-- and is closed.
+pub same-held : {ls : List Line} {i : ℕ} → (Reopened ls i → ⊥) → holds ls i ≡ lastHolds ls i
+same-held = former.same-held
+
+pub other-held : {ls : List Line} {i : ℕ} → Reopened ls i → (holds ls i ≡ shut) × ((n : ℕ) × (lastHolds ls i ≡ delayed n))
+other-held = former.other-held
+
+-- `TimeBy` and `WayBy` are the contracts of the calls under a sheet, by any rule.
+pub time-by : {o sheet : Bytes} {s t : ℕ} {work work′ : List ℕ} {a : Answer}
+    → TimeUnderCall o sheet s t work a work′ ↔ TimeBy (effects sheet) o sheet s t work a work′
+time-by = former.time-by
+
+pub way-by : {o sheet : Bytes} {s t : ℕ} {work work′ : List ℕ} {out out′ : Bytes} {r : Route}
+    → WayUnderCall o sheet s t work out r work′ out′ ↔ WayBy (effects sheet) o sheet s t work out r work′ out′
+way-by = former.way-by
+
+-- "Answers can change only under sheets where a delay follows a closure of its road and no later line closes it." Under every other sheet both calls hand
+-- back and leave what they did, refusals included: for any bytes, nodes, memory and output.
+module _ (o sheet : Bytes) (other : Reopening sheet → ⊥) (s t : ℕ) {work work′ former-work : List ℕ} where
+  pub same-time : {a b : Answer} → TimeUnderCall o sheet s t work a work′ → TimeBy (formerly sheet) o sheet s t work b former-work
+      → (a ≡ b) × (work′ ≡ former-work)
+  same-time = former.same-time o sheet other s t
+
+  pub same-way : {out out′ former-out : Bytes} {r former-r : Route} → WayUnderCall o sheet s t work out r work′ out′
+      → WayBy (formerly sheet) o sheet s t work out former-r former-work former-out → (r ≡ former-r) × (work′ ≡ former-work) × (out′ ≡ former-out)
+  same-way = former.same-way o sheet other s t

@@ -1,4 +1,4 @@
--- The words of `SheetDemands`; `Last`, the last line about a road, is in sheet, Sheet. Assumes nothing.
+-- The words of `SheetDemands`; `Last`, the last line about a road, and `NoneCloses` are in sheet, Sheet. Assumes nothing.
 use Prim.Native.Nat.{ℕ, _+_, _<_}
 use mathlib.Core.Path.{_≡_}
 use mathlib.Core.Bool.{cond}
@@ -13,7 +13,7 @@ use Rattle.model.specs.declared.Kind.the-variants.{Local}
 use Rattle.model.specs.declared.Answer.{Answer}
 use Rattle.model.specs.declared.Answer.the-variants.{Time}
 use Rattle.demands.specs.Outcomes.{pairsTried}
-use Rattle.sheet.specs.Sheet.{Line, Effect, Effect.delayed, linesIn, lineBody, effectOf, Last, effects}
+use Rattle.sheet.specs.Sheet.{Line, Effect, Effect.delayed, linesIn, lineBody, effectOf, NoneCloses, Last, effects}
 use Rattle.sheet.specs.Under.{networkUnder, oldStands}
 
 -- ---- the roads as a sheet leaves them
@@ -32,6 +32,7 @@ pub record Slowed (f sheet : Bytes) : Type 0 where
   pub i : ℕ
   pub is-road : i < edgeCount (edgeBody f)
   pub is-open : List·Memᴰ i (words16 (closedBody f)) → ⊥
+  pub unclosed : NoneCloses (linesIn (lineBody sheet)) i
   pub line : Line
   pub last : Last (linesIn (lineBody sheet)) i line
   pub added : ℕ

@@ -116,12 +116,19 @@ trials =
     (time lineOracle (delay 0 99_993 ∷ []) 0 1 ⇒ told (Time 100_000 Local 0)) ∷
     (time lineOracle (delay 0 99_994 ∷ []) 0 1 ⇒ told (Refused 20)) ∷
     (time lineOracle (delay 0 4_294_967_295 ∷ []) 0 1 ⇒ told (Refused 20)) ∷
-    -- The last of two lines holds: closed, then delayed, is open; delayed, then closed, is closed; so for 20.
-    (time lineOracle (close 0 ∷ delay 0 3 ∷ []) 0 1 ⇒ told (Time 10 Local 0)) ∷
+    -- A closure holds over a delay, wherever it stands; so for 20, which a delay that does not hold cannot give.
+    (time lineOracle (close 0 ∷ delay 0 3 ∷ []) 0 1 ⇒ told (None Local 0)) ∷
     (time lineOracle (delay 0 3 ∷ close 0 ∷ []) 0 1 ⇒ told (None Local 0)) ∷
+    (time lineOracle (close 0 ∷ delay 0 3 ∷ close 0 ∷ []) 0 1 ⇒ told (None Local 0)) ∷
+    (time lineOracle (delay 0 5 ∷ close 0 ∷ delay 0 3 ∷ []) 0 1 ⇒ told (None Local 0)) ∷
+    (route forkOracle (close 0 ∷ delay 0 0 ∷ []) 0 4 ⇒ 0 ∷ 4 ∷ 0 ∷ 0 ∷ 2 ∷ 0 ∷ 3 ∷ 0 ∷ 4 ∷ 0 ∷ []) ∷
+    (time lineOracle (delay 0 99_994 ∷ close 0 ∷ []) 0 1 ⇒ told (None Local 0)) ∷
+    (time lineOracle (close 0 ∷ delay 0 99_994 ∷ []) 0 1 ⇒ told (None Local 0)) ∷
+    (time lineOracle (close 1 ∷ delay 0 99_994 ∷ []) 0 1 ⇒ told (Refused 20)) ∷
+    -- The last of two delays holds; so for 20.
     (time lineOracle (delay 0 5 ∷ delay 0 3 ∷ []) 0 1 ⇒ told (Time 10 Local 0)) ∷
     (time lineOracle (delay 0 99_994 ∷ delay 0 1 ∷ []) 0 1 ⇒ told (Time 8 Local 0)) ∷
-    (time lineOracle (delay 0 99_994 ∷ close 0 ∷ []) 0 1 ⇒ told (None Local 0)) ∷
+    (time lineOracle (delay 0 1 ∷ delay 0 99_994 ∷ []) 0 1 ⇒ told (Refused 20)) ∷
     -- One of two equal roads side by side is closed: the other serves, and the old answer stands. Both closed: none.
     (time doubledOracle (close 1 ∷ []) 0 2 ⇒ told (Time 16 Far 1)) ∷
     (time doubledOracle (close 2 ∷ delay 1 4 ∷ []) 0 2 ⇒ told (Time 20 Local 0)) ∷
