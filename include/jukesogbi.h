@@ -32,8 +32,8 @@
  *   8  (of a sheet, from byte 11 on) lines of 7 bytes: 1 closed or 2 delayed, the number of a road (2 bytes), and the seconds added (4), 0 when closed.
  * In bodies 6 and 7 JUKESOGBI_NO_WALK stands where there is no walk.
  *
- * A sheet is one day's closures and delays, any number of lines in any order. The last line about a road holds. A road closed in body 3 is closed under
- * every sheet.
+ * A sheet is one day's closures and delays, any number of lines in any order. A closure holds over every delay of its road, wherever it stands; among
+ * delays the last holds. A road closed in body 3 is closed under every sheet.
  *
  * Rules, in checking order:
  *    1  fewer than 2 bytes, a wrong edition, a wrong entry count or an incomplete contents

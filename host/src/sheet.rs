@@ -118,20 +118,46 @@ pub fn lines(sheet: &[u8]) -> impl Iterator<Item = Line> + '_ {
     files::body(sheet, LINES).unwrap_or(&[]).chunks_exact(LINE_SIZE).map(Line::of)
 }
 
-/// The network as a sheet leaves it that the core has accepted beside it: the last line about a road holds, and a road that is closed stays so.
+/// The network as a sheet leaves it that the core has accepted beside it: a closure holds over every delay of its road, wherever it stands, among delays the
+/// last holds, and a road that is closed stays so.
 pub fn applied(net: &Network, sheet: &[u8]) -> Network {
-    let holding: BTreeMap<u16, Line> = lines(sheet).map(|line| (line.road(), line)).collect();
     let mut left = net.clone();
-    for line in holding.into_values() {
+    let mut delays = BTreeMap::new();
+    for line in lines(sheet) {
         match line {
             Line::Closed(road) => left.closed.push(road),
-            // Of a closed road, any sum.
-            Line::Delayed(road, added) => left.edges[road as usize].seconds = left.edges[road as usize].seconds.saturating_add(added),
+            Line::Delayed(road, added) => {
+                delays.insert(road, added);
+            }
         }
     }
     left.closed.sort_unstable();
     left.closed.dedup();
+    // A closed road has no delay: its sum might be any.
+    delays.retain(|road, _| left.closed.binary_search(road).is_err());
+    for (road, added) in delays {
+        left.edges[road as usize].seconds += added;
+    }
     left
+}
+
+/// The roads that stay closed although the last line about them is a delay, in the order of their first closures.
+pub fn closed_then_delayed(lines: impl IntoIterator<Item = Line>) -> Vec<u16> {
+    let (mut roads, mut delayed_last) = (Vec::new(), BTreeMap::new());
+    for line in lines {
+        match line {
+            Line::Closed(road) => {
+                if delayed_last.insert(road, false).is_none() {
+                    roads.push(road);
+                }
+            }
+            Line::Delayed(road, _) => {
+                delayed_last.entry(road).and_modify(|last| *last = true);
+            }
+        }
+    }
+    roads.retain(|road| delayed_last[road]);
+    roads
 }
 
 #[cfg(test)]
@@ -166,15 +192,39 @@ mod tests {
         assert_eq!(lines(&bytes).collect::<Vec<_>>(), some);
     }
 
-    /// The last line about a road holds, and what the network has closed stays closed.
-    #[test]
-    fn over_a_network() {
+    /// A road after road of ten seconds, of which 1 and 4 are closed, under these lines: what is closed, and the seconds of road 0.
+    fn left(some: &[Line]) -> (Vec<u16>, u32) {
         let edges = (0..5).map(|i| files::Edge { first: i, second: i + 1, seconds: 10 }).collect();
         let net = Network { nodes: vec![(0, 0); 6], edges, closed: vec![1, 4] };
-        let sheet = of([Line::Closed(0), Line::Delayed(0, 5), Line::Delayed(2, 9), Line::Closed(2), Line::Delayed(1, u32::MAX), Line::Closed(4)]);
-        let left = applied(&net, &sheet);
-        assert_eq!(left.closed, [1, 2, 4]);
-        assert_eq!((left.edges[0].seconds, left.edges[2].seconds, left.edges[3].seconds), (15, 10, 10));
-        assert_eq!(applied(&net, &of([])), net);
+        let left = applied(&net, &of(some.iter().copied()));
+        assert_eq!((&left.nodes, &left.edges[1..]), (&net.nodes, &net.edges[1..]));
+        (left.closed, left.edges[0].seconds)
+    }
+
+    /// A closure holds over every delay, the last delay over the others, and what the network has closed stays closed.
+    #[test]
+    fn over_a_network() {
+        let (close, delay) = (Line::Closed(0), |added| Line::Delayed(0, added));
+        assert_eq!(left(&[]), (vec![1, 4], 10));
+        for lines in [&[close][..], &[close, delay(5)], &[delay(5), close], &[close, delay(5), close], &[delay(u32::MAX), close, delay(u32::MAX)]] {
+            assert_eq!(left(lines), (vec![0, 1, 4], 10), "{lines:?}");
+        }
+        assert_eq!(left(&[delay(5), delay(3)]), (vec![1, 4], 13));
+        assert_eq!(left(&[delay(5), delay(0)]), (vec![1, 4], 10));
+        // Other roads: closed twice, closed in the network with a delay of any seconds, and closed there and here.
+        assert_eq!(left(&[Line::Closed(3), delay(3), Line::Delayed(1, u32::MAX), Line::Closed(4), Line::Closed(3)]), (vec![1, 3, 4], 13));
+    }
+
+    #[test]
+    fn roads_that_stay_closed() {
+        let of = |text: &str| closed_then_delayed(text.split(", ").map(|line| line.parse().unwrap()));
+        for none in ["closed 0", "delayed 0 1", "delayed 0 1, closed 0", "closed 0, delayed 0 1, closed 0", "closed 0, delayed 1 1", "delayed 0 1, delayed 0 0"]
+        {
+            assert_eq!(of(none), [], "{none}");
+        }
+        assert_eq!(of("closed 0, delayed 0 0"), [0]);
+        assert_eq!(of("closed 0, closed 0, delayed 0 1, delayed 0 2"), [0]);
+        assert_eq!(of("closed 0, delayed 0 1, closed 0, delayed 0 2"), [0]);
+        assert_eq!(of("closed 7, closed 9, closed 8, delayed 8 1, delayed 65535 0, delayed 7 1, closed 9"), [7, 8]);
     }
 }

@@ -164,17 +164,17 @@ fn grid_parts_the_cells() {
     }
 }
 
-/// Which roads are of a sort. The last line about a road holds, and what body 3 has closed stays closed.
+/// Which roads are of a sort. A closure holds over every delay of its road, among delays the last holds, and what body 3 has closed stays closed.
 fn roads_of(case: &Case, class: &str) -> Vec<(u16, u16)> {
     let (net, lines) = (files::network(&case.oracle), case.sheet.iter().flat_map(|sheet| sheet::lines(sheet)).collect::<Vec<Line>>());
     let is_of = |i: u16| {
-        let held = lines.iter().rev().find(|line| line.road() == i);
+        let shut = lines.contains(&Line::Closed(i));
         match class {
             "closed" => net.closed.contains(&i),
             _ if net.closed.contains(&i) => false,
-            "shut" => matches!(held, Some(Line::Closed(_))),
-            "open" => !matches!(held, Some(Line::Closed(_))),
-            _ => matches!(held, Some(&Line::Delayed(_, added)) if added > 0),
+            "shut" => shut,
+            "open" => !shut,
+            _ => !shut && matches!(lines.iter().rev().find(|line| line.road() == i), Some(&Line::Delayed(_, added)) if added > 0),
         }
     };
     let roads = net.edges.iter().enumerate().filter(|(i, _)| is_of(*i as u16));
@@ -183,8 +183,9 @@ fn roads_of(case: &Case, class: &str) -> Vec<(u16, u16)> {
 
 #[test]
 fn sorts_of_roads_look_different() {
-    let mut drawn = [0; 4];
+    let (mut drawn, mut closed_then_delayed) = ([0; 4], 0);
     for case in cases() {
+        closed_then_delayed += case.sheet.iter().map(|sheet| sheet::closed_then_delayed(sheet::lines(sheet)).len()).sum::<usize>();
         let (points, p) = (case.points(), &case.picture);
         let sorts = [("open", "open road", false), ("closed", "closed road", true), ("shut", "closed road", true), ("delayed", "delayed road", false)];
         for (k, (class, text, is_dashed)) in sorts.into_iter().enumerate() {
@@ -199,7 +200,7 @@ fn sorts_of_roads_look_different() {
             assert!(!told || p.is_dashed(class) == is_dashed, "{class}");
         }
     }
-    assert!(drawn.iter().all(|&count| count > 200), "{drawn:?}");
+    assert!(drawn.iter().all(|&count| count > 200) && closed_then_delayed > 100, "{drawn:?}, {closed_then_delayed}");
 }
 
 /// With the thousands parted.

@@ -28,11 +28,13 @@ fn the_first_walk() {
     assert!(run(&Folder::new("readme"), README, "A first walk") >= 13);
 }
 
-/// Its text is the one at the top of the page.
+/// Its text is the one at the top of the page, and the page has the word on the road that stays closed.
 #[test]
 fn the_example_of_sheets() {
     let f = Folder::new("readme_sheets");
-    assert!(run(&f, SHEETS, "An example") >= 9);
+    assert!(run(&f, SHEETS, "An example") >= 11);
+    let told = f.run("sheet today.txt again.sheet").err;
+    assert!(told.starts_with("road 52 ") && SHEETS.contains(&format!("`{}`", told.trim_end())), "{told}");
     let (_, text) = SHEETS.split_once("one line for each closure or delay:\n\n").unwrap();
     let (text, _) = text.split_once("\n\n").unwrap();
     assert_eq!(String::from_utf8(f.read("today.txt")).unwrap(), text.lines().map(|line| line.trim_start().to_string() + "\n").collect::<String>());

@@ -11,7 +11,7 @@ mod reference;
 
 use jukesogbi::sample::Random;
 use networks::Plan;
-use reference::sheets::{breaks_18, sheet, with_contents, Under, CLOSED, DELAYED};
+use reference::sheets::{breaks_18, delay_after_closure, sheet, with_contents, Under, CLOSED, DELAYED};
 use reference::{Answer, Map, Network, Questions};
 
 /// More than any small network needs.
@@ -45,13 +45,16 @@ fn lines_on_fork() {
     let fork = asked(&networks::fork(), 6);
     let on = |lines: &[Line]| under(&fork, lines, 0, 4);
     let old = (far(11, 4), vec![0, 1, 3, 4]);
-    // No line, none on the way, a delay of nothing, and a line that is taken back.
+    // No line, none on the way, a delay of nothing, and a delay that is taken back.
     assert_eq!(on(&[]), old);
     assert_eq!(on(&[(CLOSED, 1, 0), (DELAYED, 3, 99_995)]), old);
     assert_eq!(on(&[(DELAYED, 0, 0)]), old);
-    assert_eq!(on(&[(CLOSED, 0, 0), (DELAYED, 0, 0)]), old);
-    // A step slower or closed: the other side is as quick, and found by a search.
-    for lines in [&[(DELAYED, 0, 1)][..], &[(CLOSED, 2, 0)], &[(DELAYED, 0, 0), (CLOSED, 0, 0)], &[(CLOSED, 0, 0), (CLOSED, 0, 0)]] {
+    assert_eq!(on(&[(DELAYED, 0, 7), (DELAYED, 0, 0)]), old);
+    // A step slower or closed: the other side is as quick, and found by a search. A closure is not taken back by a delay.
+    for lines in [
+        &[(DELAYED, 0, 1)][..], &[(CLOSED, 2, 0)], &[(DELAYED, 0, 0), (CLOSED, 0, 0)], &[(CLOSED, 0, 0), (CLOSED, 0, 0)], &[(CLOSED, 0, 0), (DELAYED, 0, 0)],
+        &[(DELAYED, 0, 0), (DELAYED, 0, 1)], &[(CLOSED, 0, 0), (DELAYED, 0, 0), (CLOSED, 0, 0)],
+    ] {
         assert_eq!(on(lines), (local(Some(11)), vec![0, 2, 3, 4]));
     }
     assert_eq!(on(&[(DELAYED, 4, 99_999)]), (local(Some(100_010)), vec![0, 1, 3, 4]));
@@ -61,6 +64,41 @@ fn lines_on_fork() {
     let closed = asked(&networks::fork_closed(), 6);
     for line in [(DELAYED, 4, 0), (DELAYED, 4, u32::MAX), (CLOSED, 4, 0), (CLOSED, 0, 0)] {
         assert_eq!(under(&closed, &[line], 0, 4), (Ok(Answer { far: true, seconds: None, pairs: 0 }), vec![]));
+        assert_eq!(under(&closed, &[(CLOSED, 4, 0), line], 0, 4), (Ok(Answer { far: true, seconds: None, pairs: 0 }), vec![]));
+    }
+}
+
+/// The rule of before beside that of now, and T-05's sentence on where they differ, by example.
+#[test]
+fn what_was_until_t_05() {
+    let (line, close, delay) = (asked(&networks::line(), 6), (CLOSED, 0, 0), |added: u32| (DELAYED, 0, added));
+    let seconds = |under: Under| under.time(0, 1, MUCH).result.map(|answer| answer.seconds);
+    let both = |lines: &[Line]| (seconds(Under::former(&line, sheet(lines))), seconds(Under::of(&line, sheet(lines))));
+    for (lines, before) in [
+        (&[close, delay(3)][..], Ok(Some(10))),
+        (&[close, delay(0)], Ok(Some(7))),
+        (&[delay(3), close, delay(5)], Ok(Some(12))),
+        (&[close, delay(3), close, delay(4), delay(5)], Ok(Some(12))),
+        (&[close, (CLOSED, 1, 0), delay(3), (CLOSED, 1, 0)], Ok(Some(10))),
+        (&[close, delay(99_994)], Err(20)),
+        (&[close, delay(u32::MAX)], Err(20)),
+    ] {
+        assert_eq!((both(lines), delay_after_closure(lines)), ((before, Ok(None)), true), "{lines:?}");
+    }
+    for (lines, both_times) in [
+        (&[][..], Ok(Some(7))),
+        (&[close], Ok(None)),
+        (&[delay(3), close], Ok(None)),
+        (&[delay(99_994), close], Ok(None)),
+        (&[close, delay(3), close], Ok(None)),
+        (&[close, delay(u32::MAX), close], Ok(None)),
+        (&[delay(5), delay(3)], Ok(Some(10))),
+        (&[delay(99_994), delay(3)], Ok(Some(10))),
+        (&[delay(3), delay(99_994)], Err(20)),
+        (&[(CLOSED, 1, 0), delay(3)], Ok(Some(10))),
+        (&[(CLOSED, 1, 0), delay(99_994)], Err(20)),
+    ] {
+        assert_eq!((both(lines), delay_after_closure(lines)), ((both_times, both_times), false), "{lines:?}");
     }
 }
 
@@ -93,6 +131,7 @@ fn rules_by_example() {
     // By the line that holds.
     assert_eq!(lines(&[(DELAYED, 0, 99_994), (DELAYED, 0, 1)]), None);
     assert_eq!(lines(&[(DELAYED, 0, 99_994), (CLOSED, 0, 0)]), None);
+    assert_eq!(lines(&[(CLOSED, 0, 0), (DELAYED, 0, 99_994)]), None);
     assert_eq!(lines(&[(DELAYED, 0, 1), (CLOSED, 1, 0), (DELAYED, 0, u32::MAX)]), Some(20));
     for cut in 0..11 {
         assert!(breaks_18(&sheet(&[])[..cut]));
@@ -162,10 +201,11 @@ fn built_oracles_answer_least_totals() {
         let lines: Vec<Line> = (0..random.below(6)).map(|_| line(&mut random)).collect();
         let mut left = plan.clone();
         for (i, road) in left.roads.iter_mut().enumerate() {
-            match lines.iter().rev().find(|line| line.1 as usize == i) {
-                Some((CLOSED, ..)) => left.closed.push(i as u16),
-                Some(line) => road.2 += line.2,
-                None => {}
+            let about: Vec<&Line> = lines.iter().filter(|line| line.1 as usize == i).collect();
+            if about.iter().any(|line| line.0 == CLOSED) {
+                left.closed.push(i as u16);
+            } else if let Some(line) = about.last() {
+                road.2 += line.2;
             }
         }
         left.closed.sort_unstable();

@@ -9,12 +9,13 @@ use std::io::Write;
 const FORM: &str = "rule 18: a sheet's form, a line's first byte, or the seconds of a closed line are wrong\n";
 
 /// With the files of `Folder::with_files`, and sheets for Fork: `none` has no line, `side` closes a road that is on no way, `way` one that is on the way
-/// from 0 to 4, `slow` delays its last road, `off` closes that.
+/// from 0 to 4, `slow` delays its last road, `off` closes that, and `crew` delays it after its closure.
 fn folder(name: &str) -> Folder {
     let f = Folder::with_files(name);
-    for (name, lines) in
-        [("none", vec![]), ("side", vec![(CLOSED, 1, 0)]), ("way", vec![(CLOSED, 0, 0)]), ("slow", vec![(DELAYED, 4, 6)]), ("off", vec![(CLOSED, 4, 0)])]
-    {
+    for (name, lines) in [
+        ("none", vec![]), ("side", vec![(CLOSED, 1, 0)]), ("way", vec![(CLOSED, 0, 0)]), ("slow", vec![(DELAYED, 4, 6)]), ("off", vec![(CLOSED, 4, 0)]),
+        ("crew", vec![(CLOSED, 4, 0), (DELAYED, 4, 100_000), (DELAYED, 4, 0)]),
+    ] {
         f.write(name, &sheet(&lines));
     }
     // Broken: 18, 19 and 20 on Fork.
@@ -40,13 +41,59 @@ fn a_sheet_from_a_text() {
     assert_eq!((ran.code, ran.out, ran.err.as_str()), (0, expected.clone(), "sheet of 4 lines, 2 closed, 2 delayed\n"));
     f.run_with("sheet-text -", &expected).says(text);
     // The greatest numbers; and no line at all.
-    f.run_with("sheet - most", b"closed 65535\ndelayed 65535 4294967295\n").says("sheet of 2 lines, 1 closed, 1 delayed\n");
-    f.run("sheet-text most").says("closed 65535\ndelayed 65535 4294967295\n");
+    f.run_with("sheet - most", b"delayed 65535 4294967295\nclosed 65535\n").says("sheet of 2 lines, 1 closed, 1 delayed\n");
+    f.run("sheet-text most").says("delayed 65535 4294967295\nclosed 65535\n");
     for nothing in [&b""[..], b"\n", b" \n\t\n\n"] {
         f.run_with("sheet - empty", nothing).says("sheet of 0 lines, 0 closed, 0 delayed\n");
         assert_eq!(f.read("empty"), sheet(&[]));
         f.run("sheet-text empty").says("");
     }
+}
+
+/// A delay that follows a closure and does not end it is told of: the first such road, and how many more there are. All else is as without it.
+#[test]
+fn a_delay_after_a_closure() {
+    let f = Folder::new("sheet_stays");
+    let stays = |road: &str| format!("road {road}: a delay does not end a closure\n");
+    for (text, report, note) in [
+        ("closed 24\ndelayed 24 0\n", "sheet of 2 lines, 1 closed, 1 delayed\n", stays("24 stays closed")),
+        ("closed 65535\ndelayed 65535 4294967295\n", "sheet of 2 lines, 1 closed, 1 delayed\n", stays("65535 stays closed")),
+        ("delayed 3 1\nclosed 3\nclosed 3\ndelayed 3 1\ndelayed 3 0\n", "sheet of 5 lines, 2 closed, 3 delayed\n", stays("3 stays closed")),
+        ("closed 9\nclosed 2\ndelayed 2 5\ndelayed 9 5\n", "sheet of 4 lines, 2 closed, 2 delayed\n", stays("9 stays closed (and 1 more road)")),
+        (
+            "closed 7\nclosed 9\nclosed 2\ndelayed 7 1\ndelayed 2 5\ndelayed 9 5\n", "sheet of 6 lines, 3 closed, 3 delayed\n",
+            stays("7 stays closed (and 2 more roads)"),
+        ),
+        // Road 1 is closed last, road 2 is not closed, road 3 not delayed.
+        ("closed 1\ndelayed 1 9\nclosed 1\ndelayed 2 9\ndelayed 2 0\nclosed 3\n", "sheet of 6 lines, 3 closed, 3 delayed\n", String::new()),
+    ] {
+        f.run_with("sheet - day", text.as_bytes()).does(0, report, &note);
+        f.run("sheet-text day").says(text);
+        // Where the sheet goes to standard output, the note stands below the report.
+        let ran = f.run_with("sheet - -", text.as_bytes());
+        assert_eq!((ran.code, ran.out, ran.err), (0, f.read("day"), format!("{report}{note}")));
+    }
+    // Not where there is no sheet.
+    f.run_with("sheet - none/day", b"closed 1\ndelayed 1 0\n").is_wrong("cannot write none/day");
+    f.run_with("sheet - other", b"closed 1\ndelayed 1 0\nx\n").is_wrong("standard input, line 3: `x`");
+    assert!(!f.has("other"));
+    let help = f.run("sheet --help").text();
+    for part in ["A closure holds over every delay of its road", "standard error tells that the road stays closed"] {
+        assert!(help.contains(part), "{help}");
+    }
+}
+
+/// Each of the most roads closed, then delayed, over and over: the note takes no longer than the lines do.
+#[test]
+fn a_note_on_many_lines() {
+    let f = Folder::new("sheet_many");
+    let roads = |line: fn(u32) -> String| (0..65_536).map(line).collect::<String>();
+    let (closures, delays) = (roads(|road| format!("closed {road}\n")), roads(|road| format!("delayed {road} 1\n")));
+    let text = [closures, delays].concat().repeat(8);
+    let begun = std::time::Instant::now();
+    let ran = f.run_with("sheet - day", text.as_bytes());
+    ran.does(0, "sheet of 1048576 lines, 524288 closed, 524288 delayed\n", "road 0 stays closed (and 65535 more roads): a delay does not end a closure\n");
+    assert!(begun.elapsed() < std::time::Duration::from_secs(10), "{:?}", begun.elapsed());
 }
 
 #[test]
@@ -128,8 +175,11 @@ fn time_and_way() {
         f.run_with(&format!("time fork.oracle --sheet {name}"), b"0 4\n\n1 1\n").says(&format!("{time}\n0 local 0\n"));
         f.run_with(&format!("way fork.oracle --sheet {name}"), b"0 4\n1 1\n").says(&format!("{way}\n1\n"));
     }
-    f.run("time fork.oracle 0 4 --sheet off").says("- local 0\n");
-    f.run("way fork.oracle 0 4 --sheet off").does(0, "\n", "no way leads from 0 to 4\n");
+    // A delay does not end a closure, nor is it refused for its seconds.
+    for name in ["off", "crew"] {
+        f.run(&format!("time fork.oracle 0 4 --sheet {name}")).says("- local 0\n");
+        f.run(&format!("way fork.oracle 0 4 --sheet {name}")).does(0, "\n", "no way leads from 0 to 4\n");
+    }
     f.run_with("way fork.oracle --sheet off", b"0 3\n0 4\n").does(0, "0 1 3\n\n", "line 2: no way leads from 0 to 4\n");
     // Closed in body 3 already, and so 'none' before and after.
     f.run("time closed.oracle 0 4 --sheet slow").says("- far 0\n");
@@ -227,5 +277,6 @@ fn draw_under_a_sheet() {
     tells(&shut, ["today: 1 closed road<", "today: 0 delayed roads<", "4 open roads<", "total 11 s"]);
     tells(&slow, ["today: 0 closed roads<", "today: 1 delayed road<", "5 open roads<", "total 17 s"]);
     assert!(picture("--sheet off").contains("today: 1 closed road<"));
+    tells(&picture("--sheet crew"), ["today: 1 closed road<", "today: 0 delayed roads<", "4 open roads<", "1 closed road<"]);
     f.run("draw fork.oracle p.svg 0 4 --sheet off").does(0, "drawn 5 places\n", "no way leads from 0 to 4\n");
 }

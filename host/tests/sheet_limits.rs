@@ -69,27 +69,56 @@ fn a_line_at_the_ends_of_blocks() {
             assert_eq!(ask(at, (DELAYED, 4, 100_000)), Err(20), "{count} lines, {at}");
             assert_eq!(ask(at, (DELAYED, 4, 30)).unwrap().seconds, Some(41), "{count} lines, {at}");
             assert_eq!(ask(at, (CLOSED, 4, 0)).unwrap().seconds, None, "{count} lines, {at}");
-            // Over the road that all other lines are about, the last alone holds.
+            // Of the road that all other lines delay, the last delay holds.
             let holds = at == count - 1;
             assert_eq!(ask(at, (DELAYED, 0, 100_000)).err(), if holds { Some(20) } else { None }, "{count} lines, {at}");
         }
     }
 }
 
-/// The line that holds is the last one, wherever the others stand.
+/// A closure holds wherever it stands, and among delays the last one: two lines about one road among many about the other, at the ends of blocks.
 #[test]
-fn the_last_of_many_lines() {
+fn two_among_many_lines() {
     let case = OracleCase::new(|| "Line".to_string(), networks::line().without_transit(1));
+    let (closed, short, long) = ((CLOSED, 0, 0), (DELAYED, 0, 2), (DELAYED, 0, 40));
     for count in [BLOCK, BLOCK + 1, 3 * BLOCK] {
         for (first, last) in [(0, BLOCK - 1), (BLOCK - 2, BLOCK - 1), (0, count - 1), (BLOCK - 1, count - 1)].into_iter().filter(|(a, b)| a < b) {
             let mut lines = vec![(DELAYED, 1, 5); count];
-            (lines[first], lines[last]) = ((CLOSED, 0, 0), (DELAYED, 0, 2));
-            let ask = |lines: &[Line]| SheetCase::new(&case, || "many lines".to_string(), sheet(lines)).time(0, 2, 24).result.unwrap().seconds;
-            assert_eq!(ask(&lines), Some(23), "{count} lines, {first} and {last}");
-            lines.swap(first, last);
-            assert_eq!(ask(&lines), None, "{count} lines, {first} and {last}");
+            let mut ask = |one: Line, other: Line| {
+                (lines[first], lines[last]) = (one, other);
+                time_0_to_2(&case, &lines)
+            };
+            let at = format!("{count} lines, {first} and {last}");
+            assert_eq!((ask(closed, short), ask(short, closed), ask(closed, closed)), (Ok(None), Ok(None), Ok(None)), "{at}");
+            assert_eq!((ask(long, short), ask(short, long)), (Ok(Some(23)), Ok(Some(61))), "{at}");
+            // So for 20.
+            let over = (DELAYED, 0, u32::MAX);
+            assert_eq!((ask(closed, over), ask(over, closed), ask(over, short), ask(short, over)), (Ok(None), Ok(None), Ok(Some(23)), Err(20)), "{at}");
         }
     }
+}
+
+/// One closure among many delays of its road, at the ends of blocks and anywhere; and the last of these delays where there is none.
+#[test]
+fn a_closure_among_many_delays() {
+    let case = OracleCase::new(|| "Line".to_string(), networks::line().without_transit(1));
+    for count in [BLOCK - 1, BLOCK, BLOCK + 1, 3 * BLOCK + 7] {
+        let mut lines: Vec<Line> = (0..count).map(|i| (DELAYED, 0, i as u32 % 1_000)).collect();
+        lines[count - 1].2 = 4;
+        assert_eq!(time_0_to_2(&case, &lines), Ok(Some(20)), "{count} lines");
+        for at in [0, 1, 40_000, BLOCK - 2, BLOCK - 1, BLOCK, 2 * BLOCK, count - 2, count - 1].into_iter().filter(|&at| at < count) {
+            let delay = std::mem::replace(&mut lines[at], (CLOSED, 0, 0));
+            assert_eq!(time_0_to_2(&case, &lines), Ok(None), "{count} lines, closed by {at}");
+            lines[at] = delay;
+        }
+    }
+}
+
+/// Line's time from 0 to 2, by both kinds of calls.
+fn time_0_to_2(case: &OracleCase, lines: &[Line]) -> Result<Option<u64>, u32> {
+    let count = lines.len();
+    let under = SheetCase::new(case, move || format!("{count} lines"), sheet(lines));
+    case.open(case.words()).unwrap().time_under(&under, 0, 2).map(|answer| answer.seconds)
 }
 
 /// So many lines that their number passes 16 bits many times, all of which keep each rule.

@@ -87,18 +87,47 @@ fn rules_of_the_oracle_come_first() {
     }
 }
 
-/// A later line does not help an earlier one over 18 and 19, which look at all lines; over 20 it does, which goes by the line that holds.
+/// A later line does not help an earlier one over 18 and 19, which look at all lines; over 20 it may, which goes by the line that holds.
 #[test]
 fn lines_that_do_not_hold() {
     let case = OracleCase::new(|| "Fork".to_string(), oracle(&networks::fork(), 6));
-    let rule = |lines: &[Line]| SheetCase::new(&case, || "a sheet".to_string(), sheet(lines)).time(0, 4, 40).result.err().unwrap_or(0);
     for after in [(CLOSED, 4, 0), (DELAYED, 4, 3)] {
-        assert_eq!(rule(&[(CLOSED, 4, 1), after]), 18);
-        assert_eq!(rule(&[(0, 4, 0), after]), 18);
-        assert_eq!(rule(&[(CLOSED, 5, 0), after, (DELAYED, 5, 0)]), 19);
-        assert_eq!(rule(&[(DELAYED, 4, 100_000), after]), 0);
-        assert_eq!(rule(&[after, (DELAYED, 4, 100_000)]), 20);
-        assert_eq!(rule(&[after, (DELAYED, 4, 99_999)]), 0);
+        assert_eq!(rule(&case, &[(CLOSED, 4, 1), after]), 18);
+        assert_eq!(rule(&case, &[(0, 4, 0), after]), 18);
+        assert_eq!(rule(&case, &[(CLOSED, 5, 0), after, (DELAYED, 5, 0)]), 19);
+        assert_eq!(rule(&case, &[(DELAYED, 4, 100_000), after]), 0);
+        // A closure holds over what comes after it, a delay does not.
+        assert_eq!(rule(&case, &[after, (DELAYED, 4, 100_000)]), if after.0 == CLOSED { 0 } else { 20 });
+        assert_eq!(rule(&case, &[after, (DELAYED, 4, 99_999)]), 0);
+    }
+}
+
+/// The rule that a sheet of these lines breaks, by both kinds of calls and for time and way, or 0.
+fn rule(case: &OracleCase, lines: &[Line]) -> u32 {
+    let text = format!("lines {lines:?}");
+    let (under, mut opened) = (SheetCase::new(case, move || text.clone(), sheet(lines)), case.open(case.words()).unwrap());
+    let (time, way) = (opened.time_under(&under, 0, 4), opened.way_under(&under, 0, 4, 10));
+    assert_eq!(time.err(), way.err(), "{lines:?}");
+    time.err().unwrap_or(0)
+}
+
+/// A delay over the limit gives 20 exactly where no line closes its road and it is the last of its delays: every list of up to five lines about one road,
+/// among them two such delays. On a road closed in body 3 none does.
+#[test]
+fn twenty_by_the_line_that_holds() {
+    let [open, shut] = [networks::fork(), networks::fork_closed()].map(|plan| OracleCase::new(|| "Fork".to_string(), oracle(&plan, 6)));
+    let choices = [(CLOSED, 4, 0), (DELAYED, 4, 3), (DELAYED, 4, 100_000), (DELAYED, 4, u32::MAX)];
+    for count in 0..=5u32 {
+        for code in 0..4usize.pow(count) {
+            let lines: Vec<Line> = (0..count).map(|k| choices[code / 4usize.pow(k) % 4]).collect();
+            let over = lines.last().is_some_and(|line| line.2 >= 100_000) && !lines.contains(&choices[0]);
+            // A line about another road, before or behind, changes nothing.
+            for beside in [&[][..], &[(CLOSED, 3, 0)], &[(DELAYED, 1, 9)]] {
+                for lines in [[beside, &lines].concat(), [&lines, beside].concat()] {
+                    assert_eq!((rule(&open, &lines), rule(&shut, &lines)), (if over { 20 } else { 0 }, 0), "{lines:?}");
+                }
+            }
+        }
     }
 }
 
@@ -116,7 +145,7 @@ fn ask(case: &OracleCase, name: impl Fn() -> String + 'static, bytes: Vec<u8>, g
     given.count(under.time(0, 4, WORDS * 5).result)
 }
 
-/// The lines of Fork's damaged sheets: each of the two kinds twice, one of a road that another line is about.
+/// The lines of Fork's damaged sheets: each of the two kinds twice, one a delay of a road that the line before it closes.
 fn sample() -> Vec<u8> {
     sheet(&[(DELAYED, 0, 3), (CLOSED, 3, 0), (DELAYED, 3, 4_660), (CLOSED, 1, 0)])
 }

@@ -3,12 +3,11 @@
 
 mod common;
 
-use common::networks::{self, pick, Plan};
 use common::program::oracle;
-use common::reference::sheets::sheet;
-use common::sheets::{lines, SheetCase};
-use common::tables::Tables;
-use common::{networks_to_try, OracleCase};
+use common::random_sheets::{lines, never_built, Drawn, ORACLES};
+use common::reference::sheets::{delay_after_closure, sheet, DELAYED};
+use common::sheets::{Line, SheetCase};
+use common::{networks, networks_to_try, OracleCase};
 use jukesogbi::oracle::Oracle;
 use jukesogbi::sample::Random;
 use jukesogbi::{core, files};
@@ -23,6 +22,9 @@ struct Met {
     local_changed: u64,
     walk_lost: u64,
     way_changed: u64,
+    /// Pairs answered under a sheet of T-05's kind, and under one that delays a road again and does not close it.
+    delayed_after_closure: u64,
+    delayed_again: u64,
     given: [u64; 21],
 }
 
@@ -74,73 +76,52 @@ fn arguments(under: &SheetCase, n: u32, random: &mut Random, met: &mut Met) {
     }
 }
 
+/// Whether these lines delay a road twice and close it nowhere.
+fn delays_again(lines: &[Line]) -> bool {
+    let about = |road: u16| lines.iter().filter(move |line| line.1 == road);
+    lines.iter().any(|line| about(line.1).count() > 1 && about(line.1).all(|line| line.0 == DELAYED))
+}
+
 /// Several sheets over one oracle.
-fn try_sheets(plan: &Plan, case: &OracleCase, built: bool, random: &mut Random, met: &mut Met) {
-    for round in 0..4 {
-        let lines = lines(random, plan);
+fn try_sheets(drawn: Drawn, seed: u64, met: &mut Met) {
+    let Drawn { plan, oracle, built, sheets, mut random } = drawn;
+    let case = OracleCase::new(move || format!("oracle{} of seed {seed}", if built { "" } else { " never built," }), oracle);
+    for (round, lines) in sheets.into_iter().enumerate() {
         let text = lines.clone();
-        let under = SheetCase::new(case, move || format!("lines {text:?}"), sheet(&lines));
-        all_pairs(case, &under, built, met);
+        let under = SheetCase::new(&case, move || format!("lines {text:?}"), sheet(&lines));
+        let before = met.pairs;
+        all_pairs(&case, &under, built, met);
+        let answered = met.pairs - before;
+        met.delayed_after_closure += if delay_after_closure(&lines) { answered } else { 0 };
+        met.delayed_again += if delays_again(&lines) { answered } else { 0 };
         if round == 0 {
-            arguments(&under, plan.places.len() as u32, random, met);
+            arguments(&under, plan.places.len() as u32, &mut random, met);
         }
     }
 }
 
-fn assert_met(met: &Met, networks: u64) {
+fn assert_met(met: &Met) {
     println!("{met:?}");
-    if networks_to_try(networks) >= networks {
+    if networks_to_try(ORACLES) >= ORACLES {
         let often = [met.far_kept, met.far_none_kept, met.far_searched, met.local_changed, met.walk_lost, met.way_changed];
         assert!(often.iter().all(|&count| count > 2_000), "{met:?}");
+        assert!([met.delayed_after_closure, met.delayed_again].iter().all(|&count| count > 20_000), "{met:?}");
         assert!([0, 12, 14, 15, 19, 20].iter().all(|&rule: &usize| met.given[rule] > 100), "{met:?}");
     }
 }
 
 #[test]
 fn over_built_oracles() {
-    let (mut met, networks) = (Met::default(), 500);
-    for seed in 0..networks_to_try(networks) {
-        let mut random = Random(3_000_000 + seed);
-        let plan = networks::network(&mut random);
-        let g = networks::grid(&mut random);
-        let case = OracleCase::new(move || format!("oracle of seed {seed}"), oracle(&plan, g));
-        try_sheets(&plan, &case, true, &mut random, &mut met);
-    }
-    assert_met(&met, networks);
-}
-
-/// Lists and a table of random values, those of the network with other roads, or the right ones with some values replaced.
-fn never_built(random: &mut Random, plan: &Plan, g: u32) -> Vec<u8> {
-    let n = plan.places.len();
-    let mut tables = match random.below(3) {
-        0 => Tables::random(random, n),
-        1 => Tables::of(&oracle(plan, g), n),
-        _ => {
-            let mut other = plan.clone();
-            other.roads.iter_mut().filter(|_| random.once_in(3)).for_each(|road| road.2 = road.2 % 100_000 + 1);
-            other.closed = (0..plan.roads.len() as u16).filter(|_| random.once_in(5)).collect();
-            Tables::of(&oracle(&other, g), n)
-        }
-    };
-    for value in tables.values() {
-        if random.once_in(4) {
-            *value = pick(random, &[common::reference::NO_WALK, common::reference::MOST_SECONDS, 0, 7]);
-        }
-    }
-    tables.oracle(plan, g)
+    let mut met = Met::default();
+    (0..networks_to_try(ORACLES)).for_each(|seed| try_sheets(Drawn::built(seed), seed, &mut met));
+    assert_met(&met);
 }
 
 #[test]
 fn over_oracles_never_built() {
-    let (mut met, networks) = (Met::default(), 500);
-    for seed in 0..networks_to_try(networks) {
-        let mut random = Random(4_000_000 + seed);
-        let plan = networks::network(&mut random);
-        let g = networks::grid(&mut random);
-        let case = OracleCase::new(move || format!("oracle never built, of seed {seed}"), never_built(&mut random, &plan, g));
-        try_sheets(&plan, &case, false, &mut random, &mut met);
-    }
-    assert_met(&met, networks);
+    let mut met = Met::default();
+    (0..networks_to_try(ORACLES)).for_each(|seed| try_sheets(Drawn::never_built(seed), seed, &mut met));
+    assert_met(&met);
 }
 
 /// A sheet without lines changes nothing, over any oracle.

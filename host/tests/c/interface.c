@@ -130,6 +130,9 @@ static void sheets(void) {
     check(time_under(2, 5).seconds == 112 && time_under(0, PLACES - 1).kind == JUKESOGBI_LOCAL, "a delay");
     put_line(JUKESOGBI_CLOSED, 3, 0);
     check(time_under(2, 5).seconds == JUKESOGBI_NO_WALK && time_under(4, 5).seconds == 5, "a closure");
+    put_line(JUKESOGBI_DELAYED, 3, 0);
+    put_line(JUKESOGBI_DELAYED, 3, 100000);
+    check(time_under(2, 5).rule == 0 && time_under(2, 5).seconds == JUKESOGBI_NO_WALK, "a delay does not end a closure");
     check(jukesogbi_way_under(oracle, oracle_size, sheet, sheet_size, 2, 5, work, WORDS, nodes, sizeof nodes).nodes == 0, "no way");
     put_line(JUKESOGBI_CLOSED, PLACES - 1, 0);
     check(time_under(2, 5).rule == 19, "no such road");

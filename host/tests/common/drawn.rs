@@ -23,11 +23,14 @@ pub fn way(oracle: &[u8], sheet: Option<&[u8]>, s: u32, t: u32) -> Vec<u16> {
     files::numbers(&out[..2 * nodes.unwrap()])
 }
 
-/// Closures and delays of up to a fifth of the roads, some of them of one road.
+/// Closures and delays of up to a fifth of the roads, many of them of the road of the line before.
 pub fn random_sheet(oracle: &[u8], random: &mut Random) -> Vec<u8> {
     let edges = files::network(oracle).edges;
-    let mut line = |_| {
-        let road = random.below(edges.len() as u64) as u16;
+    let mut road = 0;
+    let mut line = |k: usize| {
+        if k == 0 || !random.once_in(3) {
+            road = random.below(edges.len() as u64) as u16;
+        }
         let most = (form::MAX_SECONDS - edges[road as usize].seconds).min(900) as u64;
         if random.once_in(2) { Line::Closed(road) } else { Line::Delayed(road, random.below(most + 1) as u32) }
     };

@@ -4,11 +4,14 @@
 // Each test file uses its own part of this.
 #![allow(dead_code)]
 
+pub mod computed;
 pub mod damaged;
 pub mod networks;
 pub mod program;
+pub mod random_sheets;
 pub mod reference;
 pub mod sheets;
+pub mod stored;
 pub mod tables;
 pub mod terminal;
 pub mod wages;

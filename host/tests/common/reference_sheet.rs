@@ -62,9 +62,37 @@ fn breaks_20(map: &Map, holding: &BTreeMap<usize, Line>) -> bool {
     map.roads.iter().enumerate().filter(|(_, road)| road.open).any(over)
 }
 
-/// The line that holds for each road that is named: the last about it.
-fn holding(f: &[u8]) -> BTreeMap<usize, Line> {
-    lines(f).map(|line| (line.road, line)).collect()
+// ---- Which line holds ----
+
+/// Whether a line holds over one before it that is about the same road.
+type HoldsOver = fn(&Line, &Line) -> bool;
+
+/// T-05: "any closure in a sheet holds over every delay for that road; among delays the last still holds".
+fn holds_over(line: &Line, before: &Line) -> bool {
+    line.first == CLOSED || before.first == DELAYED
+}
+
+/// T-03, until T-05: "the last line about a road holds".
+fn held_over(_: &Line, _: &Line) -> bool {
+    true
+}
+
+/// The line that holds for each road that is named.
+fn holding(f: &[u8], holds_over: HoldsOver) -> BTreeMap<usize, Line> {
+    let mut held = BTreeMap::new();
+    for line in lines(f) {
+        if held.get(&line.road).is_none_or(|before| holds_over(&line, before)) {
+            held.insert(line.road, line);
+        }
+    }
+    held
+}
+
+/// T-05: "sheets where a delay follows a closure of its road and no later line closes it". The lines as `sheet` takes them.
+pub fn delay_after_closure(lines: &[(u8, u16, u32)]) -> bool {
+    let closes = |lines: &[(u8, u16, u32)], road: u16| lines.iter().any(|line| line.0 == CLOSED && line.1 == road);
+    let is_such = |(k, line): (usize, &(u8, u16, u32))| line.0 == DELAYED && closes(&lines[..k], line.1) && !closes(&lines[k + 1..], line.1);
+    lines.iter().enumerate().any(is_such)
 }
 
 // ---- The roads as a sheet leaves them ----
@@ -87,14 +115,14 @@ fn left(map: &Map, holding: &BTreeMap<usize, Line>) -> Map {
 }
 
 /// The first of rules 18 to 20 that a sheet breaks over these roads, or the roads as it leaves them.
-fn read(f: &[u8], map: &Map) -> Result<Map, u32> {
+fn read(f: &[u8], map: &Map, holds_over: HoldsOver) -> Result<Map, u32> {
     if breaks_18(f) {
         return Err(18);
     }
     if breaks_19(f, map) {
         return Err(19);
     }
-    let holding = holding(f);
+    let holding = holding(f, holds_over);
     if breaks_20(map, &holding) {
         return Err(20);
     }
@@ -124,7 +152,16 @@ pub struct Under<'a> {
 
 impl<'a> Under<'a> {
     pub fn of(questions: &'a Questions, sheet: Vec<u8>) -> Under<'a> {
-        let read = questions.read.as_ref().map_err(|rule| *rule).and_then(|shaped| read(&sheet, &shaped.map));
+        Under::by(questions, sheet, holds_over)
+    }
+
+    /// As it was until T-05, to see what that changed.
+    pub fn former(questions: &'a Questions, sheet: Vec<u8>) -> Under<'a> {
+        Under::by(questions, sheet, held_over)
+    }
+
+    fn by(questions: &'a Questions, sheet: Vec<u8>, holds_over: HoldsOver) -> Under<'a> {
+        let read = questions.read.as_ref().map_err(|rule| *rule).and_then(|shaped| read(&sheet, &shaped.map, holds_over));
         Under { questions, sheet, read }
     }
 

@@ -1,11 +1,9 @@
-//! Time and way under a sheet, held against the reference: the calls that check the oracle, and those over an opened one. And sheets to try them on.
+//! Time and way under a sheet, held against the reference: the calls that check the oracle, and those over an opened one.
 
-use super::networks::{between, pick, Plan};
-use super::reference::sheets::{Under, CLOSED, DELAYED};
+use super::reference::sheets::Under;
 use super::reference::{Answer, Outcome};
 use super::{answer_record, route_record, same, Input, Lent, Memory, Opened, OracleCase};
 use jukesogbi::core::raw;
-use jukesogbi::sample::Random;
 
 // ---- The calls. In all of them the pointers and lengths are those of memory that lives through the call. ----
 
@@ -95,47 +93,5 @@ impl Opened<'_> {
     }
 }
 
-// ---- Sheets at random ----
-
 /// First byte, road, added seconds.
 pub type Line = (u8, u16, u32);
-
-/// A line about a road that keeps 18 and 19, and mostly 20.
-fn line(random: &mut Random, plan: &Plan, road: u16) -> Line {
-    if random.once_in(2) {
-        return (CLOSED, road, 0);
-    }
-    let most = 100_000 - plan.roads[road as usize].2;
-    let added = match random.below(12) {
-        0 => 0,
-        1 | 2 => most,
-        // Beyond what any road may take, by a second and by far. Often another line about the road holds.
-        3 if random.once_in(6) => pick(random, &[most + 1, u32::MAX, u32::MAX - 100_000]),
-        4..=6 => most.min(1 + random.below(3) as u32),
-        _ => most.min(random.below(200) as u32),
-    };
-    (DELAYED, road, added)
-}
-
-/// From no line to many more than there are roads. Few roads are named again and again, or all of them.
-pub fn lines(random: &mut Random, plan: &Plan) -> Vec<Line> {
-    let roads = plan.roads.len();
-    if roads == 0 {
-        return if random.once_in(4) { vec![(CLOSED, 0, 0)] } else { Vec::new() };
-    }
-    let count = pick(random, &[0, 1, 1, 2, 3, roads / 2, roads, 3 * roads]);
-    let named = if random.once_in(2) { roads } else { roads.min(3) };
-    let from = between(random, 0, (roads - named) as i64) as usize;
-    let mut lines: Vec<Line> = (0..count)
-        .map(|_| {
-            let road = (from + random.below(named as u64) as usize) as u16;
-            line(random, plan, road)
-        })
-        .collect();
-    // Now and then a line that names no road.
-    if !lines.is_empty() && random.once_in(12) {
-        let at = random.below(lines.len() as u64) as usize;
-        lines[at].1 = pick(random, &[roads as u16, roads as u16 + 1, 16_384, u16::MAX]);
-    }
-    lines
-}

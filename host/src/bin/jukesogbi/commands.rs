@@ -40,7 +40,9 @@ const LINES: &str = "TEXT has a line for each closure and each delay, and nothin
   closed ROAD            nothing drives road ROAD
   delayed ROAD SECONDS   road ROAD takes SECONDS more
 ROAD is a number from 0 to 65535, counted from 0 in the order of the network, and SECONDS one from 0 to 4294967295.
-The last line about a road holds. A road that the network has closed stays closed. Whether the roads are there is seen when the sheet is used.
+A closure holds over every delay of its road, wherever it stands, and among delays the last holds. A road that the network has closed stays closed.
+Where the last line about a closed road is a delay, standard error tells that the road stays closed: a closure ends where its lines are taken out.
+Whether the roads are there is seen when the sheet is used.
 A line of another form, or one longer than 4096 bytes, ends the command with its number and status 2, and nothing is written.";
 
 /// How a wages sheet is entered.

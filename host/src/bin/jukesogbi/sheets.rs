@@ -3,6 +3,7 @@
 use crate::args::Call;
 use crate::input::{self, Input};
 use crate::lines::{shown, Line, Lines, LONGEST};
+use crate::output::complain;
 use crate::stop::{fault, Done};
 use jukesogbi::files::Kind;
 use jukesogbi::sheet::{self, Sheet};
@@ -16,7 +17,20 @@ pub fn make(call: &mut Call) -> Done {
     };
     let count = |is: fn(&sheet::Line) -> bool| sheet::lines(sheet.bytes()).filter(is).count();
     let (all, closed) = (count(|_| true), count(|line| matches!(line, sheet::Line::Closed(_))));
-    call.deliver(1, sheet.bytes(), &format!("sheet of {all} lines, {closed} closed, {} delayed", all - closed))
+    call.deliver(1, sheet.bytes(), &format!("sheet of {all} lines, {closed} closed, {} delayed", all - closed))?;
+    note(&sheet::closed_then_delayed(sheet::lines(sheet.bytes()))).into_iter().for_each(complain);
+    Ok(())
+}
+
+/// A word on closures that a delay was perhaps meant to end.
+fn note(roads: &[u16]) -> Option<String> {
+    let (first, more) = roads.split_first()?;
+    let others = match more.len() {
+        0 => String::new(),
+        1 => " (and 1 more road)".to_string(),
+        count => format!(" (and {count} more roads)"),
+    };
+    Some(format!("road {first} stays closed{others}: a delay does not end a closure"))
 }
 
 /// The sheet of a text, or the number of a line and what is wrong with it.
