@@ -166,7 +166,8 @@ module _ {ls : List Line} {i : ℕ} (r : Reopened ls i) where
 
 -- ---- the calls
 
-pub time-by : {o sheet : Bytes} {s t : ℕ} {work work′ : List ℕ} {a : Answer} → TimeUnderCall o sheet s t work a work′ ↔ TimeBy (effects sheet) o sheet s t work a work′
+pub time-by : {o sheet : Bytes} {s t : ℕ} {work work′ : List ℕ} {a : Answer}
+    → TimeUnderCall o sheet s t work a work′ ↔ TimeBy (effects sheet) o sheet s t work a work′
 unfolding timeUnderRefusal timeUnderResult timeUnderRules pairUnderRules sheetRules timeRefusalBy timeRulesBy
 time-by = (λ c. record { result = c .result; words = c .words }, λ c. record { result = c .result; words = c .words })
 
@@ -184,7 +185,8 @@ module _ (o sheet : Bytes) (other : Reopening sheet → ⊥) (s t : ℕ) {work w
   pub same-time : {a b : Answer} → TimeUnderCall o sheet s t work a work′ → TimeBy (formerly sheet) o sheet s t work b former-work
       → (a ≡ b) × (work′ ≡ former-work)
   same-time {a} {b} call old =
-      let c : TimeBy (formerly sheet) o sheet s t work a work′ = subst (λ (e : ℕ → Effect). TimeBy e o sheet s t work a work′) (same-rule sheet other) (time-by .0 call) in
+      let c : TimeBy (formerly sheet) o sheet s t work a work′ =
+      subst (λ (e : ℕ → Effect). TimeBy e o sheet s t work a work′) (same-rule sheet other) (time-by .0 call) in
       (meaning-injective a b (c .result ∙ sym (old .result)), c .words ∙ sym (old .words))
 
   pub same-way : {out out′ former-out : Bytes} {r former-r : Route} → WayUnderCall o sheet s t work out r work′ out′
