@@ -67,11 +67,11 @@ last-of {ls} {i} {l} h x = ap (lastEffect x) lines ∙ last-parts x (about (h .b
     lines = rw (h .all) (about-append i (h .before) (l ∷ h .after) ∙ ap (λ r. about (h .before) i ++ r) this)
 
 -- Whether some line closes the edge.
-pub some-closes : {ls : List Line} {i : ℕ} {l : Line} → List·Memᴰ l ls → l .edge ≡ i → closes l ≡ true → any closes (about ls i) ≡ true
+some-closes : {ls : List Line} {i : ℕ} {l : Line} → List·Memᴰ l ls → l .edge ≡ i → closes l ≡ true → any closes (about ls i) ≡ true
 unfolding about isAbout
 some-closes {ls} {i} {l} m e h = →any closes (about ls i) (→filter (isAbout i) ls m (eq-eqb (l .edge) i e)) h
 
-pub none-closes : {ls : List Line} {i : ℕ} → NoneCloses ls i → any closes (about ls i) ≡ false
+none-closes : {ls : List Line} {i : ℕ} → NoneCloses ls i → any closes (about ls i) ≡ false
 none-closes {ls} {i} h = refuted (λ e. found (any→ closes (about ls i) e))
   where
     found : (k : Line) × List·Memᴰ k (about ls i) × (closes k ≡ true) → ⊥
