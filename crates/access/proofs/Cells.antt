@@ -7,13 +7,13 @@ use mathlib.Core.Bool.{true}
 use mathlib.Core.List.{List, List·Memᴰ}
 use lib.ListN.{drop}
 use Rattle.model.specs.Lists.{member}
-use Rattle.model.specs.Bytes.{Bytes, words16}
+use Rattle.model.specs.Bytes.{Bytes}
 use Rattle.model.specs.Network.{Edge, Network, nodeCount, order, arcs, distance}
 use Rattle.model.specs.Grid as model
 use Rattle.model.specs.Access.{crossings, between, accessNodes}
 use Rattle.theory.specs.Members.{any→, →any}
 use Rattle.theory.specs.Members as lists
-use Rattle.theory.specs.Sound.{open-fine}
+use Rattle.theory.specs.Sound.{each-fine}
 use Rattle.theory.specs.AccessLaws.{between-walks, crossing-node}
 use Rattle.bitset.specs.Bits.{flags}
 use Rattle.arcs.specs.Arcs.{arcsIn}
@@ -37,9 +37,9 @@ use Rattle.words.proofs.Stays.{after-kept}
 use Rattle.index.proofs.Laid.{roads-only}
 
 -- The index stays where the starts are put into x, and the goals into y.
-pub roads-crossed : (edges closed : Bytes) (n : ℕ) (w x y : List ℕ) → Only n own w x → Only n want x y → IndexedEdges edges closed n w
-    → IndexedEdges edges closed n y
-roads-crossed edges closed n w x y o q r = roads-only edges closed n x y _ _ (omega arith) q (roads-only edges closed n w x _ _ (omega arith) o r)
+pub roads-crossed : (edges : Bytes) (n : ℕ) (w x y : List ℕ) → Only n own w x → Only n want x y → IndexedEdges edges n w
+    → IndexedEdges edges n y
+roads-crossed edges n w x y o q r = roads-only edges n x y _ _ (omega arith) q (roads-only edges n w x _ _ (omega arith) o r)
 
 -- ---- which nodes are flagged as members
 module _ (n : ℕ) (l : List ℕ) (v : ℕ) where
@@ -51,21 +51,21 @@ module _ (n : ℕ) (l : List ℕ) (v : ℕ) where
   unfolding memberFlags
   →listed h m = →flagged (λ u. member u l) n v h (lists.→member v l m)
 
-module _ (b e c : Bytes) (grid : Grid) (ground : Ground b e c grid) (n : ℕ) (size : n ≡ nodeCount b) where
+module _ (b e : Bytes) (grid : Grid) (ground : Ground b e grid) (n : ℕ) (size : n ≡ nodeCount b) where
   abbrev net : Network
-  net = networkIn b e c
+  net = networkIn b e
 
   abbrev cs : List model.Cell
   cs = cellsIn grid b
 
   count : order net ≡ n
-  count = count-order b n size e c
+  count = count-order b n size e
 
   ends : (x : Edge) → List·Memᴰ x (net .edges) → (x .first < order net) × (x .second < order net)
-  ends x m = let f = open-fine (nodeCount b) e (words16 c) (ground .edges-rule) x m in
+  ends x m = let f = each-fine (nodeCount b) e (ground .edges-rule) x m in
       (omega (arith, f .first-in, count, size), omega (arith, f .second-in, count, size))
 
-  same-arcs : arcs net ≡ arcsIn e c
+  same-arcs : arcs net ≡ arcsIn e
   unfolding arcs arcsIn
   same-arcs = refl
 
@@ -110,7 +110,7 @@ module _ (b e c : Bytes) (grid : Grid) (ground : Ground b e c grid) (n : ℕ) (s
         (between-walks net ends (g .p) (g .on .q) v (rw count (p .0)) (rw count h) .1
         (record { i = g .on .x; j = g .on .y; before = g .on .before; after = g .on .after; whole = g .on .whole })))
 
-    gathered-flags : (s : List ℕ) → ((v : ℕ) → Flagged (flags n s) v ↔ Gathered (arcsIn e c) (memberFlags n ps) (memberFlags n qs) v)
+    gathered-flags : (s : List ℕ) → ((v : ℕ) → Flagged (flags n s) v ↔ Gathered (arcsIn e) (memberFlags n ps) (memberFlags n qs) v)
         → flags n s ≡ testFlags (through (distance net) ps qs) n
     gathered-flags s k =
         let k′ = rw (← same-arcs) at k in
@@ -121,11 +121,11 @@ module _ (b e c : Bytes) (grid : Grid) (ground : Ground b e c grid) (n : ℕ) (s
     pub starts-two : (x y : List ℕ) → regionFlags n own x ≡ memberFlags n ps → Only n want x y → NotAlone n own y
     starts-two x y f q v i =
         let s : Flagged (memberFlags n ps) v = rw (flags-kept n own want x y (λ i. omega arith) q ∙ f) at i in
-        omega (arith, size, crossing-two (nodeCount b) e c (ground .edges-rule) cs 0 cell (listed→ n ps v s .1))
+        omega (arith, size, crossing-two (nodeCount b) e (ground .edges-rule) cs 0 cell (listed→ n ps v s .1))
 
     -- From the words w, with the starts put into x, the goals into y, and gathered into z.
     pub gathered-cell : (w x y z : List ℕ) → regionFlags n own x ≡ memberFlags n ps → Only n own w x → regionFlags n want y ≡ memberFlags n qs → Only n want x y
-        → ((v : ℕ) → Flagged (regionFlags n gathered z) v ↔ Gathered (arcsIn e c) (regionFlags n own y) (regionFlags n want y) v) → KeptStarts n y z
+        → ((v : ℕ) → Flagged (regionFlags n gathered z) v ↔ Gathered (arcsIn e) (regionFlags n own y) (regionFlags n want y) v) → KeptStarts n y z
         → (regionFlags n gathered z ≡ testFlags (through (distance net) ps qs) n) × (KeptFrom (regionAt n transit) w z)
     gathered-cell w x y z f o g q k r =
         let f′ : regionFlags n own y ≡ memberFlags n ps = flags-kept n own want x y (λ i. omega arith) q ∙ f in (

@@ -99,8 +99,8 @@ module _ (arcs : List Arc) (n : ℕ) (w₀ : List ℕ) where
     pub wanted-left : (left : ℕ) → left ≡ ones (regionFlags n want w₀) → ones (regionFlags n want w) ≤ left
     wanted-left left e = omega (arith, ap ones (g .others .wanted), e)
 
-    pub roads-gathering : (edges closed : Bytes) → IndexedEdges edges closed n w₀ → IndexedEdges edges closed n w
-    roads-gathering edges closed r = roads-from edges closed n w₀ w (regionAt n transit) (omega arith) (g .others .rest) r
+    pub roads-gathering : (edges : Bytes) → IndexedEdges edges n w₀ → IndexedEdges edges n w
+    roads-gathering edges r = roads-from edges n w₀ w (regionAt n transit) (omega arith) (g .others .rest) r
 
     -- The starts are not alone still.
     pub alone-gathering : (w₁ : List ℕ) → Only n gathered w₁ w₀ → NotAlone n own w₁ → NotAlone n own w

@@ -1,4 +1,4 @@
--- The crossing nodes of a square, by the open edges at the nodes inside it. Assumes nothing.
+-- The crossing nodes of a square, by the edges at the nodes inside it. Assumes nothing.
 use Prim.Native.Nat.{ℕ, _+_, _≤_, _<_}
 use native.Mathlib.Omega.{arith}
 use native.Mathlib.Decide.{ℕ-discrete}
@@ -8,9 +8,10 @@ use mathlib.Core.Bool.{Bool, true, false, cond, false≢true}
 use mathlib.Core.List.{List, [], _∷_, _++_, List·Memᴰ, List·Memᴰ·not-nil}
 use lib.ListN.{length, set, drop, replicate}
 use lib.Seq.{getD-set-same, getD-set-other}
-use Rattle.model.specs.Lists.{filter, upTo}
-use Rattle.model.specs.Bytes.{Bytes, words16}
-use Rattle.model.specs.Network.{node, nodeCount, edge, edgeCount, isOpen, openEdges, someEdgeBroken}
+use Rattle.model.specs.Lists.{upTo}
+use Rattle.model.specs.Bytes.{Bytes}
+use Rattle.model.specs.Network as net
+use Rattle.model.specs.Network.{node, nodeCount, edge, edgeCount, someEdgeBroken}
 use Rattle.model.specs.Grid as model
 use Rattle.model.specs.Access.{crossingEnd, crosses, crossings}
 use Rattle.theory.specs.Transit.{one-of}
@@ -24,11 +25,11 @@ use Rattle.bitset.proofs.Members.{length-flags}
 use Rattle.grid.specs.Squares.{SquareOf, reachesNode}
 use Rattle.grid.specs.declared.Grid.{Grid}
 use Rattle.grid.specs.declared.square.Square.{Square}
-use Rattle.index.specs.Index.{OpenAt, IndexedEdges}
+use Rattle.index.specs.Index.{Incident, IndexedEdges}
 use Rattle.index.proofs.Laid.{roads-only}
 use Rattle.crossing.specs.Sets.{memberFlags}
 use Rattle.crossing.specs.SetLaws.{flags-test, test-flags-same}
-use Rattle.crossing.specs.Ground.{cellsIn, openIn, Ground}
+use Rattle.crossing.specs.Ground.{cellsIn, edgesIn, Ground}
 use Rattle.crossing.specs.Beside.{crossesSquare}
 use Rattle.crossing.proofs.Crossed.{crosses-same}
 use Rattle.marks.specs.Due.{Flagged}
@@ -64,15 +65,15 @@ module _ (l : List ℕ) (v : ℕ) where
       pick (no d) = inl (omega (arith, getD-set-other l v x 1 0 d))
 
 -- Edge j is open and has an end below v that lies inside the square.
-pub record Inside (nodes edges closed : Bytes) (s : Square) (v j : ℕ) : Type 0 where
+pub record Inside (nodes edges : Bytes) (s : Square) (v j : ℕ) : Type 0 where
   pub u : ℕ
   pub below : u < v
-  pub real : OpenAt edges closed u j
+  pub real : Incident edges u j
   pub inside : reachesNode s (node nodes u) ≡ true
 
-module _ (nodes edges closed : Bytes) (s : Square) (n k : ℕ) where
+module _ (nodes edges : Bytes) (s : Square) (n k : ℕ) where
   abbrev PutOf : (ℕ → Type 0) → List ℕ → List ℕ → Type 0
-  PutOf of w w′ = Put nodes edges closed s of n k w w′
+  PutOf of w w′ = Put nodes edges s of n k w w′
 
   -- ---- of no edge, of fewer edges, of these and then of those
   put-none : (of : ℕ → Type 0) (w : List ℕ) → ((j : ℕ) → of j → ⊥) → PutOf of w w
@@ -90,7 +91,7 @@ module _ (nodes edges closed : Bytes) (s : Square) (n k : ℕ) where
   }
 
   -- ---- one edge
-  put-one : (u i : ℕ) (w w′ : List ℕ) → OpenAt edges closed u i → crossingEnd (edge edges i) < n → Only n k w w′
+  put-one : (u i : ℕ) (w w′ : List ℕ) → Incident edges u i → crossingEnd (edge edges i) < n → Only n k w w′
       → regionFlags n k w′ ≡ cond (crossesSquare nodes s (edge edges i)) (set (regionFlags n k w) (crossingEnd (edge edges i)) 1) (regionFlags n k w)
       → PutOf (λ j. j ≡ i) w w′
   put-one u i w w′ o l q e = pick (crossesSquare nodes s (edge edges i)) refl
@@ -116,14 +117,14 @@ module _ (nodes edges closed : Bytes) (s : Square) (n k : ℕ) where
                 (false≢true (sym c ∙ ap (λ (z : ℕ). crossesSquare nodes s (edge edges z)) (sym t) ∙ d));
           }
 
-  -- ---- the open edges at v, as a cursor passes them
+  -- ---- the edges at v, as a cursor passes them
   pub record Walked (v : ℕ) (w₀ : List ℕ) (c : Cursor) (w : List ℕ) : Type 0 where
     pub done : List ℕ
-    pub passing : PassedEdges edges closed n w v done c
+    pub passing : PassedEdges edges n w v done c
     pub put : PutOf (λ j. List·Memᴰ j done) w₀ w
 
   module _ (v : ℕ) (w₀ : List ℕ) where
-    pub walked-first : (c : Cursor) → PassedEdges edges closed n w₀ v [] c → Walked v w₀ c w₀
+    pub walked-first : (c : Cursor) → PassedEdges edges n w₀ v [] c → Walked v w₀ c w₀
     walked-first c p = record { done = []; passing = p; put = put-none _ w₀ (λ j m. List·Memᴰ·not-nil m) }
 
     module _ (c : Cursor) (w : List ℕ) (g : Walked v w₀ c w) where
@@ -133,103 +134,101 @@ module _ (nodes edges closed : Bytes) (s : Square) (n k : ℕ) where
           index-same : KeptFrom (indexAt n) w w′
           index-same = kept-more _ (indexAt n) w w′ h (o .back)
 
-          pub walked-valid : Valid edges closed n w′ v c
-          walked-valid = valid-kept edges closed n w w′ index-same v c (g .passing .valid)
+          pub walked-valid : Valid edges n w′ v c
+          walked-valid = valid-kept edges n w w′ index-same v c (g .passing .valid)
 
-          pub walked-roads : IndexedEdges edges closed n w₀ → IndexedEdges edges closed n w′
-          walked-roads r = roads-only edges closed n w₀ w′ _ _ h (only-then _ _ w₀ w w′ (g .put .others) o) r
+          pub walked-roads : IndexedEdges edges n w₀ → IndexedEdges edges n w′
+          walked-roads r = roads-only edges n w₀ w′ _ _ h (only-then _ _ w₀ w w′ (g .put .others) o) r
 
           pub walked-next : someEdgeBroken n edges ≡ false → c .edge < edgeCount edges
               → regionFlags n k w′ ≡ cond (crossesSquare nodes s (edge edges (c .edge))) (set (regionFlags n k w) (crossingEnd (edge edges (c .edge))) 1)
               (regionFlags n k w)
-              → (c′ : Cursor) → Stepped edges closed n w′ v c c′ → Walked v w₀ c′ w′
+              → (c′ : Cursor) → Stepped edges n w′ v c c′ → Walked v w₀ c′ w′
           unfolding crossingEnd
           walked-next ends l e c′ t =
               let fine = edge-fine n edges ends (c .edge) l in
               let one = put-one v (c .edge) w w′ (g .passing .valid .here l) (omega (arith, fine .first-in)) o e in
               record {
                 done = g .done ++ c .edge ∷ [];
-                passing = t .passing (g .done) (passing-kept edges closed n w w′ index-same v c (g .done) (g .passing));
+                passing = t .passing (g .done) (passing-kept edges n w w′ index-same v c (g .done) (g .passing));
                 put = put-less _ _ w₀ w′ (λ j m d. mem-split j (c .edge) (g .done) m) (put-then _ _ w₀ w w′ (g .put) one);
               }
 
-      pub walked-last : edgeCount edges ≤ c .edge → PutOf (OpenAt edges closed v) w₀ w
-      walked-last h = put-less _ _ w₀ w (λ j o d. passing-all edges closed v (g .done) n w c h (g .passing) .full j o) (g .put)
+      pub walked-last : edgeCount edges ≤ c .edge → PutOf (Incident edges v) w₀ w
+      walked-last h = put-less _ _ w₀ w (λ j o d. passing-all edges v (g .done) n w c h (g .passing) .full j o) (g .put)
 
   -- ---- the nodes below v
   module _ (w₀ : List ℕ) where
-    pub inside-first : PutOf (Inside nodes edges closed s 0) w₀ w₀
+    pub inside-first : PutOf (Inside nodes edges s 0) w₀ w₀
     inside-first = put-none _ w₀ (λ j i. absurd (omega (arith, i .below)))
 
-    module _ (v : ℕ) (w : List ℕ) (p : PutOf (Inside nodes edges closed s v) w₀ w) where
-      pub inside-next : (w′ : List ℕ) → PutOf (OpenAt edges closed v) w w′ → PutOf (Inside nodes edges closed s (v + 1)) w₀ w′
+    module _ (v : ℕ) (w : List ℕ) (p : PutOf (Inside nodes edges s v) w₀ w) where
+      pub inside-next : (w′ : List ℕ) → PutOf (Incident edges v) w w′ → PutOf (Inside nodes edges s (v + 1)) w₀ w′
       inside-next w′ q = put-less _ _ w₀ w′ (λ j i d. pick j i (ℕ-discrete (i .u) v)) (put-then _ _ w₀ w w′ p q)
         where
-          pick : (j : ℕ) (i : Inside nodes edges closed s (v + 1) j) → Dec (i .u ≡ v) → Inside nodes edges closed s v j ⊎ OpenAt edges closed v j
-          pick j i (yes e) = inr (subst (λ (z : ℕ). OpenAt edges closed z j) e (i .real))
+          pick : (j : ℕ) (i : Inside nodes edges s (v + 1) j) → Dec (i .u ≡ v) → Inside nodes edges s v j ⊎ Incident edges v j
+          pick j i (yes e) = inr (subst (λ (z : ℕ). Incident edges z j) e (i .real))
           pick j i (no d) = inl (record { u = i .u; below = omega (arith, i .below, d); real = i .real; inside = i .inside })
 
-      pub outside-next : false ≡ reachesNode s (node nodes v) → PutOf (Inside nodes edges closed s (v + 1)) w₀ w
+      pub outside-next : false ≡ reachesNode s (node nodes v) → PutOf (Inside nodes edges s (v + 1)) w₀ w
       outside-next f = put-less _ _ w₀ w (λ j i d. pick j i (ℕ-discrete (i .u) v)) p
         where
-          pick : (j : ℕ) (i : Inside nodes edges closed s (v + 1) j) → Dec (i .u ≡ v) → Inside nodes edges closed s v j
+          pick : (j : ℕ) (i : Inside nodes edges s (v + 1) j) → Dec (i .u ≡ v) → Inside nodes edges s v j
           pick j i (yes e) = absurd (false≢true (f ∙ ap (λ (z : ℕ). reachesNode s (node nodes z)) (sym e) ∙ i .inside))
           pick j i (no d) = record { u = i .u; below = omega (arith, i .below, d); real = i .real; inside = i .inside }
 
 -- ---- at the end
-module _ {nodes edges closed : Bytes} {grid : Grid} (ground : Ground nodes edges closed grid) (r : ℕ) (c : model.Cell) (s : Square) (q : SquareOf grid c r s)
+module _ {nodes edges : Bytes} {grid : Grid} (ground : Ground nodes edges grid) (r : ℕ) (c : model.Cell) (s : Square) (q : SquareOf grid c r s)
     (n : ℕ) (size : n ≡ nodeCount nodes) where
   same : (j : ℕ) → j < edgeCount edges → crossesSquare nodes s (edge edges j) ≡ crosses (cellsIn grid nodes) r c (edge edges j)
   same j h = let f = edge-fine (nodeCount nodes) edges (ground .edges-rule) j h in crosses-same (ground .over) r c s q (edge edges j) (f .first-in)
       (f .second-in)
 
-  listed : (x : ℕ) → CrossingOf nodes edges closed s x → List·Memᴰ x (crossings (cellsIn grid nodes) (openIn edges closed) r c)
-  unfolding crossings openEdges
+  listed : (x : ℕ) → CrossingOf nodes edges s x → List·Memᴰ x (crossings (cellsIn grid nodes) (edgesIn edges) r c)
+  unfolding crossings net.edges
   listed x o =
-      let e = →map (edge edges) (filter (isOpen (words16 closed)) (upTo (edgeCount edges)))
-      (→filter (isOpen (words16 closed)) (upTo (edgeCount edges)) (→upTo (edgeCount edges) (o .j) (o .real .below)) (o .real .unclosed)) in
-      let m = →map crossingEnd _ (→filter (crosses (cellsIn grid nodes) r c) (openIn edges closed) e (sym (same (o .j) (o .real .below)) ∙ o .crosses)) in
-      subst (λ (z : ℕ). List·Memᴰ z (crossings (cellsIn grid nodes) (openIn edges closed) r c)) (sym (o .end)) m
+      let e = →map (edge edges) (upTo (edgeCount edges)) (→upTo (edgeCount edges) (o .j) (o .real .below)) in
+      let m = →map crossingEnd _ (→filter (crosses (cellsIn grid nodes) r c) (edgesIn edges) e (sym (same (o .j) (o .real .below)) ∙ o .crosses)) in
+      subst (λ (z : ℕ). List·Memᴰ z (crossings (cellsIn grid nodes) (edgesIn edges) r c)) (sym (o .end)) m
 
   -- An edge that crosses has an end inside.
-  end-inside : (j : ℕ) → j < edgeCount edges → isOpen (words16 closed) j ≡ true → crossesSquare nodes s (edge edges j) ≡ true → (v : ℕ) → n ≤ v
-      → Inside nodes edges closed s v j
+  end-inside : (j : ℕ) → j < edgeCount edges → crossesSquare nodes s (edge edges j) ≡ true → (v : ℕ) → n ≤ v
+      → Inside nodes edges s v j
   unfolding crossesSquare
-  end-inside j h o e v l =
+  end-inside j h e v l =
       let f = edge-fine (nodeCount nodes) edges (ground .edges-rule) j h in
       ⊎-elim
       (λ i. record {
         u = edge edges j .first;
         below = omega (arith, f .first-in, size, l);
-        real = record { below = h; unclosed = o; end = inl refl };
+        real = record { below = h; end = inl refl };
         inside = i;
       })
       (λ i. record {
         u = edge edges j .second;
         below = omega (arith, f .second-in, size, l);
-        real = record { below = h; unclosed = o; end = inr refl };
+        real = record { below = h; end = inr refl };
         inside =
             i;
       })
       (one-of _ _ e)
 
   module _ (k : ℕ) (x : List ℕ) (z : regionFlags n k x ≡ replicate n 0) (v : ℕ) (l : n ≤ v) (y : List ℕ)
-      (p : Put nodes edges closed s (Inside nodes edges closed s v) n k x y) where
-    found : (a : ℕ) → List·Memᴰ a (crossings (cellsIn grid nodes) (openIn edges closed) r c) → Flagged (regionFlags n k y) a
-    unfolding crossings openEdges
+      (p : Put nodes edges s (Inside nodes edges s v) n k x y) where
+    found : (a : ℕ) → List·Memᴰ a (crossings (cellsIn grid nodes) (edgesIn edges) r c) → Flagged (regionFlags n k y) a
+    unfolding crossings net.edges
     found a m =
         let (e, i, t) = map→ crossingEnd _ m in
-        let (f, b) = filter→ (crosses (cellsIn grid nodes) r c) (openIn edges closed) i in
-        let (j, d, g) = map→ (edge edges) (filter (isOpen (words16 closed)) (upTo (edgeCount edges))) f in
-        let (u, o) = filter→ (isOpen (words16 closed)) (upTo (edgeCount edges)) d in
+        let (f, b) = filter→ (crosses (cellsIn grid nodes) r c) (edgesIn edges) i in
+        let (j, u, g) = map→ (edge edges) (upTo (edgeCount edges)) f in
         let h : j < edgeCount edges = omega (arith, range→ 0 (edgeCount edges) j u) in
         let over : crossesSquare nodes s (edge edges j) ≡ true = same j h ∙ ap (crosses (cellsIn grid nodes) r c) (sym g) ∙ b in
-        subst (λ (b : ℕ). Flagged (regionFlags n k y) b) (sym (t ∙ ap crossingEnd g)) (p .full j (end-inside j h o over v l) over)
+        subst (λ (b : ℕ). Flagged (regionFlags n k y) b) (sym (t ∙ ap crossingEnd g)) (p .full j (end-inside j h over v l) over)
 
-    real : (a : ℕ) → Flagged (regionFlags n k y) a → List·Memᴰ a (crossings (cellsIn grid nodes) (openIn edges closed) r c)
+    real : (a : ℕ) → Flagged (regionFlags n k y) a → List·Memᴰ a (crossings (cellsIn grid nodes) (edgesIn edges) r c)
     real a f = ⊎-elim (λ g. let b : Flagged (replicate n 0) a = rw z at g in absurd (omega (arith, blank n a))) (λ o. listed a o) (p .real a f)
 
-    pub crossings-put : regionFlags n k y ≡ memberFlags n (crossings (cellsIn grid nodes) (openIn edges closed) r c)
+    pub crossings-put : regionFlags n k y ≡ memberFlags n (crossings (cellsIn grid nodes) (edgesIn edges) r c)
     unfolding memberFlags
     crossings-put =
         flags-test n (drop (regionAt n k) y) ∙ test-flags-same _ _ n (λ a h. same-test

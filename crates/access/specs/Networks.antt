@@ -1,4 +1,4 @@
--- The network of the bodies of the nodes, the edges and the closed edges; how many nodes and cells there are. Assumes nothing.
+-- The network of the bodies of the nodes and the edges; how many nodes and cells there are. Assumes nothing.
 use Prim.Native.Nat.{ℕ}
 use mathlib.Core.Path.{_≡_, sym, _∙_}
 use mathlib.Core.List.{[]}
@@ -9,16 +9,16 @@ use Rattle.model.specs.Network.{Network, node, nodes, nodeCount, order}
 use Rattle.model.specs.Grid.{cells}
 use Rattle.theory.specs.RangeLaws.{length-range}
 use Rattle.grid.specs.declared.Grid.{Grid}
-use Rattle.crossing.specs.Ground.{cellsIn, openIn}
+use Rattle.crossing.specs.Ground.{cellsIn, edgesIn}
 
-abbrev pub networkIn : Bytes → Bytes → Bytes → Network
-networkIn b edges closed = record { nodes = nodes b; edges = openIn edges closed }
+abbrev pub networkIn : Bytes → Bytes → Network
+networkIn b edges = record { nodes = nodes b; edges = edgesIn edges }
 
 module _ (b : Bytes) (n : ℕ) (size : n ≡ nodeCount b) where
-  pub count-order : (edges closed : Bytes) → order (networkIn b edges closed) ≡ n
+  pub count-order : (edges : Bytes) → order (networkIn b edges) ≡ n
   unfolding order nodes
-  count-order edges closed = length-map (upTo (nodeCount b)) (node b) ∙ (length-range 0 (nodeCount b) ∙ sym size)
+  count-order edges = length-map (upTo (nodeCount b)) (node b) ∙ (length-range 0 (nodeCount b) ∙ sym size)
 
   pub count-cells : (grid : Grid) → length (cellsIn grid b) ≡ n
   unfolding cells order
-  count-cells grid = length-map (nodes b) _ ∙ count-order [] []
+  count-cells grid = length-map (nodes b) _ ∙ count-order []

@@ -4,13 +4,13 @@ use native.Mathlib.Omega.{arith}
 use mathlib.Core.Path.{_≡_}
 use mathlib.Core.Bool.{false}
 use mathlib.Core.List.{List, List·Memᴰ}
-use Rattle.model.specs.Bytes.{Bytes, words16}
+use Rattle.model.specs.Bytes.{Bytes}
 use Rattle.model.specs.Network.{someEdgeBroken}
 use Rattle.model.specs.Grid.{Cell}
 use Rattle.model.specs.Access.{crossingEnd, crosses, crossings}
 use Rattle.theory.specs.Members.{map→, filter→}
-use Rattle.theory.specs.Sound.{open-fine}
-use Rattle.crossing.specs.Ground.{openIn}
+use Rattle.theory.specs.Sound.{each-fine}
+use Rattle.crossing.specs.Ground.{edgesIn}
 use Rattle.marks.specs.Due.{Flagged}
 use Rattle.words.specs.Regions.{regionFlags}
 
@@ -19,10 +19,10 @@ abbrev pub NotAlone : ℕ → ℕ → List ℕ → Type 0
 NotAlone n k work = (v : ℕ) → Flagged (regionFlags n k work) v → 2 ≤ n
 
 -- The edge of a crossing node has two ends.
-pub crossing-two : (n : ℕ) (edges closed : Bytes) → someEdgeBroken n edges ≡ false → (cs : List Cell) (r : ℕ) (c : Cell) {x : ℕ}
-    → List·Memᴰ x (crossings cs (openIn edges closed) r c) → 2 ≤ n
+pub crossing-two : (n : ℕ) (edges : Bytes) → someEdgeBroken n edges ≡ false → (cs : List Cell) (r : ℕ) (c : Cell) {x : ℕ}
+    → List·Memᴰ x (crossings cs (edgesIn edges) r c) → 2 ≤ n
 unfolding crossings
-crossing-two n edges closed ok cs r c m =
+crossing-two n edges ok cs r c m =
     let e = map→ crossingEnd _ m in
-    let f = open-fine n edges (words16 closed) ok (e .0) (filter→ (crosses cs r c) (openIn edges closed) (e .1) .0) in
+    let f = each-fine n edges ok (e .0) (filter→ (crosses cs r c) (edgesIn edges) (e .1) .0) in
     omega (arith, f .first-in, f .second-in, f .apart)

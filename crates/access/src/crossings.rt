@@ -7,7 +7,7 @@ ghost use lib.ListN.{length, set};
 ghost use Rattle.model.specs.Network.{maxNodes, edge, edgeCount, nodeCount, someEdgeBroken};
 ghost use Rattle.model.specs.Access.{crossingEnd};
 ghost use Rattle.bitset.specs.Bits.{setWords};
-ghost use Rattle.index.specs.Index.{OpenAt, IndexedEdges};
+ghost use Rattle.index.specs.Index.{Incident, IndexedEdges};
 ghost use Rattle.crossing.specs.Beside.{crossesSquare};
 ghost use Rattle.words.specs.Regions.{regionAt, regionFlags, indexAt};
 ghost use Rattle.access.specs.Crossed.{Put, CrossingsOf};
@@ -42,11 +42,10 @@ fn put_crossing(
     }
 }
 
-// The same for the open edges at v.
+// The same for the edges at v.
 fn put_crossings_at(
     nodes: &[u8],
     edges: &[u8],
-    closed: &[u8],
     square: Square,
     v: usize,
     n: usize,
@@ -54,15 +53,15 @@ fn put_crossings_at(
     work: &mut [u32],
 )
     requires { ⌜ (n ≡ nodeCount (now nodes)) × (n ≤ maxNodes) × Enough n (now work) × (v < n) × (regionAt n k + setWords n ≤ indexAt n) ⌝ }
-    requires { ⌜ IndexedEdges (now edges) (now closed) n (now work) ⌝ }
-    ensures { λ _. ⌜ Put (now (nodes .entry)) (now (edges .entry)) (now (closed .entry)) square (OpenAt (now (edges .entry)) (now (closed .entry)) v) n k
+    requires { ⌜ IndexedEdges (now edges) n (now work) ⌝ }
+    ensures { λ _. ⌜ Put (now (nodes .entry)) (now (edges .entry)) square (Incident (now (edges .entry)) v) n k
         (now (work .entry)) (now (work .exit)) ⌝ }
 {
     let m = edges.len() / EDGE_SIZE;
-    let mut c = first_edge(edges, closed, n, work, v);
+    let mut c = first_edge(edges, n, work, v);
     while c.edge < m {
         put_crossing(nodes, edges, square, c.edge, n, k, work);
-        c = next_edge(edges, closed, n, work, v, c);
+        c = next_edge(edges, n, work, v, c);
     }
 }
 
@@ -70,22 +69,21 @@ fn put_crossings_at(
 pub fn put_crossings(
     nodes: &[u8],
     edges: &[u8],
-    closed: &[u8],
     square: Square,
     n: usize,
     k: usize,
     work: &mut [u32],
 )
     requires { ⌜ (n ≡ nodeCount (now nodes)) × (n ≤ maxNodes) × Enough n (now work) × (1 ≤ n) × (regionAt n k + setWords n ≤ indexAt n) ⌝ }
-    requires { ⌜ IndexedEdges (now edges) (now closed) n (now work) ⌝ }
-    ensures members { λ _. ⌜ CrossingsOf (now (nodes .entry)) (now (edges .entry)) (now (closed .entry)) square n (regionFlags n k (now (work .exit))) ⌝ }
+    requires { ⌜ IndexedEdges (now edges) n (now work) ⌝ }
+    ensures members { λ _. ⌜ CrossingsOf (now (nodes .entry)) (now (edges .entry)) square n (regionFlags n k (now (work .exit))) ⌝ }
     ensures others { λ _. ⌜ Only n k (now (work .entry)) (now (work .exit)) ⌝ }
 {
     clear(work, n, k);
     let mut v = 0;
     while v < n {
         if square.has(nodes, v) {
-            put_crossings_at(nodes, edges, closed, square, v, n, k, work);
+            put_crossings_at(nodes, edges, square, v, n, k, work);
         }
         v += 1;
     }

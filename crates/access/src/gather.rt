@@ -21,33 +21,33 @@ use words::regions::clear;
 use words::regions::has;
 
 // Gathers from p, if it is in region OWN. Region WANT has at most `left` nodes.
-fn gather_from(edges: &[u8], closed: &[u8], n: usize, p: usize, left: usize, work: &mut [u32])
+fn gather_from(edges: &[u8], n: usize, p: usize, left: usize, work: &mut [u32])
     requires { ⌜ (n ≤ maxNodes) × (p < n) × Enough n (now work) × (ones (regionFlags n want (now work)) ≤ left) × NotAlone n own (now work) ⌝ }
-    requires { ⌜ IndexedEdges (now edges) (now closed) n (now work) ⌝ }
+    requires { ⌜ IndexedEdges (now edges) n (now work) ⌝ }
     ensures members { λ _. ⌜ ((v : ℕ) → Flagged (regionFlags n gathered (now (work .exit))) v
-        ↔ Joined (arcsIn (now (edges .entry)) (now (closed .entry))) (regionFlags n gathered (now (work .entry))) (regionFlags n own (now (work .entry)))
+        ↔ Joined (arcsIn (now (edges .entry))) (regionFlags n gathered (now (work .entry))) (regionFlags n own (now (work .entry)))
         (regionFlags n want (now (work .entry))) p v) ⌝ }
     ensures others { λ _. ⌜ KeptStarts n (now (work .entry)) (now (work .exit)) ⌝ }
 {
     if has(work, n, OWN, p) {
-        toward(edges, closed, n, p, left, work);
+        toward(edges, n, p, left, work);
         unite(work, n, MARKS, GATHERED);
     }
 }
 
 // Makes region GATHERED the set of the nodes on least walks from a node of OWN to a node of WANT, every equally quick way counted.
-pub fn gather(edges: &[u8], closed: &[u8], n: usize, work: &mut [u32])
+pub fn gather(edges: &[u8], n: usize, work: &mut [u32])
     requires { ⌜ (n ≤ maxNodes) × Enough n (now work) × (1 ≤ n) × NotAlone n own (now work) ⌝ }
-    requires { ⌜ IndexedEdges (now edges) (now closed) n (now work) ⌝ }
+    requires { ⌜ IndexedEdges (now edges) n (now work) ⌝ }
     ensures members { λ _. ⌜ ((v : ℕ) → Flagged (regionFlags n gathered (now (work .exit))) v
-        ↔ Gathered (arcsIn (now (edges .entry)) (now (closed .entry))) (regionFlags n own (now (work .entry))) (regionFlags n want (now (work .entry))) v) ⌝ }
+        ↔ Gathered (arcsIn (now (edges .entry))) (regionFlags n own (now (work .entry))) (regionFlags n want (now (work .entry))) v) ⌝ }
     ensures others { λ _. ⌜ KeptStarts n (now (work .entry)) (now (work .exit)) ⌝ }
 {
     clear(work, n, GATHERED);
     let left = count(work, n, WANT);
     let mut p = 0;
     while p < n {
-        gather_from(edges, closed, n, p, left, work);
+        gather_from(edges, n, p, left, work);
         p += 1;
     }
 }

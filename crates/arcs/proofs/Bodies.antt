@@ -4,9 +4,9 @@ use mathlib.Core.Path.{_≡_}
 use mathlib.Core.Bool.{false}
 use mathlib.Core.List.{List, []}
 use borrow.Author.Tests.{eq-eqb, eqb-true}
-use Rattle.model.specs.Bytes.{Bytes, words16}
+use Rattle.model.specs.Bytes.{Bytes}
 use Rattle.model.specs.Walk.{Arc}
-use Rattle.model.specs.Network.{openEdges, maxSeconds, someEdgeBroken}
+use Rattle.model.specs.Network.{edges, maxSeconds, someEdgeBroken}
 use Rattle.theory.specs.Members.{filter→, →filter}
 use Rattle.theory.specs.Sound as sound
 use Rattle.theory.specs.Walks.{Within, Costs, Positive}
@@ -18,18 +18,18 @@ use Rattle.sheet.proofs.Ground as ground
 use Rattle.arcs.specs.Arcs.{arcsIn, leaves, leaving}
 use Rattle.arcs.specs.Leaving.{EdgesUnder}
 
-module _ (n : ℕ) (b : Bytes) (h : someEdgeBroken n b ≡ false) (closed : Bytes) where
-  pub arcs-within : Within n (arcsIn b closed)
+module _ (n : ℕ) (b : Bytes) (h : someEdgeBroken n b ≡ false) where
+  pub arcs-within : Within n (arcsIn b)
   unfolding arcsIn
-  arcs-within = sound.arcs-within n (openEdges b (words16 closed)) (sound.open-fine n b (words16 closed) h)
+  arcs-within = sound.arcs-within n (edges b) (sound.each-fine n b h)
 
-  pub arcs-cost : Costs maxSeconds (arcsIn b closed)
+  pub arcs-cost : Costs maxSeconds (arcsIn b)
   unfolding arcsIn
-  arcs-cost = sound.arcs-cost n (openEdges b (words16 closed)) (sound.open-fine n b (words16 closed) h)
+  arcs-cost = sound.arcs-cost n (edges b) (sound.each-fine n b h)
 
-  pub arcs-positive : Positive (arcsIn b closed)
+  pub arcs-positive : Positive (arcsIn b)
   unfolding arcsIn
-  arcs-positive = sound.arcs-positive n (openEdges b (words16 closed)) (sound.open-fine n b (words16 closed) h)
+  arcs-positive = sound.arcs-positive n (edges b) (sound.each-fine n b h)
 
 -- The same of the arcs under a sheet, together.
 pub record Bounded (n : ℕ) (arcs : List Arc) : Type 0 where
@@ -37,22 +37,22 @@ pub record Bounded (n : ℕ) (arcs : List Arc) : Type 0 where
   pub cost : Costs maxSeconds arcs
   pub positive : Positive arcs
 
-pub arcs-bounded : (edges closed lines : Bytes) (n : ℕ) (w : List ℕ) → EdgesUnder edges closed lines n w → Bounded n (arcsUnder edges closed lines)
-arcs-bounded edges closed lines n w g =
+pub arcs-bounded : (edges lines : Bytes) (n : ℕ) (w : List ℕ) → EdgesUnder edges lines n w → Bounded n (arcsUnder edges lines)
+arcs-bounded edges lines n w g =
     let e = g .roads .ends in
     record {
-      within = ground.arcs-within edges closed lines n e (g .quick);
-      cost = ground.arcs-cost edges closed lines n e (g .quick);
-      positive = ground.arcs-positive edges closed lines n e (g .quick);
+      within = ground.arcs-within edges lines n e (g .quick);
+      cost = ground.arcs-cost edges lines n e (g .quick);
+      positive = ground.arcs-positive edges lines n e (g .quick);
     }
 
 -- ---- no sheet: no lines
-pub plain : (edges closed : Bytes) (n : ℕ) (w : List ℕ) → IndexedEdges edges closed n w → EdgesUnder edges closed [] n w
-plain edges closed n w r = record { roads = r; spanned = spanned-none n w; quick = ground.plain-slow edges closed n (r .ends) }
+pub plain : (edges : Bytes) (n : ℕ) (w : List ℕ) → IndexedEdges edges n w → EdgesUnder edges [] n w
+plain edges n w r = record { roads = r; spanned = spanned-none n w; quick = ground.plain-slow edges n (r .ends) }
 
-pub plain-arcs : (edges closed : Bytes) → arcsUnder edges closed [] ≡ arcsIn edges closed
+pub plain-arcs : (edges : Bytes) → arcsUnder edges [] ≡ arcsIn edges
 unfolding arcsIn
-plain-arcs edges closed = ground.no-lines edges closed
+plain-arcs edges = ground.no-lines edges
 
 pub leaving-out : (u : ℕ) (arcs : List Arc) → Out arcs u (leaving u arcs)
 unfolding leaving leaves

@@ -1,4 +1,4 @@
--- From the cursor over the open edges at u to the arcs out of u that a sheet leaves: edges that it closes are passed over. Assumes nothing.
+-- From the cursor over the edges at u to the arcs out of u that a sheet leaves: edges that it closes are passed over. Assumes nothing.
 use Prim.Native.Nat.{ℕ, _+_, _<_, _≤_}
 use native.Mathlib.Decide.{ℕ-discrete, decLt}
 use native.Mathlib.Nat.{add-zero}
@@ -10,10 +10,10 @@ use mathlib.Core.Logic.{_⊎_, inl, inr}
 use lib.ListN.{length}
 use lib.Dec.{eqb}
 use borrow.Author.Tests.{eq-eqb, ne-eqb}
-use Rattle.model.specs.Lists.{range, filter, concatMap, member}
-use Rattle.model.specs.Bytes.{Bytes, words16}
+use Rattle.model.specs.Lists.{filter, concatMap}
+use Rattle.model.specs.Bytes.{Bytes}
 use Rattle.model.specs.Walk.{Arc}
-use Rattle.model.specs.Network.{Edge, edge, edgeCount, arcsOf, someEdgeBroken, maxSeconds, isOpen}
+use Rattle.model.specs.Network.{Edge, edge, edgeCount, arcsOf, someEdgeBroken, maxSeconds}
 use Rattle.model.specs.Oracle.{noWalk}
 use Rattle.sheet.specs.Sheet.{Effect, Effect.delayed, lineCount, linesIn, holds}
 use Rattle.sheet.specs.Under.{left, leftOf}
@@ -152,10 +152,6 @@ pub no-bytes : (lines : Bytes) → length lines ≡ 0 → lines ≡ []
 no-bytes [] e = refl
 no-bytes (x ∷ lines) e = absurd (omega (arith, e))
 
-all-open : (i : ℕ) → isOpen (words16 []) i ≡ true
-unfolding isOpen member words16 range
-all-open i = refl
-
 -- Its arcs are all left.
 plain-left : (edges : Bytes) (i : ℕ) → arcsLeft edges [] i ≡ arcsOf (edge edges i)
 unfolding arcsLeft leftOf left concatMap arcsOf lineCount
@@ -170,7 +166,7 @@ unfolding lineCount
 plain-some edges n u c ends h end first second v s p q o r =
     let f = edge-fine n edges ends (c .edge) h in
     let held = none-held [] (omega arith) (c .edge) in
-    let limit = not-slow edges [] [] (plain-slow edges [] n ends) (c .edge) h (all-open (c .edge)) in
+    let limit = not-slow edges [] (plain-slow edges n ends) (c .edge) h in
     left-some edges [] n u c ends h (record { end = end; limit = limit }) first second v s p q o (as-was _ s (edge edges (c .edge)) held r (f .at-most))
 
 -- The edge of an arc is the cursor's.
@@ -210,11 +206,11 @@ pub two-ends : {n : ℕ} {e : Edge} → Fine n e → 2 ≤ n
 two-ends {n} {e} f = let z : ¬ (e .first ≡ e .second) = f .apart in omega (arith, f .first-in, f .second-in, z)
 
 -- What is known of the edge that a cursor has found.
-pub end-at : (edges closed lines : Bytes) (n : ℕ) (w : List ℕ) (u : ℕ) (c : Cursor) → EdgesUnder edges closed lines n w → Valid edges closed n w u c
+pub end-at : (edges lines : Bytes) (n : ℕ) (w : List ℕ) (u : ℕ) (c : Cursor) → EdgesUnder edges lines n w → Valid edges n w u c
     → c .edge < edgeCount edges → EndAt edges lines u (c .edge)
-end-at edges closed lines n w u c g v l =
+end-at edges lines n w u c g v l =
     let o = v .here l in
-    record { end = o .end; limit = not-slow edges closed lines (g .quick) (c .edge) l (o .unclosed) }
+    record { end = o .end; limit = not-slow edges lines (g .quick) (c .edge) l }
 
 -- ---- where a sheet may close edges
 
@@ -222,9 +218,9 @@ end-at edges closed lines n w u c g v l =
 pub own-left : (edges lines : Bytes) (n u : ℕ) (c : Cursor) (a : ArcAt) → LeftAt edges lines n u c a → LeftAt edges lines n u (cursorOf a) a
 own-left edges lines n u c a g = subst (λ (z : Cursor). LeftAt edges lines n u z a) (sym (g .cursor)) g
 
-pub at-own : (edges closed lines : Bytes) (n : ℕ) (w : List ℕ) (u : ℕ) (b c : Cursor) (a : ArcAt) → Stepped edges closed n w u b c → LeftAt edges lines n u c a
-    → Stepped edges closed n w u b (cursorOf a) × LeftAt edges lines n u (cursorOf a) a
-at-own edges closed lines n w u b c a s g = subst (λ (z : Cursor). Stepped edges closed n w u b z × LeftAt edges lines n u z a) (sym (g .cursor)) (s, g)
+pub at-own : (edges lines : Bytes) (n : ℕ) (w : List ℕ) (u : ℕ) (b c : Cursor) (a : ArcAt) → Stepped edges n w u b c → LeftAt edges lines n u c a
+    → Stepped edges n w u b (cursorOf a) × LeftAt edges lines n u (cursorOf a) a
+at-own edges lines n w u b c a s g = subst (λ (z : Cursor). Stepped edges n w u b z × LeftAt edges lines n u z a) (sym (g .cursor)) (s, g)
 
 module _ (edges lines : Bytes) (n u : ℕ) (a : ArcAt) (g : LeftAt edges lines n u (cursorOf a) a) where
   -- Nothing is left: the cursor has found an edge.
@@ -247,9 +243,9 @@ module _ (edges lines : Bytes) (n u : ℕ) (a : ArcAt) (g : LeftAt edges lines n
     low = g .low d;
   }
 
-  module _ (closed : Bytes) (w : List ℕ) where
-    pub skip-more : (c : Cursor) → SkippedTo edges closed lines n w u c (cursorOf a) → a .cost ≡ noWalk
-        → (c′ : Cursor) → Stepped edges closed n w u (cursorOf a) c′ → SkippedTo edges closed lines n w u c c′
+  module _ (w : List ℕ) where
+    pub skip-more : (c : Cursor) → SkippedTo edges lines n w u c (cursorOf a) → a .cost ≡ noWalk
+        → (c′ : Cursor) → Stepped edges n w u (cursorOf a) c′ → SkippedTo edges lines n w u c c′
     skip-more c k z c′ s = record {
       valid = s .valid;
       passing = λ over p. let r = k .passing over p in (
@@ -261,30 +257,30 @@ module _ (edges lines : Bytes) (n u : ℕ) (a : ArcAt) (g : LeftAt edges lines n
       less = omega (arith, s .less, k .less);
     }
 
-    pub first-arc : (c : Cursor) → SkippedTo edges closed lines n w u c (cursorOf a) → (a .cost ≡ noWalk → ⊥)
-        → FirstArc edges closed lines n w u c a
+    pub first-arc : (c : Cursor) → SkippedTo edges lines n w u c (cursorOf a) → (a .cost ≡ noWalk → ⊥)
+        → FirstArc edges lines n w u c a
     first-arc c k d = record { skipped = k; found = left-found d }
 
-pub skip-none : (edges closed lines : Bytes) (n : ℕ) (w : List ℕ) (u : ℕ) (c : Cursor) → Valid edges closed n w u c
-    → SkippedTo edges closed lines n w u c c
-skip-none edges closed lines n w u c v = record { valid = v; passing = λ over p. (over, p, refl); less = omega arith }
+pub skip-none : (edges lines : Bytes) (n : ℕ) (w : List ℕ) (u : ℕ) (c : Cursor) → Valid edges n w u c
+    → SkippedTo edges lines n w u c c
+skip-none edges lines n w u c v = record { valid = v; passing = λ over p. (over, p, refl); less = omega arith }
 
 -- What is left was read at c.
-module _ (edges closed lines : Bytes) (n : ℕ) (w : List ℕ) (u : ℕ) (c : Cursor) (a : ArcAt) (g : LeftAt edges lines n u c a) where
-  pub own-valid : Valid edges closed n w u c → Valid edges closed n w u (cursorOf a)
-  own-valid v = subst (λ (z : Cursor). Valid edges closed n w u z) (sym (g .cursor)) v
+module _ (edges lines : Bytes) (n : ℕ) (w : List ℕ) (u : ℕ) (c : Cursor) (a : ArcAt) (g : LeftAt edges lines n u c a) where
+  pub own-valid : Valid edges n w u c → Valid edges n w u (cursorOf a)
+  own-valid v = subst (λ (z : Cursor). Valid edges n w u z) (sym (g .cursor)) v
 
-  pub first-arc-here : Valid edges closed n w u c → (a .cost ≡ noWalk → ⊥) → FirstArc edges closed lines n w u c a
+  pub first-arc-here : Valid edges n w u c → (a .cost ≡ noWalk → ⊥) → FirstArc edges lines n w u c a
   first-arc-here v d =
-      subst (λ (z : Cursor). FirstArc edges closed lines n w u z a) (g .cursor)
-      (first-arc edges lines n u a (own-left edges lines n u c a g) closed w (cursorOf a)
-      (skip-none edges closed lines n w u (cursorOf a) (own-valid v)) d)
+      subst (λ (z : Cursor). FirstArc edges lines n w u z a) (g .cursor)
+      (first-arc edges lines n u a (own-left edges lines n u c a g) w (cursorOf a)
+      (skip-none edges lines n w u (cursorOf a) (own-valid v)) d)
 
-  pub first-arc-from : (b : ArcAt) → FirstArc edges closed lines n w u (cursorOf a) b → FirstArc edges closed lines n w u c b
-  first-arc-from b f = subst (λ (z : Cursor). FirstArc edges closed lines n w u z b) (g .cursor) f
+  pub first-arc-from : (b : ArcAt) → FirstArc edges lines n w u (cursorOf a) b → FirstArc edges lines n w u c b
+  first-arc-from b f = subst (λ (z : Cursor). FirstArc edges lines n w u z b) (g .cursor) f
 
 -- ---- what is passed
-module _ (edges closed lines : Bytes) (n : ℕ) (w : List ℕ) (u : ℕ) (a : ArcAt) (f : Found edges lines n u a) where
+module _ (edges lines : Bytes) (n : ℕ) (w : List ℕ) (u : ℕ) (a : ArcAt) (f : Found edges lines n u a) where
   pub found-edge : a .to < n → a .edge < edgeCount edges
   found-edge l = pick (decLt (a .edge) (edgeCount edges))
     where
@@ -299,14 +295,14 @@ module _ (edges closed lines : Bytes) (n : ℕ) (w : List ℕ) (u : ℕ) (a : Ar
       pick (yes h) = absurd (omega (arith, f .inside h))
       pick (no h) = omega arith
 
-  module _ (over : List ℕ) (p : PassedEdges edges closed n w u over (cursorOf a)) where
-    leaves-here : a .to < n → List·Memᴰ (arcHere u a) (leaving u (arcsUnder edges closed lines))
+  module _ (over : List ℕ) (p : PassedEdges edges n w u over (cursorOf a)) where
+    leaves-here : a .to < n → List·Memᴰ (arcHere u a) (leaving u (arcsUnder edges lines))
     leaves-here l =
         let h = found-edge l in
-        left-arc edges closed u over lines (a .edge) (arcHere u a) (p .valid .here h)
+        left-arc edges u over lines (a .edge) (arcHere u a) (p .valid .here h)
         (subst (λ (z : List Arc). List·Memᴰ (arcHere u a) z) (sym (f .arc h)) (List·Memᴰ·head refl))
 
-    passes : PassedArcs edges closed lines n w u (arcsOver edges lines u over) a
+    passes : PassedArcs edges lines n w u (arcsOver edges lines u over) a
     passes = record {
       over = over;
       passing = p;
@@ -314,30 +310,30 @@ module _ (edges closed lines : Bytes) (n : ℕ) (w : List ℕ) (u : ℕ) (a : Ar
       valid = record { cursor = p .valid; found = f };
       low = f .low;
       here = leaves-here;
-      all = λ l x. let all = passing-all edges closed u over n w (cursorOf a) (found-end l) p in
-          (arcs-same→ edges closed u over lines all x, →arcs-same edges closed u over lines all x);
+      all = λ l x. let all = passing-all edges u over n w (cursorOf a) (found-end l) p in
+          (arcs-same→ edges u over lines all x, →arcs-same edges u over lines all x);
     }
 
 -- c is what the edge cursor has found, and a the first arc from there on.
-module _ (edges closed lines : Bytes) (n : ℕ) (w : List ℕ) (u : ℕ) (c : Cursor) (a : ArcAt) (g : FirstArc edges closed lines n w u c a) where
+module _ (edges lines : Bytes) (n : ℕ) (w : List ℕ) (u : ℕ) (c : Cursor) (a : ArcAt) (g : FirstArc edges lines n w u c a) where
   -- What was passed with c is passed with a.
-  from-edges : (over : List ℕ) → PassedEdges edges closed n w u over c → PassedArcs edges closed lines n w u (arcsOver edges lines u over) a
+  from-edges : (over : List ℕ) → PassedEdges edges n w u over c → PassedArcs edges lines n w u (arcsOver edges lines u over) a
   from-edges over p =
       let r = g .skipped .passing over p in
-      subst (λ (z : List Arc). PassedArcs edges closed lines n w u z a) (r .2) (passes edges closed lines n w u a (g .found) (r .0) (r .1))
+      subst (λ (z : List Arc). PassedArcs edges lines n w u z a) (r .2) (passes edges lines n w u a (g .found) (r .0) (r .1))
 
-  pub passes-first : PassedEdges edges closed n w u [] c → PassedArcs edges closed lines n w u [] a
+  pub passes-first : PassedEdges edges n w u [] c → PassedArcs edges lines n w u [] a
   unfolding arcsOver concatMap
   passes-first p = from-edges [] p
 
-  pub passes-next : (b : ArcAt) → Found edges lines n u b → b .to < n → Stepped edges closed n w u (cursorOf b) c → SteppedArc edges closed lines n w u b a
+  pub passes-next : (b : ArcAt) → Found edges lines n u b → b .to < n → Stepped edges n w u (cursorOf b) c → SteppedArc edges lines n w u b a
   unfolding arcRank
   passes-next b f l s = record { passes = more; less = omega (arith, g .skipped .less, s .less) }
     where
-      more : (done : List Arc) → PassedArcs edges closed lines n w u done b → PassedArcs edges closed lines n w u (done ++ arcHere u b ∷ []) a
+      more : (done : List Arc) → PassedArcs edges lines n w u done b → PassedArcs edges lines n w u (done ++ arcHere u b ∷ []) a
       more done p =
           let j = b .edge in
           let e : arcsOver edges lines u (p .over ++ j ∷ []) ≡ done ++ arcHere u b ∷ [] =
           over-more edges lines u (p .over) j ∙ ap (λ (z : List Arc). z ++ leaving u (arcsLeft edges lines j)) (sym (p .same))
-          ∙ ap (λ (z : List Arc). done ++ z) (f .arc (found-edge edges closed lines n w u b f l)) in
-          subst (λ (z : List Arc). PassedArcs edges closed lines n w u z a) e (from-edges (p .over ++ j ∷ []) (s .passing (p .over) (p .passing)))
+          ∙ ap (λ (z : List Arc). done ++ z) (f .arc (found-edge edges lines n w u b f l)) in
+          subst (λ (z : List Arc). PassedArcs edges lines n w u z a) e (from-edges (p .over ++ j ∷ []) (s .passing (p .over) (p .passing)))

@@ -1,45 +1,40 @@
--- Looking on for an open edge at a node, within a block and from block to block. Assumes nothing.
+-- Looking on for an edge at a node, within a block and from block to block. Assumes nothing.
 use Prim.Native.Nat.{ℕ, _+_, _*_, _/_, _%_, _<_, _≤_}
 use native.Mathlib.Nat.{div-mul-le-self, div-add-mod', mod-lt, mul-le-mul-right, suc-mul, zero-mul}
 use native.Mathlib.Decide.{ℕ-discrete}
 use native.Mathlib.Omega.{arith}
-use mathlib.Core.Path.{_≡_, sym, ap, _∙_, subst}
-use mathlib.Core.Bool.{Bool, true, false, true≢false}
+use mathlib.Core.Path.{_≡_, ap, subst}
 use mathlib.Core.List.{List}
 use mathlib.Core.Logic.{_⊎_, inl, inr, ⊎-elim}
-use Rattle.model.specs.Bytes.{Bytes, words16}
-use Rattle.model.specs.Network.{edge, edgeCount, isOpen}
-use Rattle.index.specs.Index.{next, block, here, there, OpenAt, IndexedEdges}
+use Rattle.model.specs.Bytes.{Bytes}
+use Rattle.model.specs.Network.{edge, edgeCount}
+use Rattle.index.specs.Index.{next, block, here, there, Incident, IndexedEdges}
 use Rattle.index.proofs.Listing.{no-list}
 use Rattle.words.specs.Regions.{indexIn}
 use Rattle.arcs.specs.declared.cursor.Cursor.{Cursor}
 use Rattle.arcs.specs.Cursor.{After, rank}
-use Rattle.arcs.specs.Seeking.{ending, blockAt, FirstOpen, From, Seeking, Since, FoundFrom}
+use Rattle.arcs.specs.Seeking.{ending, blockAt, FirstIncident, From, Seeking, Onward, Since, FoundFrom}
 
 -- ---- one edge
-module _ (edges closed : Bytes) (u i : ℕ) where
-  pub none-here : (edge edges i .first ≡ u → ⊥) → (edge edges i .second ≡ u → ⊥) → OpenAt edges closed u i → ⊥
+module _ (edges : Bytes) (u i : ℕ) where
+  pub none-here : (edge edges i .first ≡ u → ⊥) → (edge edges i .second ≡ u → ⊥) → Incident edges u i → ⊥
   none-here p q o = ⊎-elim p q (o .end)
 
-  pub by-closed : (r : Bool) → i < edgeCount edges → (edge edges i .first ≡ u) ⊎ (edge edges i .second ≡ u) → r ≡ isOpen (words16 closed) i
-      → (r ≡ true → OpenAt edges closed u i) × (r ≡ false → OpenAt edges closed u i → ⊥)
-  by-closed r l t e = (λ p. record { below = l; unclosed = sym e ∙ p; end = t }, λ p o. true≢false (sym (o .unclosed) ∙ sym e ∙ p))
-
-  pub none-more : (a : ℕ) → ((j : ℕ) → a ≤ j → j < i → OpenAt edges closed u j → ⊥) → (OpenAt edges closed u i → ⊥) → (j : ℕ) → a ≤ j → j < i + 1
-      → OpenAt edges closed u j → ⊥
+  pub none-more : (a : ℕ) → ((j : ℕ) → a ≤ j → j < i → Incident edges u j → ⊥) → (Incident edges u i → ⊥) → (j : ℕ) → a ≤ j → j < i + 1
+      → Incident edges u j → ⊥
   none-more a h p j l g o = pick (ℕ-discrete j i)
     where
       pick : Dec (j ≡ i) → ⊥
-      pick (yes e) = p (subst (λ (z : ℕ). OpenAt edges closed u z) e o)
+      pick (yes e) = p (subst (λ (z : ℕ). Incident edges u z) e o)
       pick (no d) = h j l (omega arith) o
 
-module _ (edges closed : Bytes) (n : ℕ) (w : List ℕ) (u : ℕ) where
+module _ (edges : Bytes) (n : ℕ) (w : List ℕ) (u : ℕ) where
   abbrev ix : List ℕ
   ix = indexIn n w
 
   -- ---- within a block
-  pub since-within : (c : Cursor) (r : ℕ) → Seeking edges n w u c → FirstOpen edges closed u (c .edge) (c .stop) r
-      → Since edges closed n w u c (record { edge = r; stop = c .stop; link = c .link; size = c .size })
+  pub since-within : (c : Cursor) (r : ℕ) → Seeking edges n w u c → FirstIncident edges u (c .edge) (c .stop) r
+      → Since edges n w u c (record { edge = r; stop = c .stop; link = c .link; size = c .size })
   since-within c r s f = record {
     seeking = record { size = s .size; several = s .several; link = s .link; chain = s .chain; stop = s .stop; low = f .high };
     found = f .found;
@@ -47,11 +42,11 @@ module _ (edges closed : Bytes) (n : ℕ) (w : List ℕ) (u : ℕ) where
     less = unfold rank in omega (arith, f .low);
   }
     where
-      on : (j : ℕ) → OpenAt edges closed u j → c .edge ≤ j → r ≤ j
+      on : (j : ℕ) → Incident edges u j → c .edge ≤ j → r ≤ j
       on j o a = let h : ¬ (j < r) = λ l. f .passed j a l o in omega arith
 
   -- ---- on to the next block
-  module _ (roads : IndexedEdges edges closed n w) (u-in : u < n) (c : Cursor) (s : Seeking edges n w u c) where
+  module _ (roads : IndexedEdges edges n w) (u-in : u < n) (c : Cursor) (s : Seeking edges n w u c) where
     pub size-small : c .size < 65536
     size-small = omega (arith, s .size, roads .indexed .chained .sized u u-in, roads .indexed .small)
 
@@ -76,44 +71,38 @@ module _ (edges closed : Bytes) (n : ℕ) (w : List ℕ) (u : ℕ) where
       unfolding rank
       block-less = omega (arith, suc-mul (next ix (c .link)) (edgeCount edges + 1), mul-le-mul-right (edgeCount edges + 1) next-down)
 
-      in-block : (j : ℕ) → OpenAt edges closed u j → 0 < c .size → block ix (c .link) ≡ j / c .size → (b .edge ≤ j) × (j < b .stop)
+      in-block : (j : ℕ) → Incident edges u j → 0 < c .size → block ix (c .link) ≡ j / c .size → (b .edge ≤ j) × (j < b .stop)
       in-block j o h e =
           let p : j / c .size * c .size ≤ j = div-mul-le-self j (c .size) in
           let q : j % c .size < c .size = mod-lt j h in
           let r : block ix (c .link) * c .size ≡ j / c .size * c .size = ap (λ (z : ℕ). z * c .size) e in
           (omega arith, omega (arith, div-add-mod' j (c .size), o .below))
 
-      block-keeps : (j : ℕ) → OpenAt edges closed u j → From ix n c j → From ix n b j
+      block-keeps : (j : ℕ) → Incident edges u j → From ix n c j → From ix n b j
       block-keeps j o (inl (a, l)) = absurd (omega arith)
       block-keeps j o (inr (h, here l e)) = inl (in-block j o h e)
       block-keeps j o (inr (h, there l p)) = inr (h, p)
 
-      pub since-next : (r : Cursor) → Since edges closed n w u b r → Since edges closed n w u c r × (rank edges r < rank edges c)
-      since-next r t = (
-        record {
-          seeking = t .seeking;
-          found = t .found;
-          keeps = λ j o p. t .keeps j o (block-keeps j o p);
-          less = omega (arith, t .less, block-less);
-        },
-        omega (arith, t .less, block-less),
+      pub block-on : (c₀ : Cursor) → Since edges n w u c₀ c → Onward edges n w u c₀ b × (rank edges b < rank edges c)
+      block-on c₀ t = (
+        record { seeking = seeking-block; keeps = λ j o p. block-keeps j o (t .keeps j o p); less = omega (arith, t .less, block-less) },
+        block-less,
       )
 
-  pub since-self : (c c′ : Cursor) → Since edges closed n w u c c′ → Since edges closed n w u c′ c′
-  since-self c c′ f = record { seeking = f .seeking; found = f .found; keeps = λ j o p. p; less = omega arith }
+  pub onward-self : (c : Cursor) → Seeking edges n w u c → Onward edges n w u c c
+  onward-self c s = record { seeking = s; keeps = λ j o p. p; less = omega arith }
 
-  pub since-then : (c c′ c″ : Cursor) → Since edges closed n w u c c′ → Since edges closed n w u c′ c″ → Since edges closed n w u c c″
-  since-then c c′ c″ f g = record {
+  pub onward-then : (c₀ c c′ : Cursor) → Onward edges n w u c₀ c → Since edges n w u c c′ → Since edges n w u c₀ c′
+  onward-then c₀ c c′ f g = record {
     seeking = g .seeking;
     found = g .found;
     keeps = λ j o p. g .keeps j o (f .keeps j o p);
-    less = omega
-        (arith, f .less, g .less);
+    less = omega (arith, f .less, g .less);
   }
 
   -- ---- the end of the chain, or an edge
-  module _ (u-in : u < n) (c₀ c : Cursor) (t : Since edges closed n w u c₀ c) where
-    pub sought-none : c .edge ≡ c .stop → c .link < n → FoundFrom edges closed n w u c₀ (ending edges (c .size))
+  module _ (u-in : u < n) (c₀ c : Cursor) (t : Since edges n w u c₀ c) where
+    pub sought-none : c .edge ≡ c .stop → c .link < n → FoundFrom edges n w u c₀ (ending edges (c .size))
     sought-none e l = record {
       valid = record {
         size = t .seeking .size;
@@ -137,7 +126,7 @@ module _ (edges closed : Bytes) (n : ℕ) (w : List ℕ) (u : ℕ) where
         none j (inl (a, b)) = omega arith
         none j (inr (a, p)) = no-list ix n (c .link) _ l p
 
-    pub sought-found : (c .edge ≡ c .stop → ⊥) → FoundFrom edges closed n w u c₀ c
+    pub sought-found : (c .edge ≡ c .stop → ⊥) → FoundFrom edges n w u c₀ c
     sought-found d = record {
       valid = record {
         size = t .seeking .size;

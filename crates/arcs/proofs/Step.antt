@@ -1,4 +1,4 @@
--- From one open edge at a node to the next. Assumes nothing.
+-- From one edge at a node to the next. Assumes nothing.
 use Prim.Native.Nat.{ℕ, _+_, _/_, _<_, _≤_}
 use native.Mathlib.Nat.{div-one, mul-le-mul-right, suc-mul, zero-mul}
 use native.Mathlib.Decide.{ℕ-discrete, decLt}
@@ -9,7 +9,7 @@ use mathlib.Core.Logic.{_⊎_, inl, inr, ⊎-elim}
 use lib.ListN.{length}
 use Rattle.model.specs.Bytes.{Bytes}
 use Rattle.model.specs.Network.{edgeCount}
-use Rattle.index.specs.Index.{next, block, Lists, here, there, Within, OpenAt, IndexedEdges}
+use Rattle.index.specs.Index.{next, block, Lists, here, there, Within, Incident, IndexedEdges}
 use Rattle.index.proofs.Listing.{no-list}
 use Rattle.words.specs.Regions.{indexIn}
 use Rattle.arcs.specs.declared.cursor.Cursor.{Cursor}
@@ -33,7 +33,7 @@ mem-split {A} x y (z ∷ xs) m = step (List·Memᴰ·cases-cons m) (λ k. mem-sp
     step (inl e) rest = inl (List·Memᴰ·head e)
     step (inr k) rest = ⊎-elim (λ a. inl (List·Memᴰ·tail a)) (λ b. inr b) (rest k)
 
-module _ (edges closed : Bytes) (n : ℕ) (w : List ℕ) (u : ℕ) (roads : IndexedEdges edges closed n w) (u-in : u < n) where
+module _ (edges : Bytes) (n : ℕ) (w : List ℕ) (u : ℕ) (roads : IndexedEdges edges n w) (u-in : u < n) where
   abbrev ix : List ℕ
   ix = indexIn n w
 
@@ -43,7 +43,7 @@ module _ (edges closed : Bytes) (n : ℕ) (w : List ℕ) (u : ℕ) (roads : Inde
     size-one : roads .indexed .size ≡ 1
     size-one = sym (roads .indexed .chained .sized u u-in) ∙ sym size ∙ one
 
-    listed-none : c₀ .link < n → FoundFrom edges closed n w u c₀ (ending edges 1)
+    listed-none : c₀ .link < n → FoundFrom edges n w u c₀ (ending edges 1)
     listed-none l = record {
       valid = record {
         size = sym one ∙ size;
@@ -74,8 +74,8 @@ module _ (edges closed : Bytes) (n : ℕ) (w : List ℕ) (u : ℕ) (roads : Inde
       abbrev found : Cursor
       found = record { edge = block ix p; stop = block ix p + 1; link = next ix p; size = 1 }
 
-      open-here : OpenAt edges closed u (block ix p)
-      open-here = roads .indexed .chained .single size-one u (block ix p) u-in (chain (block ix p) (here more refl))
+      edge-here : Incident edges u (block ix p)
+      edge-here = roads .indexed .chained .single size-one u (block ix p) u-in (chain (block ix p) (here more refl))
 
       next-down : next ix p < p
       next-down = roads .indexed .chained .links p (omega arith) more
@@ -85,28 +85,28 @@ module _ (edges closed : Bytes) (n : ℕ) (w : List ℕ) (u : ℕ) (roads : Inde
       one-keeps j (inr (h, here l e)) = inl (sym (div-one j) ∙ ap (λ (z : ℕ). j / z) (sym one) ∙ sym e)
       one-keeps j (inr (h, there l q)) = inr (inr (omega arith, subst (λ (z : ℕ). Lists ix n (next ix p) (j / z)) one q))
 
-      listed-some : FoundFrom edges closed n w u c₀ found
+      listed-some : FoundFrom edges n w u c₀ found
       listed-some = record {
         valid = record {
           size = sym one ∙ size;
           link = λ h. omega (arith, next-down, link more);
           chain = λ q l. chain q (there more l);
-          stop = omega (arith, open-here .below);
+          stop = omega (arith, edge-here .below);
           inside = λ h. omega arith;
           single = λ h. omega arith;
-          here = λ h. open-here;
-          over = λ h j l. absurd (omega (arith, open-here .below));
+          here = λ h. edge-here;
+          over = λ h j l. absurd (omega (arith, edge-here .below));
         };
         keeps = λ j o q. one-keeps j q;
         less = unfold rank in omega (arith, suc-mul (next ix p) (edgeCount edges + 1), mul-le-mul-right (edgeCount edges + 1) next-down);
       }
 
-    sought-listed : (c : Cursor) → AtEntry edges n ix (c₀ .link) c → FoundFrom edges closed n w u c₀ c
+    sought-listed : (c : Cursor) → AtEntry edges n ix (c₀ .link) c → FoundFrom edges n w u c₀ c
     sought-listed c l = pick (decLt (c₀ .link) n)
       where
-        pick : Dec (c₀ .link < n) → FoundFrom edges closed n w u c₀ c
-        pick (yes h) = subst (λ (z : Cursor). FoundFrom edges closed n w u c₀ z) (sym (l .ended h)) (listed-none h)
-        pick (no h) = let g : n ≤ c₀ .link = omega arith in subst (λ (z : Cursor). FoundFrom edges closed n w u c₀ z) (sym (l .entry g)) (listed-some g)
+        pick : Dec (c₀ .link < n) → FoundFrom edges n w u c₀ c
+        pick (yes h) = subst (λ (z : Cursor). FoundFrom edges n w u c₀ z) (sym (l .ended h)) (listed-none h)
+        pick (no h) = let g : n ≤ c₀ .link = omega arith in subst (λ (z : Cursor). FoundFrom edges n w u c₀ z) (sym (l .entry g)) (listed-some g)
 
   -- ---- the first edge: size and link are the word of u, as the code has read them
   module _ (size link : ℕ) (e : size ≡ block ix u) (f : link ≡ next ix u) where
@@ -122,8 +122,8 @@ module _ (edges closed : Bytes) (n : ℕ) (w : List ℕ) (u : ℕ) (roads : Inde
     pub first-seeking : (stop : ℕ) → stop ≤ edgeCount edges → (size ≡ 1 → ⊥) → Seeking edges n w u (start stop)
     first-seeking stop l d = record { size = e; several = d; link = link-in; chain = in-chain; stop = l; low = omega arith }
 
-    pub first-passing : (stop : ℕ) (c : Cursor) → (size ≡ 0 → stop ≡ edgeCount edges) → FoundFrom edges closed n w u (start stop) c
-        → PassedEdges edges closed n w u [] c
+    pub first-passing : (stop : ℕ) (c : Cursor) → (size ≡ 0 → stop ≡ edgeCount edges) → FoundFrom edges n w u (start stop) c
+        → PassedEdges edges n w u [] c
     first-passing stop c g s = record {
       valid = s .valid;
       real = λ j m. absurd (List·Memᴰ·not-nil m);
@@ -131,7 +131,7 @@ module _ (edges closed : Bytes) (n : ℕ) (w : List ℕ) (u : ℕ) (roads : Inde
           (s .keeps j o (all j o (ℕ-discrete size 0)));
     }
       where
-        all : (j : ℕ) → OpenAt edges closed u j → Dec (size ≡ 0) → From ix n (start stop) j
+        all : (j : ℕ) → Incident edges u j → Dec (size ≡ 0) → From ix n (start stop) j
         all j o (yes z) = inl (omega arith, omega (arith, g z, o .below))
         all j o (no d) =
             let h : roads .indexed .size ≡ size = sym (roads .indexed .chained .sized u u-in) ∙ sym e in
@@ -139,11 +139,11 @@ module _ (edges closed : Bytes) (n : ℕ) (w : List ℕ) (u : ℕ) (roads : Inde
             subst (λ (z : ℕ). Lists ix n z (j / roads .indexed .size)) (sym f) (roads .indexed .chained .covers u j u-in (o .below) (omega arith) o) in
             inr (omega arith, subst (λ (z : ℕ). Lists ix n link (j / z)) h l)
 
-    pub first-listed : (c : Cursor) → size ≡ 1 → AtEntry edges n ix link c → PassedEdges edges closed n w u [] c
+    pub first-listed : (c : Cursor) → size ≡ 1 → AtEntry edges n ix link c → PassedEdges edges n w u [] c
     first-listed c g l = first-passing 0 c (λ z. absurd (omega arith)) (sought-listed (start 0) g e (omega arith) link-in in-chain c l)
 
   -- ---- the next edge
-  module _ (c : Cursor) (v : Valid edges closed n w u c) (l : c .edge < edgeCount edges) where
+  module _ (c : Cursor) (v : Valid edges n w u c) (l : c .edge < edgeCount edges) where
     abbrev pub on : Cursor
     on = record { edge = c .edge + 1; stop = c .stop; link = c .link; size = c .size }
 
@@ -154,15 +154,15 @@ module _ (edges closed : Bytes) (n : ℕ) (w : List ℕ) (u : ℕ) (roads : Inde
     pub seeking-on : (c .size ≡ 1 → ⊥) → Seeking edges n w u on
     seeking-on d = record { size = v .size; several = d; link = v .link; chain = v .chain; stop = v .stop; low = omega (arith, v .inside l) }
 
-    pub sought-next : (c′ : Cursor) → c .size ≡ 1 → AtEntry edges n ix (c .link) c′ → FoundFrom edges closed n w u on c′
+    pub sought-next : (c′ : Cursor) → c .size ≡ 1 → AtEntry edges n ix (c .link) c′ → FoundFrom edges n w u on c′
     sought-next c′ e s = sought-listed on e (v .size) (v .single e) (v .link) (v .chain) c′ s
 
-    pub stepped : (c′ : Cursor) → FoundFrom edges closed n w u on c′ → Stepped edges closed n w u c c′
+    pub stepped : (c′ : Cursor) → FoundFrom edges n w u on c′ → Stepped edges n w u c c′
     stepped c′ s = record {
       valid = s .valid;
       passing = λ done p. record {
         valid = s .valid;
-        real = λ j m. ⊎-elim (λ k. p .real j k) (λ e. subst (λ (z : ℕ). OpenAt edges closed u z) (sym e) (v .here l)) (mem-split j (c .edge) done m);
+        real = λ j m. ⊎-elim (λ k. p .real j k) (λ e. subst (λ (z : ℕ). Incident edges u z) (sym e) (v .here l)) (mem-split j (c .edge) done m);
         full = λ j o. ⊎-elim (λ k. inl (mem-left done _ k))
             (λ r. ⊎-elim (λ e. inl (subst (λ (z : ℕ). List·Memᴰ z (done ++ c .edge ∷ [])) (sym e) (mem-last (c .edge) done))) (λ a. inr (s .keeps j o a)) r)
             (p .full j o);

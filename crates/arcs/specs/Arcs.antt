@@ -5,17 +5,17 @@ use mathlib.Core.Bool.{Bool}
 use mathlib.Core.List.{List}
 use lib.Dec.{eqb}
 use Rattle.model.specs.Lists.{filter, concatMap}
-use Rattle.model.specs.Bytes.{Bytes, words16}
-use Rattle.model.specs.Contents.{edgeBody, closedBody}
+use Rattle.model.specs.Bytes.{Bytes}
+use Rattle.model.specs.Contents.{edgeBody}
 use Rattle.model.specs.Walk.{Arc}
-use Rattle.model.specs.Network.{network, openEdges, arcsOf, arcs}
+use Rattle.model.specs.Network.{network, edges, arcsOf, arcs}
 
--- The arcs of the open edges, of the bodies of the edges and of the closed edges.
-unfoldable pub arcsIn : Bytes → Bytes → List Arc
-arcsIn edges closed = concatMap arcsOf (openEdges edges (words16 closed))
+-- The arcs of a body of edges.
+unfoldable pub arcsIn : Bytes → List Arc
+arcsIn b = concatMap arcsOf (edges b)
 
 -- They are the arcs of the file's network.
-pub arcs-in : (f : Bytes) → arcs (network f) ≡ arcsIn (edgeBody f) (closedBody f)
+pub arcs-in : (f : Bytes) → arcs (network f) ≡ arcsIn (edgeBody f)
 unfolding arcs network arcsIn
 arcs-in f = refl
 

@@ -22,10 +22,10 @@ use Rattle.arcs.specs.Cursor.{Valid, PassedEdges, rank}
 
 -- What a walk under the lines of a sheet goes by, in the lent words: the index of the edges, the spans of the lines, and rule 20. Without a sheet there are no
 -- lines.
-pub record EdgesUnder (edges closed lines : Bytes) (n : ℕ) (w : List ℕ) : Type 0 where
-  pub roads : IndexedEdges edges closed n w
+pub record EdgesUnder (edges lines : Bytes) (n : ℕ) (w : List ℕ) : Type 0 where
+  pub roads : IndexedEdges edges n w
   pub spanned : SpannedIn lines n w
-  pub quick : any tooSlow (leftUnder edges closed lines) ≡ false
+  pub quick : any tooSlow (leftUnder edges lines) ≡ false
 
 -- Where the cursor over the edges stands.
 abbrev pub cursorOf : ArcAt → Cursor
@@ -67,30 +67,30 @@ pub record Found (edges lines : Bytes) (n u : ℕ) (a : ArcAt) : Type 0 where
   pub ended : edgeCount edges ≤ a .edge → a .to ≡ n
   pub low : a .cost ≤ maxCost
 
-pub record ValidArc (edges closed lines : Bytes) (n : ℕ) (w : List ℕ) (u : ℕ) (a : ArcAt) : Type 0 where
-  pub cursor : Valid edges closed n w u (cursorOf a)
+pub record ValidArc (edges lines : Bytes) (n : ℕ) (w : List ℕ) (u : ℕ) (a : ArcAt) : Type 0 where
+  pub cursor : Valid edges n w u (cursorOf a)
   pub found : Found edges lines n u a
 
 -- The arcs of `done` are passed, over the edges of `over`. The walk stands at an arc that leaves u; at its end it has passed just the arcs that leave u.
-pub record PassedArcs (edges closed lines : Bytes) (n : ℕ) (w : List ℕ) (u : ℕ) (done : List Arc) (a : ArcAt) : Type 0 where
+pub record PassedArcs (edges lines : Bytes) (n : ℕ) (w : List ℕ) (u : ℕ) (done : List Arc) (a : ArcAt) : Type 0 where
   pub over : List ℕ
-  pub passing : PassedEdges edges closed n w u over (cursorOf a)
+  pub passing : PassedEdges edges n w u over (cursorOf a)
   pub same : done ≡ arcsOver edges lines u over
-  pub valid : ValidArc edges closed lines n w u a
+  pub valid : ValidArc edges lines n w u a
   pub low : a .cost ≤ maxCost
-  pub here : a .to < n → List·Memᴰ (arcHere u a) (leaving u (arcsUnder edges closed lines))
-  pub all : n ≤ a .to → (x : Arc) → List·Memᴰ x done ↔ List·Memᴰ x (leaving u (arcsUnder edges closed lines))
+  pub here : a .to < n → List·Memᴰ (arcHere u a) (leaving u (arcsUnder edges lines))
+  pub all : n ≤ a .to → (x : Arc) → List·Memᴰ x done ↔ List·Memᴰ x (leaving u (arcsUnder edges lines))
 
 -- From an edge cursor c the walk is on at c′, over edges of which the sheet leaves nothing.
-pub record SkippedTo (edges closed lines : Bytes) (n : ℕ) (w : List ℕ) (u : ℕ) (c c′ : Cursor) : Type 0 where
-  pub valid : Valid edges closed n w u c′
-  pub passing : (over : List ℕ) → PassedEdges edges closed n w u over c
-      → (over′ : List ℕ) × PassedEdges edges closed n w u over′ c′ × (arcsOver edges lines u over′ ≡ arcsOver edges lines u over)
+pub record SkippedTo (edges lines : Bytes) (n : ℕ) (w : List ℕ) (u : ℕ) (c c′ : Cursor) : Type 0 where
+  pub valid : Valid edges n w u c′
+  pub passing : (over : List ℕ) → PassedEdges edges n w u over c
+      → (over′ : List ℕ) × PassedEdges edges n w u over′ c′ × (arcsOver edges lines u over′ ≡ arcsOver edges lines u over)
   pub less : rank edges c′ ≤ rank edges c
 
 -- The first arc from an edge cursor c on.
-pub record FirstArc (edges closed lines : Bytes) (n : ℕ) (w : List ℕ) (u : ℕ) (c : Cursor) (a : ArcAt) : Type 0 where
-  pub skipped : SkippedTo edges closed lines n w u c (cursorOf a)
+pub record FirstArc (edges lines : Bytes) (n : ℕ) (w : List ℕ) (u : ℕ) (c : Cursor) (a : ArcAt) : Type 0 where
+  pub skipped : SkippedTo edges lines n w u c (cursorOf a)
   pub found : Found edges lines n u a
 
 -- What falls from arc to arc, for the measure of a loop.
@@ -98,6 +98,6 @@ unfoldable pub arcRank : Bytes → ArcAt → ℕ
 arcRank edges a = rank edges (cursorOf a)
 
 -- The walk is on from a to a′.
-pub record SteppedArc (edges closed lines : Bytes) (n : ℕ) (w : List ℕ) (u : ℕ) (a a′ : ArcAt) : Type 0 where
-  pub passes : (done : List Arc) → PassedArcs edges closed lines n w u done a → PassedArcs edges closed lines n w u (done ++ arcHere u a ∷ []) a′
+pub record SteppedArc (edges lines : Bytes) (n : ℕ) (w : List ℕ) (u : ℕ) (a a′ : ArcAt) : Type 0 where
+  pub passes : (done : List Arc) → PassedArcs edges lines n w u done a → PassedArcs edges lines n w u (done ++ arcHere u a ∷ []) a′
   pub less : arcRank edges a′ < arcRank edges a

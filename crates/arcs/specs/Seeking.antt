@@ -6,7 +6,7 @@ use mathlib.Core.Logic.{_⊎_}
 use lib.ListN.{length}
 use Rattle.model.specs.Bytes.{Bytes}
 use Rattle.model.specs.Network.{edgeCount}
-use Rattle.index.specs.Index.{next, block, Lists, Within, OpenAt}
+use Rattle.index.specs.Index.{next, block, Lists, Within, Incident}
 use Rattle.words.specs.Regions.{indexIn}
 use Rattle.arcs.specs.declared.cursor.Cursor.{Cursor}
 use Rattle.arcs.specs.Cursor.{ToCome, After, Valid, rank}
@@ -20,12 +20,12 @@ pub record AtEntry (edges : Bytes) (n : ℕ) (ix : List ℕ) (p : ℕ) (c : Curs
   pub ended : p < n → c ≡ ending edges 1
   pub entry : n ≤ p → c ≡ record { edge = block ix p; stop = block ix p + 1; link = next ix p; size = 1 }
 
--- r is the first open edge at u from i on and below stop, or stop where there is none.
-pub record FirstOpen (edges closed : Bytes) (u i stop r : ℕ) : Type 0 where
+-- r is the first edge at u from i on and below stop, or stop where there is none.
+pub record FirstIncident (edges : Bytes) (u i stop r : ℕ) : Type 0 where
   pub low : i ≤ r
   pub high : r ≤ stop
-  pub passed : (j : ℕ) → i ≤ j → j < r → OpenAt edges closed u j → ⊥
-  pub found : r < stop → OpenAt edges closed u r
+  pub passed : (j : ℕ) → i ≤ j → j < r → Incident edges u j → ⊥
+  pub found : r < stop → Incident edges u r
 
 -- The whole block of the entry p, of at most m edges in all.
 abbrev pub blockAt : ℕ → List ℕ → ℕ → ℕ → Cursor
@@ -44,15 +44,21 @@ pub record Seeking (edges : Bytes) (n : ℕ) (w : List ℕ) (u : ℕ) (c : Curso
   pub stop : c .stop ≤ edgeCount edges
   pub low : c .edge ≤ c .stop
 
--- Looking on from c₀ has come to c: no open edge at u is left behind.
-pub record Since (edges closed : Bytes) (n : ℕ) (w : List ℕ) (u : ℕ) (c₀ c : Cursor) : Type 0 where
+-- From c₀ one may look on from c: no edge at u is left behind.
+pub record Onward (edges : Bytes) (n : ℕ) (w : List ℕ) (u : ℕ) (c₀ c : Cursor) : Type 0 where
   pub seeking : Seeking edges n w u c
-  pub found : c .edge < c .stop → OpenAt edges closed u (c .edge)
-  pub keeps : (j : ℕ) → OpenAt edges closed u j → From (indexIn n w) n c₀ j → From (indexIn n w) n c j
+  pub keeps : (j : ℕ) → Incident edges u j → From (indexIn n w) n c₀ j → From (indexIn n w) n c j
+  pub less : rank edges c ≤ rank edges c₀
+
+-- Looking on from c₀ has come to c: no edge at u is left behind.
+pub record Since (edges : Bytes) (n : ℕ) (w : List ℕ) (u : ℕ) (c₀ c : Cursor) : Type 0 where
+  pub seeking : Seeking edges n w u c
+  pub found : c .edge < c .stop → Incident edges u (c .edge)
+  pub keeps : (j : ℕ) → Incident edges u j → From (indexIn n w) n c₀ j → From (indexIn n w) n c j
   pub less : rank edges c ≤ rank edges c₀
 
 -- Looking on from c₀ has found what c says.
-pub record FoundFrom (edges closed : Bytes) (n : ℕ) (w : List ℕ) (u : ℕ) (c₀ c : Cursor) : Type 0 where
-  pub valid : Valid edges closed n w u c
-  pub keeps : (j : ℕ) → OpenAt edges closed u j → From (indexIn n w) n c₀ j → (j ≡ c .edge) ⊎ After (indexIn n w) n c j
+pub record FoundFrom (edges : Bytes) (n : ℕ) (w : List ℕ) (u : ℕ) (c₀ c : Cursor) : Type 0 where
+  pub valid : Valid edges n w u c
+  pub keeps : (j : ℕ) → Incident edges u j → From (indexIn n w) n c₀ j → (j ≡ c .edge) ⊎ After (indexIn n w) n c j
   pub less : rank edges c ≤ rank edges c₀

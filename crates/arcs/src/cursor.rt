@@ -1,19 +1,18 @@
-// Walking the open edges at a node.
+// Walking the edges at a node.
 ghost use mathlib.Core.Path.{_≡_};
 ghost use mathlib.Core.Bool.{true, false};
 ghost use mathlib.Core.List.{[]};
 ghost use Prim.Native.Nat.{_+_, _*_, _<_, _≤_, min};
 ghost use lib.ListN.{length};
-ghost use Rattle.model.specs.Network.{maxNodes, edgeCount, numbersBroken};
+ghost use Rattle.model.specs.Network.{maxNodes, edgeCount};
 ghost use Rattle.words.specs.Frames.{Enough};
-ghost use Rattle.index.specs.Index.{Within, OpenAt, IndexedEdges};
+ghost use Rattle.index.specs.Index.{Within, Incident, IndexedEdges};
 ghost use Rattle.words.specs.Regions.{indexIn};
-ghost use Rattle.arcs.specs.Cursor.{Valid, PassedEdges, Stepped, rank};
-ghost use Rattle.arcs.specs.Seeking.{Seeking, Since, FoundFrom, FirstOpen, AtEntry, blockAt};
+ghost use Rattle.arcs.specs.Cursor.{Valid, PassedEdges, Stepped};
+ghost use Rattle.arcs.specs.Seeking.{Seeking, Since, FoundFrom, FirstIncident, AtEntry, blockAt};
 use codec::records::EDGE_SIZE;
 use codec::records::edge_first;
 use codec::records::edge_second;
-use index::open::is_open;
 use index::positions::block_in;
 use index::positions::block_size;
 use index::positions::first_link;
@@ -27,28 +26,28 @@ pub struct Cursor {
     pub size: usize,
 }
 
-// Whether edge i is open and has an end at u.
-fn open_at(edges: &[u8], closed: &[u8], u: usize, i: usize) -> bool
-    requires { ⌜ (numbersBroken (edgeCount (now edges)) (now closed) ≡ false) × (i < edgeCount (now edges)) ⌝ }
-    ensures yes { λ r. ⌜ (r ≡ true → OpenAt (now (edges .entry)) (now (closed .entry)) u i) ⌝ }
-    ensures no { λ r. ⌜ (r ≡ false → OpenAt (now (edges .entry)) (now (closed .entry)) u i → ⊥) ⌝ }
+// Whether edge i has an end at u.
+fn is_incident(edges: &[u8], u: usize, i: usize) -> bool
+    requires { ⌜ i < edgeCount (now edges) ⌝ }
+    ensures yes { λ r. ⌜ (r ≡ true → Incident (now (edges .entry)) u i) ⌝ }
+    ensures no { λ r. ⌜ (r ≡ false → Incident (now (edges .entry)) u i → ⊥) ⌝ }
 {
     if edge_first(edges, i) != u {
         if edge_second(edges, i) != u {
             return false;
         }
     }
-    is_open(closed, edges.len() / EDGE_SIZE, i)
+    true
 }
 
-// The first open edge at u from i on and below stop, or stop where there is none.
-fn first_open(edges: &[u8], closed: &[u8], u: usize, i: usize, stop: usize) -> usize
-    requires { ⌜ (numbersBroken (edgeCount (now edges)) (now closed) ≡ false) × (i ≤ stop) × (stop ≤ edgeCount (now edges)) ⌝ }
-    ensures { λ r. ⌜ FirstOpen (now (edges .entry)) (now (closed .entry)) u i stop r ⌝ }
+// The first edge at u from i on and below stop, or stop where there is none.
+fn first_incident(edges: &[u8], u: usize, i: usize, stop: usize) -> usize
+    requires { ⌜ (i ≤ stop) × (stop ≤ edgeCount (now edges)) ⌝ }
+    ensures { λ r. ⌜ FirstIncident (now (edges .entry)) u i stop r ⌝ }
 {
     let mut r = i;
     while r < stop {
-        if open_at(edges, closed, u, r) {
+        if is_incident(edges, u, r) {
             return r;
         }
         r += 1;
@@ -82,12 +81,12 @@ fn block_at(m: usize, work: &[u32], n: usize, size: usize, p: usize) -> Cursor
     }
 }
 
-// On to the first open edge at u in the block, or to where the block stops.
-fn within_block(edges: &[u8], closed: &[u8], n: usize, work: &[u32], u: usize, c: Cursor) -> Cursor
-    requires { ⌜ (numbersBroken (edgeCount (now edges)) (now closed) ≡ false) × Seeking (now edges) n (now work) u c ⌝ }
-    ensures { λ r. ⌜ Since (now (edges .entry)) (now (closed .entry)) n (now (work .entry)) u c r ⌝ }
+// On to the first edge at u in the block, or to where the block stops.
+fn within_block(edges: &[u8], n: usize, work: &[u32], u: usize, c: Cursor) -> Cursor
+    requires { ⌜ Seeking (now edges) n (now work) u c ⌝ }
+    ensures { λ r. ⌜ Since (now (edges .entry)) n (now (work .entry)) u c r ⌝ }
 {
-    let edge = first_open(edges, closed, u, c.edge, c.stop);
+    let edge = first_incident(edges, u, c.edge, c.stop);
     Cursor {
         edge: edge,
         stop: c.stop,
@@ -96,29 +95,21 @@ fn within_block(edges: &[u8], closed: &[u8], n: usize, work: &[u32], u: usize, c
     }
 }
 
-// The same in the next block of the chain.
-fn in_next_block(edges: &[u8], closed: &[u8], n: usize, work: &[u32], u: usize, c: Cursor) -> Cursor
+// The first edge at u from the cursor's on, block by block.
+fn seek(edges: &[u8], n: usize, work: &[u32], u: usize, c: Cursor) -> Cursor
     requires { ⌜ (n ≤ maxNodes) × Enough n (now work) × (u < n) ⌝ }
-    requires { ⌜ IndexedEdges (now edges) (now closed) n (now work) ⌝ }
-    requires { ⌜ Seeking (now edges) n (now work) u c × (c .edge ≡ c .stop) × (n ≤ c .link) ⌝ }
-    ensures { λ r. ⌜ Since (now (edges .entry)) (now (closed .entry)) n (now (work .entry)) u c r
-        × (rank (now (edges .entry)) r < rank (now (edges .entry)) c) ⌝ }
-{
-    let b = block_at(edges.len() / EDGE_SIZE, work, n, c.size, c.link);
-    within_block(edges, closed, n, work, u, b)
-}
-
-// The first open edge at u from the cursor's on, block by block.
-fn seek(edges: &[u8], closed: &[u8], n: usize, work: &[u32], u: usize, c: Cursor) -> Cursor
-    requires { ⌜ (n ≤ maxNodes) × Enough n (now work) × (u < n) ⌝ }
-    requires { ⌜ IndexedEdges (now edges) (now closed) n (now work) ⌝ }
+    requires { ⌜ IndexedEdges (now edges) n (now work) ⌝ }
     requires { ⌜ Seeking (now edges) n (now work) u c ⌝ }
-    ensures { λ r. ⌜ FoundFrom (now (edges .entry)) (now (closed .entry)) n (now (work .entry)) u c r ⌝ }
+    ensures { λ r. ⌜ FoundFrom (now (edges .entry)) n (now (work .entry)) u c r ⌝ }
 {
-    let mut s = within_block(edges, closed, n, work, u, c);
-    while s.edge == s.stop {
+    let m = edges.len() / EDGE_SIZE;
+    let mut b = c;
+    loop {
+        let s = within_block(edges, n, work, u, b);
+        if s.edge != s.stop {
+            return s;
+        }
         if s.link < n {
-            let m = edges.len() / EDGE_SIZE;
             return Cursor {
                 edge: m,
                 stop: m,
@@ -126,12 +117,11 @@ fn seek(edges: &[u8], closed: &[u8], n: usize, work: &[u32], u: usize, c: Cursor
                 size: s.size,
             };
         }
-        s = in_next_block(edges, closed, n, work, u, s);
+        b = block_at(m, work, n, s.size, s.link);
     }
-    s
 }
 
-// In blocks of one edge, which list open edges only: the cursor at the entry p of a chain. The innermost step of every walk.
+// In blocks of one edge, which list none but edges at the node: the cursor at the entry p of a chain. The innermost step of every walk.
 fn listed(edges: &[u8], n: usize, work: &[u32], p: usize) -> Cursor
     requires { ⌜ (n ≤ maxNodes) × Enough n (now work) ⌝ }
     requires { ⌜ Within n (length (indexIn n (now work))) p ⌝ }
@@ -166,11 +156,11 @@ fn first_stop(edges: &[u8], size: usize) -> usize
     0
 }
 
-// A cursor at the first open edge at u.
-pub fn first_edge(edges: &[u8], closed: &[u8], n: usize, work: &[u32], u: usize) -> Cursor
+// A cursor at the first edge at u.
+pub fn first_edge(edges: &[u8], n: usize, work: &[u32], u: usize) -> Cursor
     requires { ⌜ (n ≤ maxNodes) × Enough n (now work) × (u < n) ⌝ }
-    requires { ⌜ IndexedEdges (now edges) (now closed) n (now work) ⌝ }
-    ensures { λ c. ⌜ PassedEdges (now (edges .entry)) (now (closed .entry)) n (now (work .entry)) u [] c ⌝ }
+    requires { ⌜ IndexedEdges (now edges) n (now work) ⌝ }
+    ensures { λ c. ⌜ PassedEdges (now (edges .entry)) n (now (work .entry)) u [] c ⌝ }
 {
     let size = block_size(work, n, u);
     let link = first_link(work, n, u);
@@ -184,15 +174,15 @@ pub fn first_edge(edges: &[u8], closed: &[u8], n: usize, work: &[u32], u: usize)
         link: link,
         size: size,
     };
-    seek(edges, closed, n, work, u, c)
+    seek(edges, n, work, u, c)
 }
 
-// On to the next open edge at u.
-pub fn next_edge(edges: &[u8], closed: &[u8], n: usize, work: &[u32], u: usize, c: Cursor) -> Cursor
+// On to the next edge at u.
+pub fn next_edge(edges: &[u8], n: usize, work: &[u32], u: usize, c: Cursor) -> Cursor
     requires { ⌜ (n ≤ maxNodes) × Enough n (now work) × (u < n) ⌝ }
-    requires { ⌜ IndexedEdges (now edges) (now closed) n (now work) ⌝ }
-    requires { ⌜ Valid (now edges) (now closed) n (now work) u c × (c .edge < edgeCount (now edges)) ⌝ }
-    ensures { λ r. ⌜ Stepped (now (edges .entry)) (now (closed .entry)) n (now (work .entry)) u c r ⌝ }
+    requires { ⌜ IndexedEdges (now edges) n (now work) ⌝ }
+    requires { ⌜ Valid (now edges) n (now work) u c × (c .edge < edgeCount (now edges)) ⌝ }
+    ensures { λ r. ⌜ Stepped (now (edges .entry)) n (now (work .entry)) u c r ⌝ }
 {
     if c.size == 1 {
         return listed(edges, n, work, c.link);
@@ -203,5 +193,5 @@ pub fn next_edge(edges: &[u8], closed: &[u8], n: usize, work: &[u32], u: usize, 
         link: c.link,
         size: c.size,
     };
-    seek(edges, closed, n, work, u, from)
+    seek(edges, n, work, u, from)
 }

@@ -73,11 +73,11 @@ pub fn arc_at(edges: &[u8], n: usize, u: usize, c: Cursor) -> ArcAt
 }
 
 // On to the next arc out of u: the innermost step of searches and marks, small enough to be inlined where it is called.
-pub fn next_arc(edges: &[u8], closed: &[u8], n: usize, work: &[u32], u: usize, a: ArcAt) -> ArcAt
+pub fn next_arc(edges: &[u8], n: usize, work: &[u32], u: usize, a: ArcAt) -> ArcAt
     requires { ⌜ (n ≤ maxNodes) × Enough n (now work) × (u < n) ⌝ }
-    requires { ⌜ IndexedEdges (now edges) (now closed) n (now work) ⌝ }
-    requires { ⌜ ValidArc (now edges) (now closed) [] n (now work) u a × (a .to < n) ⌝ }
-    ensures { λ r. ⌜ SteppedArc (now (edges .entry)) (now (closed .entry)) [] n (now (work .entry)) u a r ⌝ }
+    requires { ⌜ IndexedEdges (now edges) n (now work) ⌝ }
+    requires { ⌜ ValidArc (now edges) [] n (now work) u a × (a .to < n) ⌝ }
+    ensures { λ r. ⌜ SteppedArc (now (edges .entry)) [] n (now (work .entry)) u a r ⌝ }
 {
     let from = Cursor {
         edge: a.edge,
@@ -85,18 +85,18 @@ pub fn next_arc(edges: &[u8], closed: &[u8], n: usize, work: &[u32], u: usize, a
         link: a.link,
         size: a.size,
     };
-    let c = next_edge(edges, closed, n, work, u, from);
+    let c = next_edge(edges, n, work, u, from);
     arc_at(edges, n, u, c)
 }
 
 // ---- under a sheet
 
 // The cursor on to the next edge after an arc's.
-fn edge_after(edges: &[u8], closed: &[u8], n: usize, work: &[u32], u: usize, a: ArcAt) -> Cursor
+fn edge_after(edges: &[u8], n: usize, work: &[u32], u: usize, a: ArcAt) -> Cursor
     requires { ⌜ (n ≤ maxNodes) × Enough n (now work) × (u < n) ⌝ }
-    requires { ⌜ IndexedEdges (now edges) (now closed) n (now work) ⌝ }
-    requires { ⌜ Valid (now edges) (now closed) n (now work) u (cursorOf a) × (a .edge < edgeCount (now edges)) ⌝ }
-    ensures { λ r. ⌜ Stepped (now (edges .entry)) (now (closed .entry)) n (now (work .entry)) u (cursorOf a) r ⌝ }
+    requires { ⌜ IndexedEdges (now edges) n (now work) ⌝ }
+    requires { ⌜ Valid (now edges) n (now work) u (cursorOf a) × (a .edge < edgeCount (now edges)) ⌝ }
+    ensures { λ r. ⌜ Stepped (now (edges .entry)) n (now (work .entry)) u (cursorOf a) r ⌝ }
 {
     let from = Cursor {
         edge: a.edge,
@@ -104,7 +104,7 @@ fn edge_after(edges: &[u8], closed: &[u8], n: usize, work: &[u32], u: usize, a: 
         link: a.link,
         size: a.size,
     };
-    next_edge(edges, closed, n, work, u, from)
+    next_edge(edges, n, work, u, from)
 }
 
 // What is left of the edge that the cursor has found: the arc out of u, or one that costs 'no walk'.
@@ -129,128 +129,80 @@ fn left_arc(edges: &[u8], lines: &[u8], n: usize, work: &[u32], u: usize, c: Cur
 }
 
 // On to the next edge, and to what is left of it.
-fn next_left(
-    edges: &[u8],
-    closed: &[u8],
-    lines: &[u8],
-    n: usize,
-    work: &[u32],
-    u: usize,
-    a: ArcAt,
-) -> ArcAt
+fn next_left(edges: &[u8], lines: &[u8], n: usize, work: &[u32], u: usize, a: ArcAt) -> ArcAt
     requires { ⌜ (n ≤ maxNodes) × Enough n (now work) × (u < n) ⌝ }
-    requires { ⌜ EdgesUnder (now edges) (now closed) (now lines) n (now work) ⌝ }
-    requires { ⌜ Valid (now edges) (now closed) n (now work) u (cursorOf a) × (a .edge < edgeCount (now edges)) ⌝ }
-    ensures { λ r. ⌜ Stepped (now (edges .entry)) (now (closed .entry)) n (now (work .entry)) u (cursorOf a) (cursorOf r)
+    requires { ⌜ EdgesUnder (now edges) (now lines) n (now work) ⌝ }
+    requires { ⌜ Valid (now edges) n (now work) u (cursorOf a) × (a .edge < edgeCount (now edges)) ⌝ }
+    ensures { λ r. ⌜ Stepped (now (edges .entry)) n (now (work .entry)) u (cursorOf a) (cursorOf r)
         × LeftAt (now (edges .entry)) (now (lines .entry)) n u (cursorOf r) r ⌝ }
 {
-    let c = edge_after(edges, closed, n, work, u, a);
+    let c = edge_after(edges, n, work, u, a);
     left_arc(edges, lines, n, work, u, c)
 }
 
 // Past the edges that the sheet closes.
-fn past_shut(
-    edges: &[u8],
-    closed: &[u8],
-    lines: &[u8],
-    n: usize,
-    work: &[u32],
-    u: usize,
-    a: ArcAt,
-) -> ArcAt
+fn past_shut(edges: &[u8], lines: &[u8], n: usize, work: &[u32], u: usize, a: ArcAt) -> ArcAt
     requires { ⌜ (n ≤ maxNodes) × Enough n (now work) × (u < n) ⌝ }
-    requires { ⌜ EdgesUnder (now edges) (now closed) (now lines) n (now work) ⌝ }
-    requires { ⌜ Valid (now edges) (now closed) n (now work) u (cursorOf a) × LeftAt (now edges) (now lines) n u (cursorOf a) a ⌝ }
-    ensures { λ r. ⌜ FirstArc (now (edges .entry)) (now (closed .entry)) (now (lines .entry)) n (now (work .entry)) u (cursorOf a) r ⌝ }
+    requires { ⌜ EdgesUnder (now edges) (now lines) n (now work) ⌝ }
+    requires { ⌜ Valid (now edges) n (now work) u (cursorOf a) × LeftAt (now edges) (now lines) n u (cursorOf a) a ⌝ }
+    ensures { λ r. ⌜ FirstArc (now (edges .entry)) (now (lines .entry)) n (now (work .entry)) u (cursorOf a) r ⌝ }
 {
     let mut b = a;
     while b.cost == NO_WALK as u64 {
-        b = next_left(edges, closed, lines, n, work, u, b);
+        b = next_left(edges, lines, n, work, u, b);
     }
     b
 }
 
 // The first arc out of u from the edge on that the cursor has found.
-fn first_left(
-    edges: &[u8],
-    closed: &[u8],
-    lines: &[u8],
-    n: usize,
-    work: &[u32],
-    u: usize,
-    c: Cursor,
-) -> ArcAt
+fn first_left(edges: &[u8], lines: &[u8], n: usize, work: &[u32], u: usize, c: Cursor) -> ArcAt
     requires { ⌜ (n ≤ maxNodes) × Enough n (now work) × (u < n) ⌝ }
-    requires { ⌜ EdgesUnder (now edges) (now closed) (now lines) n (now work) ⌝ }
-    requires { ⌜ Valid (now edges) (now closed) n (now work) u c ⌝ }
-    ensures { λ r. ⌜ FirstArc (now (edges .entry)) (now (closed .entry)) (now (lines .entry)) n (now (work .entry)) u c r ⌝ }
+    requires { ⌜ EdgesUnder (now edges) (now lines) n (now work) ⌝ }
+    requires { ⌜ Valid (now edges) n (now work) u c ⌝ }
+    ensures { λ r. ⌜ FirstArc (now (edges .entry)) (now (lines .entry)) n (now (work .entry)) u c r ⌝ }
 {
     let a = left_arc(edges, lines, n, work, u, c);
     if a.cost == NO_WALK as u64 {
-        return past_shut(edges, closed, lines, n, work, u, a);
+        return past_shut(edges, lines, n, work, u, a);
     }
     a
 }
 
 // On to the next arc out of u that the lines leave.
-fn left_after(
-    edges: &[u8],
-    closed: &[u8],
-    lines: &[u8],
-    n: usize,
-    work: &[u32],
-    u: usize,
-    a: ArcAt,
-) -> ArcAt
+fn left_after(edges: &[u8], lines: &[u8], n: usize, work: &[u32], u: usize, a: ArcAt) -> ArcAt
     requires { ⌜ (n ≤ maxNodes) × Enough n (now work) × (u < n) ⌝ }
-    requires { ⌜ EdgesUnder (now edges) (now closed) (now lines) n (now work) ⌝ }
-    requires { ⌜ ValidArc (now edges) (now closed) (now lines) n (now work) u a × (a .to < n) ⌝ }
-    ensures { λ r. ⌜ SteppedArc (now (edges .entry)) (now (closed .entry)) (now (lines .entry)) n (now (work .entry)) u a r ⌝ }
+    requires { ⌜ EdgesUnder (now edges) (now lines) n (now work) ⌝ }
+    requires { ⌜ ValidArc (now edges) (now lines) n (now work) u a × (a .to < n) ⌝ }
+    ensures { λ r. ⌜ SteppedArc (now (edges .entry)) (now (lines .entry)) n (now (work .entry)) u a r ⌝ }
 {
-    let c = edge_after(edges, closed, n, work, u, a);
-    first_left(edges, closed, lines, n, work, u, c)
+    let c = edge_after(edges, n, work, u, a);
+    first_left(edges, lines, n, work, u, c)
 }
 
 // ---- with a sheet or without: where there are no lines, a walk is the plain one, at the cost of one comparison an arc
 
 // The first arc out of u from the edge on that the cursor has found.
-pub fn arc_under(
-    edges: &[u8],
-    closed: &[u8],
-    lines: &[u8],
-    n: usize,
-    work: &[u32],
-    u: usize,
-    c: Cursor,
-) -> ArcAt
+pub fn arc_under(edges: &[u8], lines: &[u8], n: usize, work: &[u32], u: usize, c: Cursor) -> ArcAt
     requires { ⌜ (n ≤ maxNodes) × Enough n (now work) × (u < n) ⌝ }
-    requires { ⌜ EdgesUnder (now edges) (now closed) (now lines) n (now work) ⌝ }
-    requires { ⌜ Valid (now edges) (now closed) n (now work) u c ⌝ }
-    ensures { λ r. ⌜ FirstArc (now (edges .entry)) (now (closed .entry)) (now (lines .entry)) n (now (work .entry)) u c r ⌝ }
+    requires { ⌜ EdgesUnder (now edges) (now lines) n (now work) ⌝ }
+    requires { ⌜ Valid (now edges) n (now work) u c ⌝ }
+    ensures { λ r. ⌜ FirstArc (now (edges .entry)) (now (lines .entry)) n (now (work .entry)) u c r ⌝ }
 {
     if lines.len() == 0 {
         return arc_at(edges, n, u, c);
     }
-    first_left(edges, closed, lines, n, work, u, c)
+    first_left(edges, lines, n, work, u, c)
 }
 
 // On to the next arc out of u.
-pub fn next_under(
-    edges: &[u8],
-    closed: &[u8],
-    lines: &[u8],
-    n: usize,
-    work: &[u32],
-    u: usize,
-    a: ArcAt,
-) -> ArcAt
+pub fn next_under(edges: &[u8], lines: &[u8], n: usize, work: &[u32], u: usize, a: ArcAt) -> ArcAt
     requires { ⌜ (n ≤ maxNodes) × Enough n (now work) × (u < n) ⌝ }
-    requires { ⌜ EdgesUnder (now edges) (now closed) (now lines) n (now work) ⌝ }
-    requires { ⌜ ValidArc (now edges) (now closed) (now lines) n (now work) u a × (a .to < n) ⌝ }
-    ensures { λ r. ⌜ SteppedArc (now (edges .entry)) (now (closed .entry)) (now (lines .entry)) n (now (work .entry)) u a r ⌝ }
+    requires { ⌜ EdgesUnder (now edges) (now lines) n (now work) ⌝ }
+    requires { ⌜ ValidArc (now edges) (now lines) n (now work) u a × (a .to < n) ⌝ }
+    ensures { λ r. ⌜ SteppedArc (now (edges .entry)) (now (lines .entry)) n (now (work .entry)) u a r ⌝ }
 {
     if lines.len() == 0 {
-        return next_arc(edges, closed, n, work, u, a);
+        return next_arc(edges, n, work, u, a);
     }
-    left_after(edges, closed, lines, n, work, u, a)
+    left_after(edges, lines, n, work, u, a)
 }

@@ -37,8 +37,8 @@ module _ (n : ℕ) (w w′ : List ℕ) (e : KeptFrom (searchWords n) w w′) whe
   pub transit-behind : region n transit w′ ≡ region n transit w
   transit-behind = region-later n transit w w′ (omega arith) e
 
-  pub roads-behind : (edges closed : Bytes) → IndexedEdges edges closed n w → IndexedEdges edges closed n w′
-  roads-behind edges closed r = roads-from edges closed n w w′ (searchWords n) (omega arith) e r
+  pub roads-behind : (edges : Bytes) → IndexedEdges edges n w → IndexedEdges edges n w′
+  roads-behind edges r = roads-from edges n w w′ (searchWords n) (omega arith) e r
 
   pub size-behind : (size : ℕ) → size ≡ valueSize * length (membersIn n transit w) → size ≡ valueSize * length (membersIn n transit w′)
   size-behind size q = rw transit-behind q
@@ -48,17 +48,17 @@ module _ (n : ℕ) (w w′ : List ℕ) (e : KeptFrom (searchWords n) w w′) whe
     row-behind = rw (f .times, transit-behind)
 
 -- From w, the index is written into x, the transit nodes are marked in y, and the lists passed to z.
-module _ (edges closed : Bytes) (n : ℕ) (some : 1 ≤ n) (w x y : List ℕ) (r : IndexedEdges edges closed n x) (first : KeptFrom (workWords n) w x)
+module _ (edges : Bytes) (n : ℕ) (some : 1 ≤ n) (w x y : List ℕ) (r : IndexedEdges edges n x) (first : KeptFrom (workWords n) w x)
     (second : KeptFrom (indexAt n) x y) where
-  pub roads-marked : IndexedEdges edges closed n y
-  roads-marked = roads-from edges closed n x y (indexAt n) (omega arith) second r
+  pub roads-marked : IndexedEdges edges n y
+  roads-marked = roads-from edges n x y (indexAt n) (omega arith) second r
 
   pub rest-marked : KeptFrom (workWords n) w y
   rest-marked = kept-more (indexAt n) (workWords n) x y (omega arith) second ∙ first
 
   module _ (z : List ℕ) (third : KeptFrom (regionAt n transit) y z) where
-    pub roads-passed : IndexedEdges edges closed n z
-    roads-passed = roads-from edges closed n y z (regionAt n transit) (omega arith) third roads-marked
+    pub roads-passed : IndexedEdges edges n z
+    roads-passed = roads-from edges n y z (regionAt n transit) (omega arith) third roads-marked
 
     pub rest-passed : KeptFrom (workWords n) w z
     rest-passed = kept-more (regionAt n transit) (workWords n) y z (omega arith) third ∙ rest-marked

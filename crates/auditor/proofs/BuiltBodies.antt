@@ -8,7 +8,7 @@ use lib.ListN.{length}
 use borrow.Author.Tests.{not-true}
 use Rattle.model.specs.Lists.{equal, concatMap}
 use Rattle.model.specs.Bytes.{Bytes, word16, bytes16}
-use Rattle.model.specs.Contents.{nodeBody, edgeBody, closedBody, gridBody, transitBody, accessBody, tableBody}
+use Rattle.model.specs.Contents.{nodeBody, edgeBody, gridBody, transitBody, accessBody, tableBody}
 use Rattle.model.specs.Network.{network, order, nodes, nodeCount, distance, maxNodes}
 use Rattle.model.specs.Grid.{gridOver, division}
 use Rattle.model.specs.Grid as model
@@ -36,16 +36,16 @@ use Rattle.auditor.specs.Same.{KeepsLists, sameList, sameLists, sameBodi
 use Rattle.auditor.proofs.AccessBytes.{Sized, same-whole}
 
 -- A list's first number is that of its entries.
-module _ (nodes edges closed : Bytes) (grid : Grid) (few : nodeCount nodes ≤ maxNodes) where
-  sized : Sized (nodeCount nodes) (listIn nodes edges closed grid)
+module _ (nodes edges : Bytes) (grid : Grid) (few : nodeCount nodes ≤ maxNodes) where
+  sized : Sized (nodeCount nodes) (listIn nodes edges grid)
   unfolding listIn listBytes bytes16
   sized v h l =
-      let t = transitIn nodes edges closed grid in
-      let d = distance (networkIn nodes edges closed) in
-      let a = accessOf nodes edges closed grid v in
+      let t = transitIn nodes edges grid in
+      let d = distance (networkIn nodes edges) in
+      let a = accessOf nodes edges grid v in
       let entries = concatMap (λ x. entryBytes t x (d v x)) a in
       let first : word16 ((bytes16 (length a) ++ entries) ++ l) 0 ≡ length a = ap (λ (b : Bytes). word16 b 0) (append-assoc (bytes16 (length a)) entries l)
-      ∙ word16-read (length a) (entries ++ l) (omega (arith, access-few nodes edges closed grid (nodeCount nodes) refl v)) in
+      ∙ word16-read (length a) (entries ++ l) (omega (arith, access-few nodes edges grid (nodeCount nodes) refl v)) in
       rw first (sym (length-list d t v a))
 
 module _ (o : Bytes) (shaped : wellShaped o ≡ true) (small : AreBytes o) (grid : Grid)
@@ -56,36 +56,36 @@ module _ (o : Bytes) (shaped : wellShaped o ≡ true) (small : AreBytes o) (grid
   p : Shaped o
   p = all-shaped o shaped
 
-  transit-is : transitIn (nodeBody o) (edgeBody o) (closedBody o) grid ≡ transitNodes (order (network o))
+  transit-is : transitIn (nodeBody o) (edgeBody o) grid ≡ transitNodes (order (network o))
       (accessLists (network o) (gridOver (division (gridBody o)) (network o .nodes)))
   unfolding transitIn network
-  transit-is = rw (count-nodes o) (ap (λ (m : model.Grid). transitNodes n (accessLists (networkIn (nodeBody o) (edgeBody o) (closedBody o)) m)) made)
+  transit-is = rw (count-nodes o) (ap (λ (m : model.Grid). transitNodes n (accessLists (networkIn (nodeBody o) (edgeBody o)) m)) made)
 
-  access-is : whole n (listIn (nodeBody o) (edgeBody o) (closedBody o) grid) ≡ builtAccess o shaped
+  access-is : whole n (listIn (nodeBody o) (edgeBody o) grid) ≡ builtAccess o shaped
   unfolding network
   access-is =
-      sym (access-body (nodeBody o) (edgeBody o) (closedBody o) grid n refl) ∙
-      (λ i. accessBytes (distance (networkIn (nodeBody o) (edgeBody o) (closedBody o))) (transit-is i)
-      (accessLists (networkIn (nodeBody o) (edgeBody o) (closedBody o)) (made i)))
+      sym (access-body (nodeBody o) (edgeBody o) grid n refl) ∙
+      (λ i. accessBytes (distance (networkIn (nodeBody o) (edgeBody o))) (transit-is i)
+      (accessLists (networkIn (nodeBody o) (edgeBody o)) (made i)))
 
-  table-is : tableBytes (distance (networkIn (nodeBody o) (edgeBody o) (closedBody o))) (transitIn (nodeBody o) (edgeBody o) (closedBody o) grid) ≡ builtTable o
+  table-is : tableBytes (distance (networkIn (nodeBody o) (edgeBody o))) (transitIn (nodeBody o) (edgeBody o) grid) ≡ builtTable o
       shaped
   unfolding network
-  table-is = ap (tableBytes (distance (networkIn (nodeBody o) (edgeBody o) (closedBody o)))) transit-is
+  table-is = ap (tableBytes (distance (networkIn (nodeBody o) (edgeBody o)))) transit-is
 
-  lists-tell : sameLists (nodeBody o) (edgeBody o) (closedBody o) grid (accessBody o) ≡ equal (accessBody o) (builtAccess o shaped)
+  lists-tell : sameLists (nodeBody o) (edgeBody o) grid (accessBody o) ≡ equal (accessBody o) (builtAccess o shaped)
   unfolding sameLists sameList
   lists-tell =
-      same-whole n (transitCount (transitBody o)) (accessBody o) (listIn (nodeBody o) (edgeBody o) (closedBody o) grid) (p .access) (part-bytes o small 5)
-      (sized (nodeBody o) (edgeBody o) (closedBody o) grid (node-bytes o (p .sound) .0)) ∙
+      same-whole n (transitCount (transitBody o)) (accessBody o) (listIn (nodeBody o) (edgeBody o) grid) (p .access) (part-bytes o small 5)
+      (sized (nodeBody o) (edgeBody o) grid (node-bytes o (p .sound) .0)) ∙
       ap (equal (accessBody o)) access-is
 
-  bodies-tell : sameBodies (nodeBody o) (edgeBody o) (closedBody o) grid (transitBody o) (accessBody o) (tableBody o)
+  bodies-tell : sameBodies (nodeBody o) (edgeBody o) grid (transitBody o) (accessBody o) (tableBody o)
       ≡ equal (transitBody o) (builtTransit o shaped) && (equal (accessBody o) (builtAccess o shaped) && equal (tableBody o) (builtTable o shaped))
   unfolding sameBodies
   bodies-tell = λ i. equal (transitBody o) (concatMap bytes16 (transit-is i)) && (lists-tell i && equal (tableBody o) (table-is i))
 
-  is-built-tells : sameBodies (nodeBody o) (edgeBody o) (closedBody o) grid (transitBody o) (accessBody o) (tableBody o) ≡ not (differsFromBuilt o)
+  is-built-tells : sameBodies (nodeBody o) (edgeBody o) grid (transitBody o) (accessBody o) (tableBody o) ≡ not (differsFromBuilt o)
   is-built-tells = bodies-tell ∙ same-test there back
     where
       there : equal (transitBody o) (builtTransit o shaped) && (equal (accessBody o) (builtAccess o shaped) && equal (tableBody o) (builtTable o shaped)) ≡ true
@@ -102,14 +102,13 @@ module _ (o : Bytes) (shaped : wellShaped o ≡ true) (small : AreBytes o) (grid
           rw (← x, ← y, ← z) (and (equal-self (transitBody o)) (and (equal-self (accessBody o)) (equal-self (tableBody o))))
 
 -- ---- with the bodies as the code has them
-module _ (o : Bytes) (shaped : wellShaped o ≡ true) (grid : Grid) (made : gridOf grid ≡ oracleGrid o) (nb eb cb : Bytes) (p : nb ≡ nodeBody o)
-    (q : eb ≡ edgeBody o)
-    (r : cb ≡ closedBody o) (ab : Bytes) (s : ab ≡ accessBody o) where
-  pub bodies-asked : (n room : ℕ) → n ≡ nodeCount (nodeBody o) → workWords n ≤ room → Ground nb eb cb grid × (n ≡ nodeCount nb) × (n ≤ maxNodes)
+module _ (o : Bytes) (shaped : wellShaped o ≡ true) (grid : Grid) (made : gridOf grid ≡ oracleGrid o) (nb eb : Bytes) (p : nb ≡ nodeBody o)
+    (q : eb ≡ edgeBody o) (ab : Bytes) (s : ab ≡ accessBody o) where
+  pub bodies-asked : (n room : ℕ) → n ≡ nodeCount (nodeBody o) → workWords n ≤ room → Ground nb eb grid × (n ≡ nodeCount nb) × (n ≤ maxNodes)
       × (workWords n ≤ room) × KeepsLists n ab × (1 ≤ n)
   bodies-asked n room e h =
       let k = all-shaped o shaped in (
-        record { over = over-oracle o nb p grid made k; edges-rule = rw (p, q) (k .sound .some-edge); closed-rule = rw (q, r) (k .sound .closed) },
+        record { over = over-oracle o nb p grid made k; edges-rule = rw (p, q) (k .sound .some-edge) },
         rw p e,
         rw e (node-bytes o (k .sound) .0),
         h,
@@ -117,6 +116,6 @@ module _ (o : Bytes) (shaped : wellShaped o ≡ true) (grid : Grid) (made : grid
         rw e (node-bytes o (k .sound) .1),
       )
 
-  pub bodies-told : AreBytes o → (tb xb : Bytes) → tb ≡ transitBody o → xb ≡ tableBody o → sameBodies nb eb cb grid tb ab xb ≡ not (differsFromBuilt o)
+  pub bodies-told : AreBytes o → (tb xb : Bytes) → tb ≡ transitBody o → xb ≡ tableBody o → sameBodies nb eb grid tb ab xb ≡ not (differsFromBuilt o)
   unfolding oracleGrid
-  bodies-told small tb xb t x = rw (p, q, r, s, t, x) (is-built-tells o shaped small grid made)
+  bodies-told small tb xb t x = rw (p, q, s, t, x) (is-built-tells o shaped small grid made)

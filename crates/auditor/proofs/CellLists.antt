@@ -30,31 +30,31 @@ listed n access k v h = (k .0, record { nodes = n; below = h; kept = k .1 })
 pub transit-kept : (n : ℕ) (w w′ : List ℕ) → KeptFrom (regionAt n transit) w w′ → membersIn n transit w′ ≡ membersIn n transit w
 transit-kept n w w′ e = rw e
 
-module _ (nodes edges closed : Bytes) (grid : Grid) (access : Bytes) (u : ℕ) where
+module _ (nodes edges : Bytes) (grid : Grid) (access : Bytes) (u : ℕ) where
   abbrev cs : List Cell
   cs = cellsIn grid nodes
 
-  pub other-cell : (v : ℕ) → sameCell cs u v ≡ false → true ≡ sameBeside nodes edges closed grid access u v
+  pub other-cell : (v : ℕ) → sameCell cs u v ≡ false → true ≡ sameBeside nodes edges grid access u v
   unfolding sameBeside
   other-cell v e = rw e
 
-  pub later-node : firstOfCell cs u ≡ false → true ≡ sameOfCell nodes edges closed grid access u
+  pub later-node : firstOfCell cs u ≡ false → true ≡ sameOfCell nodes edges grid access u
   unfolding sameOfCell
   later-node e = rw e
 
   module _ (n : ℕ) (size : n ≡ nodeCount nodes) where
-    pub first-node : firstOfCell cs u ≡ true → all (sameBeside nodes edges closed grid access u) (upTo n) ≡ sameOfCell nodes edges closed grid access u
+    pub first-node : firstOfCell cs u ≡ true → all (sameBeside nodes edges grid access u) (upTo n) ≡ sameOfCell nodes edges grid access u
     unfolding sameOfCell
     first-node e = rw (e, size)
 
     -- The list of v, of the cell of u.
-    pub this-cell : (w : List ℕ) → membersIn n transit w ≡ transitIn nodes edges closed grid → membersIn n own w ≡ accessOf nodes edges closed grid u → (v : ℕ)
+    pub this-cell : (w : List ℕ) → membersIn n transit w ≡ transitIn nodes edges grid → membersIn n own w ≡ accessOf nodes edges grid u → (v : ℕ)
         → sameCell cs u v ≡ true
-        → equal (cut (listPart access v) access) (listBytesOf (distanceWords (arcsIn edges closed) n v) (membersIn n transit w) (membersIn n own w)) ≡
-        sameBeside nodes edges closed grid access u v
+        → equal (cut (listPart access v) access) (listBytesOf (distanceWords (arcsIn edges) n v) (membersIn n transit w) (membersIn n own w)) ≡
+        sameBeside nodes edges grid access u v
     unfolding sameBeside sameList listIn
     this-cell w ts os v e =
-        rw (e, ts, os, same-access nodes edges closed grid u v (same-cell cs u v .0 e))
+        rw (e, ts, os, same-access nodes edges grid u v (same-cell cs u v .0 e))
         (ap (equal (cut (listPart access v) access))
-        (list-values (distance (networkIn nodes edges closed)) v n _ _ _ (distance-words nodes edges closed grid n size v)
-        (access-below nodes edges closed grid n size v)))
+        (list-values (distance (networkIn nodes edges)) v n _ _ _ (distance-words nodes edges grid n size v)
+        (access-below nodes edges grid n size v)))

@@ -34,26 +34,26 @@ module _ (n : ℕ) (s b : List ℕ) (e : equal b (numbersBytes (membersOf n s)) 
   pub row-size : (s′ : List ℕ) → membersOf n s′ ≡ membersOf n s → valueSize * (length b / numberSize) ≡ valueSize * length (membersOf n s′)
   row-size s′ q = omega (arith, count-body, ap length q)
 
-module _ (nodes edges closed : Bytes) (grid : Grid) (n : ℕ) (size : n ≡ nodeCount nodes) (b access table : Bytes) (w : List ℕ)
-    (ts : membersIn n transit w ≡ transitIn nodes edges closed grid) where
-  numbers-are : equal b (numbersBytes (membersIn n transit w)) ≡ equal b (concatMap bytes16 (transitIn nodes edges closed grid))
+module _ (nodes edges : Bytes) (grid : Grid) (n : ℕ) (size : n ≡ nodeCount nodes) (b access table : Bytes) (w : List ℕ)
+    (ts : membersIn n transit w ≡ transitIn nodes edges grid) where
+  numbers-are : equal b (numbersBytes (membersIn n transit w)) ≡ equal b (concatMap bytes16 (transitIn nodes edges grid))
   unfolding numbersBytes
   numbers-are = rw ts
 
-  pub first-differs : equal b (numbersBytes (membersIn n transit w)) ≡ false → false ≡ sameBodies nodes edges closed grid b access table
+  pub first-differs : equal b (numbersBytes (membersIn n transit w)) ≡ false → false ≡ sameBodies nodes edges grid b access table
   unfolding sameBodies
   first-differs e = rw (sym numbers-are ∙ e)
 
-  pub first-same : equal b (numbersBytes (membersIn n transit w)) ≡ true → equal b (concatMap bytes16 (transitIn nodes edges closed grid)) ≡ true
+  pub first-same : equal b (numbersBytes (membersIn n transit w)) ≡ true → equal b (concatMap bytes16 (transitIn nodes edges grid)) ≡ true
   first-same e = sym numbers-are ∙ e
 
-  module _ (e : equal b (concatMap bytes16 (transitIn nodes edges closed grid)) ≡ true) where
-    pub second-differs : sameLists nodes edges closed grid access ≡ false → false ≡ sameBodies nodes edges closed grid b access table
+  module _ (e : equal b (concatMap bytes16 (transitIn nodes edges grid)) ≡ true) where
+    pub second-differs : sameLists nodes edges grid access ≡ false → false ≡ sameBodies nodes edges grid b access table
     unfolding sameBodies
     second-differs f = rw (e, f)
 
-    pub third-tells : sameLists nodes edges closed grid access ≡ true → (r : Bool)
-        → r ≡ equal table (concatMap (λ v. rowBytes (distanceWords (arcsIn edges closed) n v) (membersIn n transit w)) (membersIn n transit w))
-        → r ≡ sameBodies nodes edges closed grid b access table
+    pub third-tells : sameLists nodes edges grid access ≡ true → (r : Bool)
+        → r ≡ equal table (concatMap (λ v. rowBytes (distanceWords (arcsIn edges) n v) (membersIn n transit w)) (membersIn n transit w))
+        → r ≡ sameBodies nodes edges grid b access table
     unfolding sameBodies
-    third-tells f r q = rw (e, f) (q ∙ ap (equal table) (table-words nodes edges closed grid n size (membersIn n transit w) ts))
+    third-tells f r q = rw (e, f) (q ∙ ap (equal table) (table-words nodes edges grid n size (membersIn n transit w) ts))

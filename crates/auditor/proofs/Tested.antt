@@ -52,22 +52,22 @@ asked : (b c : Bool) → b ≡ true → not b || c ≡ true → c ≡ true
 asked b c e h = rw e at h
 
 -- Each node has the cell of a first one, so that testing cell by cell tests all lists.
-module _ (nodes edges closed : Bytes) (grid : Grid) (access : Bytes) where
+module _ (nodes edges : Bytes) (grid : Grid) (access : Bytes) where
   abbrev n : ℕ
   n = nodeCount nodes
 
   abbrev cs : List Cell
   cs = cellsIn grid nodes
 
-  by-cells : all (sameOfCell nodes edges closed grid access) (upTo n) ≡ sameLists nodes edges closed grid access
+  by-cells : all (sameOfCell nodes edges grid access) (upTo n) ≡ sameLists nodes edges grid access
   unfolding sameLists sameOfCell sameBeside
   by-cells = same-test (λ h. →below _ n (λ v l. let (u, m, f, q) = first-found cs v in
-      let c : all (sameBeside nodes edges closed grid access u) (upTo n) ≡ true = asked (firstOfCell cs u) _ f
-      (below→ (sameOfCell nodes edges closed grid access) n h u (omega arith)) in
-      asked (sameCell cs u v) _ (same-cell cs u v .1 q) (below→ (sameBeside nodes edges closed grid access u) n c v l)))
-      (λ h. →below _ n (λ u m. let c : all (sameBeside nodes edges closed grid access u) (upTo n) ≡ true =
-      →below _ n (λ v l. rw (below→ (sameList nodes edges closed grid access) n h v l) (or-true (not (sameCell cs u v)))) in
+      let c : all (sameBeside nodes edges grid access u) (upTo n) ≡ true = asked (firstOfCell cs u) _ f
+      (below→ (sameOfCell nodes edges grid access) n h u (omega arith)) in
+      asked (sameCell cs u v) _ (same-cell cs u v .1 q) (below→ (sameBeside nodes edges grid access u) n c v l)))
+      (λ h. →below _ n (λ u m. let c : all (sameBeside nodes edges grid access u) (upTo n) ≡ true =
+      →below _ n (λ v l. rw (below→ (sameList nodes edges grid access) n h v l) (or-true (not (sameCell cs u v)))) in
       rw c (or-true (not (firstOfCell cs u)))))
 
-  pub by-cells-to : (m : ℕ) → m ≡ nodeCount nodes → all (sameOfCell nodes edges closed grid access) (upTo m) ≡ sameLists nodes edges closed grid access
+  pub by-cells-to : (m : ℕ) → m ≡ nodeCount nodes → all (sameOfCell nodes edges grid access) (upTo m) ≡ sameLists nodes edges grid access
   by-cells-to m e = rw e by-cells

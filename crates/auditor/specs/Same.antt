@@ -17,24 +17,24 @@ abbrev pub KeepsLists : ℕ → Bytes → Type 0
 KeepsLists n access = (T : ℕ) × (accessBroken n T access ≡ false)
 
 -- The list of v in the access body is the built one.
-unfoldable pub sameList : Bytes → Bytes → Bytes → Grid → Bytes → ℕ → Bool
-sameList nodes edges closed grid access v = equal (cut (listPart access v) access) (listIn nodes edges closed grid v)
+unfoldable pub sameList : Bytes → Bytes → Grid → Bytes → ℕ → Bool
+sameList nodes edges grid access v = equal (cut (listPart access v) access) (listIn nodes edges grid v)
 
 -- It is, where v has the cell of u.
-unfoldable pub sameBeside : Bytes → Bytes → Bytes → Grid → Bytes → ℕ → ℕ → Bool
-sameBeside nodes edges closed grid access u v = not (sameCell (cellsIn grid nodes) u v) || sameList nodes edges closed grid access v
+unfoldable pub sameBeside : Bytes → Bytes → Grid → Bytes → ℕ → ℕ → Bool
+sameBeside nodes edges grid access u v = not (sameCell (cellsIn grid nodes) u v) || sameList nodes edges grid access v
 
 -- All lists of the cell of u are, where u is its first node.
-unfoldable pub sameOfCell : Bytes → Bytes → Bytes → Grid → Bytes → ℕ → Bool
-sameOfCell nodes edges closed grid access u = not (firstOfCell (cellsIn grid nodes) u) || all (sameBeside nodes edges closed grid access u)
+unfoldable pub sameOfCell : Bytes → Bytes → Grid → Bytes → ℕ → Bool
+sameOfCell nodes edges grid access u = not (firstOfCell (cellsIn grid nodes) u) || all (sameBeside nodes edges grid access u)
     (upTo (nodeCount nodes))
 
 -- All lists are.
-unfoldable pub sameLists : Bytes → Bytes → Bytes → Grid → Bytes → Bool
-sameLists nodes edges closed grid access = all (sameList nodes edges closed grid access) (upTo (nodeCount nodes))
+unfoldable pub sameLists : Bytes → Bytes → Grid → Bytes → Bool
+sameLists nodes edges grid access = all (sameList nodes edges grid access) (upTo (nodeCount nodes))
 
 -- The last three bodies are those that building writes, the access body list by list.
-unfoldable pub sameBodies : Bytes → Bytes → Bytes → Grid → Bytes → Bytes → Bytes → Bool
-sameBodies nodes edges closed grid transit access table =
-    equal transit (concatMap bytes16 (transitIn nodes edges closed grid)) &&
-    (sameLists nodes edges closed grid access && equal table (tableBytes (distance (networkIn nodes edges closed)) (transitIn nodes edges closed grid)))
+unfoldable pub sameBodies : Bytes → Bytes → Grid → Bytes → Bytes → Bytes → Bool
+sameBodies nodes edges grid transit access table =
+    equal transit (concatMap bytes16 (transitIn nodes edges grid)) &&
+    (sameLists nodes edges grid access && equal table (tableBytes (distance (networkIn nodes edges)) (transitIn nodes edges grid)))

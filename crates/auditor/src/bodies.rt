@@ -18,7 +18,6 @@ use grid::Grid;
 use index::chains::build_index;
 use passes::transit::mark_transit;
 use reader::oracle::ACCESS;
-use reader::oracle::CLOSED;
 use reader::oracle::EDGES;
 use reader::oracle::NODES;
 use reader::oracle::TABLE;
@@ -29,7 +28,6 @@ use reader::oracle::oracle_contents;
 fn same_bodies(
     nodes: &[u8],
     edges: &[u8],
-    closed: &[u8],
     grid: Grid,
     n: usize,
     transit: &[u8],
@@ -37,22 +35,22 @@ fn same_bodies(
     table: &[u8],
     work: &mut [u32],
 ) -> bool
-    requires { ⌜ Ground (now nodes) (now edges) (now closed) grid × (n ≡ nodeCount (now nodes)) × (n ≤ maxNodes) × Enough n (now work)
+    requires { ⌜ Ground (now nodes) (now edges) grid × (n ≡ nodeCount (now nodes)) × (n ≤ maxNodes) × Enough n (now work)
         × KeepsLists n (now access) × (1 ≤ n) ⌝ }
-    ensures same { λ r. ⌜ r ≡ sameBodies (now (nodes .entry)) (now (edges .entry)) (now (closed .entry)) grid (now (transit .entry)) (now (access .entry))
+    ensures same { λ r. ⌜ r ≡ sameBodies (now (nodes .entry)) (now (edges .entry)) grid (now (transit .entry)) (now (access .entry))
         (now (table .entry)) ⌝ }
     ensures rest { λ _. ⌜ KeptFrom (workWords n) (now (work .entry)) (now (work .exit)) ⌝ }
 {
-    build_index(edges, closed, n, work);
-    mark_transit(nodes, edges, closed, grid, n, work);
+    build_index(edges, n, work);
+    mark_transit(nodes, edges, grid, n, work);
     if !same_transit(work, n, transit) {
         return false;
     }
-    if !same_lists(nodes, edges, closed, grid, access, n, work) {
+    if !same_lists(nodes, edges, grid, access, n, work) {
         return false;
     }
     let size = VALUE_SIZE * (transit.len() / NUMBER_SIZE);
-    same_table(edges, closed, n, size, table, work)
+    same_table(edges, n, size, table, work)
 }
 
 // Whether the oracle, of n nodes, is the one built from its bodies 1 to 4.
@@ -66,7 +64,6 @@ pub fn is_built(o: &[u8], n: usize, work: &mut [u32]) -> bool
     same_bodies(
         c.body(o, NODES),
         c.body(o, EDGES),
-        c.body(o, CLOSED),
         grid,
         n,
         c.body(o, TRANSIT),

@@ -41,24 +41,16 @@ fn is_list(work: &[u32], n: usize, b: &[u8]) -> bool
 }
 
 // Whether the list of v in the access body is that of the times from v, by a search for the `left` access nodes of its cell.
-fn same_from(
-    edges: &[u8],
-    closed: &[u8],
-    access: &[u8],
-    n: usize,
-    v: usize,
-    left: usize,
-    work: &mut [u32],
-) -> bool
+fn same_from(edges: &[u8], access: &[u8], n: usize, v: usize, left: usize, work: &mut [u32]) -> bool
     requires { ⌜ (n ≤ maxNodes) × (v < n) × Enough n (now work) × Among n (region n own (now work)) (region n transit (now work)) × ListedBelow (now access) v
         × Sought n left (now work) ⌝ }
-    requires { ⌜ IndexedEdges (now edges) (now closed) n (now work) ⌝ }
+    requires { ⌜ IndexedEdges (now edges) n (now work) ⌝ }
     ensures same { λ r. ⌜ r ≡ equal (cut (listPart (now (access .entry)) v) (now (access .entry)))
-        (listBytesOf (distanceWords (arcsIn (now (edges .entry)) (now (closed .entry))) n v) (membersIn n transit (now (work .entry)))
+        (listBytesOf (distanceWords (arcsIn (now (edges .entry))) n v) (membersIn n transit (now (work .entry)))
         (membersIn n own (now (work .entry)))) ⌝ }
     ensures others { λ _. ⌜ KeptFrom (searchWords n) (now (work .entry)) (now (work .exit)) ⌝ }
 {
-    search_own(edges, closed, n, v, left, work);
+    search_own(edges, n, v, left, work);
     is_list(work, n, list_part(access, v))
 }
 
@@ -66,7 +58,6 @@ fn same_from(
 fn same_beside(
     nodes: &[u8],
     edges: &[u8],
-    closed: &[u8],
     grid: Grid,
     square: Square,
     access: &[u8],
@@ -76,25 +67,24 @@ fn same_beside(
     left: usize,
     work: &mut [u32],
 ) -> bool
-    requires { ⌜ Ground (now nodes) (now edges) (now closed) grid × (n ≡ nodeCount (now nodes)) × (n ≤ maxNodes) × (u < n) × (v < n) × Enough n (now work)
+    requires { ⌜ Ground (now nodes) (now edges) grid × (n ≡ nodeCount (now nodes)) × (n ≤ maxNodes) × (u < n) × (v < n) × Enough n (now work)
         × KeepsLists n (now access) × CellSquare (now nodes) grid u square ⌝ }
-    requires { ⌜ (membersIn n transit (now work) ≡ transitIn (now nodes) (now edges) (now closed) grid)
-        × (membersIn n own (now work) ≡ accessOf (now nodes) (now edges) (now closed) grid u) ⌝ }
-    requires { ⌜ Sought n left (now work) × IndexedEdges (now edges) (now closed) n (now work) ⌝ }
-    ensures same { λ r. ⌜ r ≡ sameBeside (now (nodes .entry)) (now (edges .entry)) (now (closed .entry)) grid (now (access .entry)) u v ⌝ }
+    requires { ⌜ (membersIn n transit (now work) ≡ transitIn (now nodes) (now edges) grid)
+        × (membersIn n own (now work) ≡ accessOf (now nodes) (now edges) grid u) ⌝ }
+    requires { ⌜ Sought n left (now work) × IndexedEdges (now edges) n (now work) ⌝ }
+    ensures same { λ r. ⌜ r ≡ sameBeside (now (nodes .entry)) (now (edges .entry)) grid (now (access .entry)) u v ⌝ }
     ensures others { λ _. ⌜ KeptFrom (searchWords n) (now (work .entry)) (now (work .exit)) ⌝ }
 {
     if !beside(nodes, square, v) {
         return true;
     }
-    same_from(edges, closed, access, n, v, left, work)
+    same_from(edges, access, n, v, left, work)
 }
 
 // Whether all lists of the cell of u are.
 fn same_in_cell(
     nodes: &[u8],
     edges: &[u8],
-    closed: &[u8],
     grid: Grid,
     access: &[u8],
     n: usize,
@@ -102,30 +92,18 @@ fn same_in_cell(
     left: usize,
     work: &mut [u32],
 ) -> bool
-    requires { ⌜ Ground (now nodes) (now edges) (now closed) grid × (n ≡ nodeCount (now nodes)) × (n ≤ maxNodes) × (u < n) × Enough n (now work)
+    requires { ⌜ Ground (now nodes) (now edges) grid × (n ≡ nodeCount (now nodes)) × (n ≤ maxNodes) × (u < n) × Enough n (now work)
         × KeepsLists n (now access) ⌝ }
-    requires { ⌜ (membersIn n transit (now work) ≡ transitIn (now nodes) (now edges) (now closed) grid)
-        × (membersIn n own (now work) ≡ accessOf (now nodes) (now edges) (now closed) grid u) ⌝ }
-    requires { ⌜ Sought n left (now work) × IndexedEdges (now edges) (now closed) n (now work) ⌝ }
-    ensures same { λ r. ⌜ r ≡ all (sameBeside (now (nodes .entry)) (now (edges .entry)) (now (closed .entry)) grid (now (access .entry)) u) (upTo n) ⌝ }
+    requires { ⌜ (membersIn n transit (now work) ≡ transitIn (now nodes) (now edges) grid)
+        × (membersIn n own (now work) ≡ accessOf (now nodes) (now edges) grid u) ⌝ }
+    requires { ⌜ Sought n left (now work) × IndexedEdges (now edges) n (now work) ⌝ }
+    ensures same { λ r. ⌜ r ≡ all (sameBeside (now (nodes .entry)) (now (edges .entry)) grid (now (access .entry)) u) (upTo n) ⌝ }
     ensures others { λ _. ⌜ KeptFrom (searchWords n) (now (work .entry)) (now (work .exit)) ⌝ }
 {
     let square = cell_square(nodes, grid, u);
     let mut v = 0;
     while v < n {
-        if !same_beside(
-            nodes,
-            edges,
-            closed,
-            grid,
-            square,
-            access,
-            n,
-            u,
-            v,
-            left,
-            work,
-        ) {
+        if !same_beside(nodes, edges, grid, square, access, n, u, v, left, work) {
             return false;
         }
         v += 1;
@@ -137,45 +115,43 @@ fn same_in_cell(
 fn same_of_cell(
     nodes: &[u8],
     edges: &[u8],
-    closed: &[u8],
     grid: Grid,
     access: &[u8],
     n: usize,
     u: usize,
     work: &mut [u32],
 ) -> bool
-    requires { ⌜ Ground (now nodes) (now edges) (now closed) grid × (n ≡ nodeCount (now nodes)) × (n ≤ maxNodes) × (u < n) × Enough n (now work)
+    requires { ⌜ Ground (now nodes) (now edges) grid × (n ≡ nodeCount (now nodes)) × (n ≤ maxNodes) × (u < n) × Enough n (now work)
         × KeepsLists n (now access) ⌝ }
-    requires { ⌜ (membersIn n transit (now work) ≡ transitIn (now nodes) (now edges) (now closed) grid) × IndexedEdges (now edges) (now closed) n (now work) ⌝ }
-    ensures same { λ r. ⌜ r ≡ sameOfCell (now (nodes .entry)) (now (edges .entry)) (now (closed .entry)) grid (now (access .entry)) u ⌝ }
+    requires { ⌜ (membersIn n transit (now work) ≡ transitIn (now nodes) (now edges) grid) × IndexedEdges (now edges) n (now work) ⌝ }
+    ensures same { λ r. ⌜ r ≡ sameOfCell (now (nodes .entry)) (now (edges .entry)) grid (now (access .entry)) u ⌝ }
     ensures others { λ _. ⌜ KeptFrom (regionAt n transit) (now (work .entry)) (now (work .exit)) ⌝ }
 {
     if !first_of_cell(nodes, grid, u) {
         return true;
     }
-    let left = own_wanted(nodes, edges, closed, grid, n, u, work);
-    same_in_cell(nodes, edges, closed, grid, access, n, u, left, work)
+    let left = own_wanted(nodes, edges, grid, n, u, work);
+    same_in_cell(nodes, edges, grid, access, n, u, left, work)
 }
 
 // Whether all lists are the built ones.
 pub fn same_lists(
     nodes: &[u8],
     edges: &[u8],
-    closed: &[u8],
     grid: Grid,
     access: &[u8],
     n: usize,
     work: &mut [u32],
 ) -> bool
-    requires { ⌜ Ground (now nodes) (now edges) (now closed) grid × (n ≡ nodeCount (now nodes)) × (n ≤ maxNodes) × Enough n (now work)
+    requires { ⌜ Ground (now nodes) (now edges) grid × (n ≡ nodeCount (now nodes)) × (n ≤ maxNodes) × Enough n (now work)
         × KeepsLists n (now access) ⌝ }
-    requires { ⌜ (membersIn n transit (now work) ≡ transitIn (now nodes) (now edges) (now closed) grid) × IndexedEdges (now edges) (now closed) n (now work) ⌝ }
-    ensures same { λ r. ⌜ r ≡ sameLists (now (nodes .entry)) (now (edges .entry)) (now (closed .entry)) grid (now (access .entry)) ⌝ }
+    requires { ⌜ (membersIn n transit (now work) ≡ transitIn (now nodes) (now edges) grid) × IndexedEdges (now edges) n (now work) ⌝ }
+    ensures same { λ r. ⌜ r ≡ sameLists (now (nodes .entry)) (now (edges .entry)) grid (now (access .entry)) ⌝ }
     ensures others { λ _. ⌜ KeptFrom (regionAt n transit) (now (work .entry)) (now (work .exit)) ⌝ }
 {
     let mut u = 0;
     while u < n {
-        if !same_of_cell(nodes, edges, closed, grid, access, n, u, work) {
+        if !same_of_cell(nodes, edges, grid, access, n, u, work) {
             return false;
         }
         u += 1;

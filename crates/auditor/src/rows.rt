@@ -49,7 +49,6 @@ fn row_at(work: &[u32], n: usize, size: usize, table: &[u8], at: usize) -> Compa
 // Compares the row of v with what stands at `at`, where v is a transit node.
 fn same_from(
     edges: &[u8],
-    closed: &[u8],
     n: usize,
     size: usize,
     table: &[u8],
@@ -58,37 +57,30 @@ fn same_from(
     work: &mut [u32],
 ) -> Compared
     requires { ⌜ (n ≤ maxNodes) × (v < n) × Enough n (now work) × (size ≡ valueSize * length (membersIn n transit (now work))) × (at ≤ length (now table)) ⌝ }
-    requires { ⌜ IndexedEdges (now edges) (now closed) n (now work) × NotAlone n transit (now work) ⌝ }
+    requires { ⌜ IndexedEdges (now edges) n (now work) × NotAlone n transit (now work) ⌝ }
     ensures same { λ r. ⌜ r ≡ compared (now (table .entry)) at (ifIn (region n transit (now (work .entry))) v
-        (rowBytes (distanceWords (arcsIn (now (edges .entry)) (now (closed .entry))) n v) (membersIn n transit (now (work .entry))))) ⌝ }
+        (rowBytes (distanceWords (arcsIn (now (edges .entry))) n v) (membersIn n transit (now (work .entry))))) ⌝ }
     ensures others { λ _. ⌜ KeptFrom (searchWords n) (now (work .entry)) (now (work .exit)) ⌝ }
 {
     if !has(work, n, TRANSIT, v) {
         return Compared::Same(at);
     }
-    search_front(edges, closed, n, v, work);
+    search_front(edges, n, v, work);
     row_at(work, n, size, table, at)
 }
 
 // Whether the table is the rows of the transit nodes, of `size` bytes each.
-pub fn same_table(
-    edges: &[u8],
-    closed: &[u8],
-    n: usize,
-    size: usize,
-    table: &[u8],
-    work: &mut [u32],
-) -> bool
+pub fn same_table(edges: &[u8], n: usize, size: usize, table: &[u8], work: &mut [u32]) -> bool
     requires { ⌜ (n ≤ maxNodes) × Enough n (now work) × (size ≡ valueSize * length (membersIn n transit (now work))) ⌝ }
-    requires { ⌜ IndexedEdges (now edges) (now closed) n (now work) × NotAlone n transit (now work) ⌝ }
-    ensures same { λ r. ⌜ r ≡ equal (now (table .entry)) (concatMap (λ v. rowBytes (distanceWords (arcsIn (now (edges .entry)) (now (closed .entry))) n v)
+    requires { ⌜ IndexedEdges (now edges) n (now work) × NotAlone n transit (now work) ⌝ }
+    ensures same { λ r. ⌜ r ≡ equal (now (table .entry)) (concatMap (λ v. rowBytes (distanceWords (arcsIn (now (edges .entry))) n v)
         (membersIn n transit (now (work .entry)))) (membersIn n transit (now (work .entry)))) ⌝ }
     ensures others { λ _. ⌜ KeptFrom (searchWords n) (now (work .entry)) (now (work .exit)) ⌝ }
 {
     let mut at = 0;
     let mut v = 0;
     while v < n {
-        let Compared::Same(next) = same_from(edges, closed, n, size, table, at, v, work) else {
+        let Compared::Same(next) = same_from(edges, n, size, table, at, v, work) else {
             return false;
         };
         at = next;

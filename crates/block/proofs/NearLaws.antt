@@ -8,7 +8,7 @@ use mathlib.Core.List.{List, [], _∷_}
 use lib.ListN.{length, getD, set, drop, replicate, length-replicate}
 use lib.Seq.{getD-set-same}
 use Rattle.model.specs.Bytes.{Bytes}
-use Rattle.model.specs.Contents.{nodeBody, edgeBody, closedBody}
+use Rattle.model.specs.Contents.{nodeBody, edgeBody}
 use Rattle.model.specs.Lists.{any}
 use Rattle.model.specs.Network.{nodeCount}
 use Rattle.model.specs.Oracle.{coded}
@@ -170,9 +170,9 @@ module _ (o : Bytes) (s : ℕ) (names : List ℕ) (left : ℕ) (w : List ℕ) (g
         rw (g .alone z v h) (store-same n s 0 w i (omega arith) ∙ sym (itself-no-time o s shape i)))
 
 -- What a search leaves, over the bodies and the number of nodes as the code has them.
-module _ (o : Bytes) (m : ℕ) (e : m ≡ nodeCount (nodeBody o)) (eb cb : Bytes) (p : eb ≡ edgeBody o) (q : cb ≡ closedBody o) (s : ℕ) (w w′ order : List ℕ) where
-  pub stopped-times : Stopped (arcsIn eb cb) m s (wantIn m w) (timesIn m w′) order → WantedTimes o s (wantedIn o w) w′
+module _ (o : Bytes) (m : ℕ) (e : m ≡ nodeCount (nodeBody o)) (eb : Bytes) (p : eb ≡ edgeBody o) (s : ℕ) (w w′ order : List ℕ) where
+  pub stopped-times : Stopped (arcsIn eb) m s (wantIn m w) (timesIn m w′) order → WantedTimes o s (wantedIn o w) w′
   stopped-times found v i h =
       let n = nodeCount (nodeBody o) in
-      let f : Stopped (arcsIn (edgeBody o) (closedBody o)) n s (wantIn n w) (timesIn n w′) order = rw (e, p, q) at found in
+      let f : Stopped (arcsIn (edgeBody o)) n s (wantIn n w) (timesIn n w′) order = rw (e, p) at found in
       sym (time-at n w′ v i) ∙ (f .wanted v i h ∙ ap coded (sym (distance-in o s v)))

@@ -3,7 +3,7 @@ use Prim.Native.Nat.{ℕ, _≤_, _<_}
 use native.Mathlib.Omega.{arith}
 use mathlib.Core.Path.{_≡_, refl, sym, _∙_, ap}
 use mathlib.Core.Bool.{true, false}
-use mathlib.Core.List.{List, []}
+use mathlib.Core.List.{List, [], _∷_, map}
 use lib.ListN.{length, getD, replicate}
 use borrow.Author.Tests.{ne-eqb}
 use Rattle.model.specs.Bytes.{Bytes}
@@ -14,7 +14,7 @@ use Rattle.model.specs.Network.{network, nodeCount, arcs, distance}
 use Rattle.model.specs.Oracle.{oracle, coded, decoded}
 use Rattle.model.specs.Query.{distanceOf, timeWord}
 use Rattle.model.specs.Lists.{any}
-use Rattle.model.specs.Rules.{accepted, noSuchNode, wordsNeeded}
+use Rattle.model.specs.Rules.{networkRules, shapeRules, accepted, noSuchNode, wordsNeeded}
 use Rattle.model.specs.Calls.{cleared, answerAfter, timeResult, TimeCall}
 use Rattle.model.specs.declared.Answer.{Answer}
 use Rattle.model.specs.declared.Division.{Division}
@@ -30,11 +30,18 @@ use Rattle.theory.specs.FarModel.{exact}
 use Rattle.model.specs.Meanings.{meaning-injective}
 use Rattle.demands.specs.Outcomes.{Refuses}
 use Rattle.demands.specs.CallLaws as laws
-use Rattle.block.specs.Block.{maxNames, blockRules, rowOf, unusedRow, blockOf, blockRefusal, blockAfter, BlockCall}
+use Rattle.block.specs.Block.{maxNames, sidesRules, blockRules, rowOf, unusedRow, blockOf, blockRefusal, blockAfter, BlockCall}
 use Rattle.block.specs.Twelve.{used-at, unused-at}
+use Rattle.checks.specs.RuleLists.{namedRules}
 use Rattle.checks.proofs.NameLists.{named-there}
 use Rattle.block.specs.Kept.{BlockKept, block-kept}
 use Rattle.block.specs.declared.Block.{Block}
+
+-- "17 .. directly after 12", and 21 "directly after 7" (document 02, T-01 and T-06).
+pub block-order : (o : Bytes) (starts ends : List ℕ) (words : ℕ) → map (λ r. r .number) (blockRules o starts ends words)
+    ≡ 1 ∷ 2 ∷ 3 ∷ 4 ∷ 5 ∷ 6 ∷ 7 ∷ 21 ∷ 8 ∷ 9 ∷ 10 ∷ 11 ∷ 12 ∷ 17 ∷ 14 ∷ []
+unfolding blockRules sidesRules namedRules shapeRules networkRules
+block-order o starts ends words = refl
 
 -- ---- demand 1: "hands back the number of the first rule broken and writes nothing", and the block beside it is all zeros
 block-rule : (k : ℕ) (times : List (List ℕ)) → blockAfter k times .rule ≡ k

@@ -8,7 +8,7 @@ use Rattle.model.specs.Query.{timeWord}
 use Rattle.model.specs.Bytes.{Bytes}
 use Rattle.model.specs.Lists.{all, concat}
 use Rattle.model.specs.Oracle.{oracle, noWalk}
-use Rattle.model.specs.Trials.{line, fork, usual, Trial, _⇒_, holds}
+use Rattle.model.specs.Trials.{line, fork, forkWithout4, usual, Trial, _⇒_, holds}
 use Rattle.model.specs.Compute.{computed}
 use Rattle.checks.specs.RuleLists.{namedRules}
 use Rattle.block.specs.Block.{namesBroken, sidesRules, blockRules, twelve, rowOf, blockOf, blockRefusal, blockAfter}
@@ -33,14 +33,14 @@ pub trials : List Trial
 trials =
     let lineOracle = oracle line (usual 6) in
     let forkOracle = oracle (fork []) (usual 6) in
-    let closedOracle = oracle (fork (4 ∷ [])) (usual 6) in
+    let withoutOracle = oracle forkWithout4 (usual 6) in
     -- Line: 0 to 2 is far; a start named again, and places that are both start and end.
     (block lineOracle (0 ∷ 1 ∷ 2 ∷ 0 ∷ []) (2 ∷ 1 ∷ 0 ∷ [])
     ⇒ rows ((16 ∷ 7 ∷ 0 ∷ []) ∷ (9 ∷ 0 ∷ 7 ∷ []) ∷ (0 ∷ 9 ∷ 16 ∷ []) ∷ (16 ∷ 7 ∷ 0 ∷ []) ∷ [])) ∷
     -- Fork: 0 to 4 is far; an end named again.
     (block forkOracle (4 ∷ 1 ∷ []) (0 ∷ 1 ∷ 2 ∷ 4 ∷ 4 ∷ []) ⇒ rows ((11 ∷ 6 ∷ 6 ∷ 0 ∷ 0 ∷ []) ∷ (5 ∷ 0 ∷ 10 ∷ 6 ∷ 6 ∷ []) ∷ [])) ∷
-    -- Fork with road 4 closed: no walk to place 4, by the table (0) and by the roads (3).
-    (block closedOracle (0 ∷ 4 ∷ 3 ∷ []) (4 ∷ 3 ∷ 2 ∷ []) ⇒ rows ((noWalk ∷ 10 ∷ 5 ∷ []) ∷ (0 ∷ noWalk ∷ noWalk ∷ []) ∷ (noWalk ∷ 0 ∷ 5 ∷ []) ∷ [])) ∷
+    -- Fork with road 4 left out: no walk to place 4, by the table (0) and by the roads (3).
+    (block withoutOracle (0 ∷ 4 ∷ 3 ∷ []) (4 ∷ 3 ∷ 2 ∷ []) ⇒ rows ((noWalk ∷ 10 ∷ 5 ∷ []) ∷ (0 ∷ noWalk ∷ noWalk ∷ []) ∷ (noWalk ∷ 0 ∷ 5 ∷ []) ∷ [])) ∷
     -- 17 without a name and with thirteen; 12 looks at the thirteenth.
     (block lineOracle [] (0 ∷ []) ⇒ refused 17) ∷
     (block lineOracle (0 ∷ []) (replicate 13 2) ⇒ refused 17) ∷
@@ -48,6 +48,7 @@ trials =
     []
 
 pub trials-hold : all holds trials ≡ true
-unfolding trials holds _⇒_ told block rows refused namedRules namesBroken sidesRules blockRules timeWord twelve rowOf blockOf blockRefusal blockAfter line fork
+unfolding trials holds _⇒_ told block rows refused namedRules namesBroken sidesRules blockRules timeWord twelve rowOf blockOf blockRefusal blockAfter
+    line fork forkWithout4
     computed
 trials-hold = refl

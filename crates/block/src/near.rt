@@ -17,7 +17,6 @@ ghost use Rattle.words.specs.Regions.{gridAt, searchWords};
 use checks::kinds::is_local;
 use checks::kinds::kind_in;
 use grid::Grid;
-use reader::oracle::CLOSED;
 use reader::oracle::EDGES;
 use reader::oracle::node_count;
 use reader::oracle::oracle_body;
@@ -71,14 +70,7 @@ fn search_until(o: &[u8], s: usize, left: usize, work: &mut [u32])
     ensures times { λ _. ⌜ WantedTimes (now (o .entry)) s (wantedIn (now (o .entry)) (now (work .entry))) (now (work .exit)) ⌝ }
     ensures others { λ _. ⌜ KeptFrom (searchWords (nodeCount (nodeBody (now (o .entry))))) (now (work .entry)) (now (work .exit)) ⌝ }
 {
-    search_wanted(
-        oracle_body(o, EDGES),
-        oracle_body(o, CLOSED),
-        node_count(o),
-        s,
-        left,
-        work,
-    );
+    search_wanted(oracle_body(o, EDGES), node_count(o), s, left, work);
 }
 
 // The times from s to the ends that are local to it stand in the words afterwards. Where s is the only one, no search is made.

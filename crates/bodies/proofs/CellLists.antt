@@ -90,14 +90,14 @@ module _ (n : ℕ) (list : ℕ → Bytes) (body : Bytes) (g : Begun n list body)
           (offset-order n list v w (omega (arith, d)) l)) ∙ p
 
 -- ---- the lists of a network
-module _ (b e c : Bytes) (grid : Grid) (n : ℕ) where
-  pub length-its : (v : ℕ) → length (listIn b e c grid v) ≡ listSize (length (accessOf b e c grid v))
+module _ (b e : Bytes) (grid : Grid) (n : ℕ) where
+  pub length-its : (v : ℕ) → length (listIn b e grid v) ≡ listSize (length (accessOf b e grid v))
   unfolding listIn
-  length-its v = length-list (distance (networkIn b e c)) (transitIn b e c grid) v (accessOf b e c grid v)
+  length-its v = length-list (distance (networkIn b e)) (transitIn b e grid) v (accessOf b e grid v)
 
   -- The words go on to serve where the transit nodes stay.
-  module _ (w w′ : List ℕ) (based : Based b e c grid n w) (k : length w′ ≡ length w) where
-    pub based-still : KeptFrom (regionAt n transit) w w′ → Based b e c grid n w′
+  module _ (w w′ : List ℕ) (based : Based b e grid n w) (k : length w′ ≡ length w) where
+    pub based-still : KeptFrom (regionAt n transit) w w′ → Based b e grid n w′
     based-still q = record {
       ground = based .ground;
       count = based .count;
@@ -105,54 +105,54 @@ module _ (b e c : Bytes) (grid : Grid) (n : ℕ) where
       words = omega (arith, based .words, k);
       some = based .some;
       roads =
-          roads-from e c n w w′ (regionAt n transit) (omega arith) q (based .roads);
+          roads-from e n w w′ (regionAt n transit) (omega arith) q (based .roads);
       transits = ap (λ (l : List ℕ). membersOf n (take (setWords n) l)) q ∙ based .transits;
     }
 
-    pub based-later : KeptFrom (searchWords n) w w′ → Based b e c grid n w′
+    pub based-later : KeptFrom (searchWords n) w w′ → Based b e grid n w′
     based-later q = based-still (kept-more (searchWords n) (regionAt n transit) w w′ (omega arith) q)
 
   -- ---- the list of v, where the words are those for the cell of u
-  module _ (w : List ℕ) (based : Based b e c grid n w) (u v : ℕ) (u-in : u < n) (v-in : v < n) (os : membersIn n own w ≡ accessOf b e c grid u) (body : Bytes)
-      (l : ListedTo b e c grid n u v body) where
-    pub list-other : sameCell (cellsIn grid b) u v ≡ false → ListedTo b e c grid n u (v + 1) body
-    list-other other = record { begun = l .begun; seen = to-other (cellsIn grid b) (Stands n (listIn b e c grid) body) n u v other (l .seen) }
+  module _ (w : List ℕ) (based : Based b e grid n w) (u v : ℕ) (u-in : u < n) (v-in : v < n) (os : membersIn n own w ≡ accessOf b e grid u) (body : Bytes)
+      (l : ListedTo b e grid n u v body) where
+    pub list-other : sameCell (cellsIn grid b) u v ≡ false → ListedTo b e grid n u (v + 1) body
+    list-other other = record { begun = l .begun; seen = to-other (cellsIn grid b) (Stands n (listIn b e grid) body) n u v other (l .seen) }
 
     module _ (same : sameCell (cellsIn grid b) u v ≡ true) where
-      same-nodes : accessOf b e c grid u ≡ accessOf b e c grid v
-      same-nodes = same-access b e c grid u v (same-cell (cellsIn grid b) u v .0 same)
+      same-nodes : accessOf b e grid u ≡ accessOf b e grid v
+      same-nodes = same-access b e grid u v (same-cell (cellsIn grid b) u v .0 same)
 
-      its-size : length (listIn b e c grid v) ≡ listSize (length (membersIn n own w))
+      its-size : length (listIn b e grid v) ≡ listSize (length (membersIn n own w))
       its-size = length-its v ∙ rw (os, same-nodes)
 
       pub list-room : (left : ℕ) → Sought n left w
           → ((n ≤ maxNodes) × (v < n) × Enough n w × Among n (region n own w) (region n transit w) × Sought n left w)
-          × (IndexedEdges e c n w
+          × (IndexedEdges e n w
           × ((startSize * v + startSize ≤ length body) × (listStart body v + listSize left ≤ length body)))
       list-room left s = (
-        (based .few, v-in, based .words, among b e c grid n (based .count) w u u-in (based .transits) os, s),
+        (based .few, v-in, based .words, among b e grid n (based .count) w u u-in (based .transits) os, s),
         (
           based .roads,
           (
-            start-fits n (listIn b e c grid) body (l .begun) v v-in,
+            start-fits n (listIn b e grid) body (l .begun) v v-in,
             omega (
               arith,
               ap listSize (s .count),
               its-size,
-              start-at n (listIn b e c grid) body (l .begun) v v-in,
-              fits-at n (listIn b e c grid) body (l .begun)
+              start-at n (listIn b e grid) body (l .begun) v v-in,
+              fits-at n (listIn b e grid) body (l .begun)
                   v v-in,
             ),
           ),
         ),
       )
 
-      pub list-done : (new : Bytes) → new ≡ splice (listStart body v) (listBytesOf (distanceWords (arcsIn e c) n v) (membersIn n transit w) (membersIn n own w))
+      pub list-done : (new : Bytes) → new ≡ splice (listStart body v) (listBytesOf (distanceWords (arcsIn e) n v) (membersIn n transit w) (membersIn n own w))
           body
-          → ListedTo b e c grid n u (v + 1) new
+          → ListedTo b e grid n u (v + 1) new
       list-done new s =
-          let list = listIn b e c grid in
-          let its : listBytesOf (distanceWords (arcsIn e c) n v) (membersIn n transit w) (membersIn n own w) ≡ list v = list-words b e c grid n (based .count) w
+          let list = listIn b e grid in
+          let its : listBytesOf (distanceWords (arcsIn e) n v) (membersIn n transit w) (membersIn n own w) ≡ list v = list-words b e grid n (based .count) w
           v u (based .transits) same-nodes os in
           let is : new ≡ with-it n list body (l .begun) v v-in = s ∙ rw (start-at n list body (l .begun) v v-in, its) in
           rw is
@@ -164,37 +164,37 @@ module _ (b e c : Bytes) (grid : Grid) (n : ℕ) where
 
   -- ---- cell by cell
   module _ (body : Bytes) where
-    pub listed-first : Begun n (listIn b e c grid) body → Listed b e c grid n 0 body
-    listed-first g = record { begun = g; seen = seen-none (cellsIn grid b) (Stands n (listIn b e c grid) body) n }
+    pub listed-first : Begun n (listIn b e grid) body → Listed b e grid n 0 body
+    listed-first g = record { begun = g; seen = seen-none (cellsIn grid b) (Stands n (listIn b e grid) body) n }
 
     module _ (u : ℕ) where
-      pub cell-none : Listed b e c grid n u body → ListedTo b e c grid n u 0 body
-      cell-none l = record { begun = l .begun; seen = to-none (cellsIn grid b) (Stands n (listIn b e c grid) body) n u (l .seen) }
+      pub cell-none : Listed b e grid n u body → ListedTo b e grid n u 0 body
+      cell-none l = record { begun = l .begun; seen = to-none (cellsIn grid b) (Stands n (listIn b e grid) body) n u (l .seen) }
 
-      pub cell-all : (v : ℕ) → n ≤ v → ListedTo b e c grid n u v body → Listed b e c grid n (u + 1) body
-      cell-all v h l = record { begun = l .begun; seen = to-all (cellsIn grid b) (Stands n (listIn b e c grid) body) n u v h (l .seen) }
+      pub cell-all : (v : ℕ) → n ≤ v → ListedTo b e grid n u v body → Listed b e grid n (u + 1) body
+      cell-all v h l = record { begun = l .begun; seen = to-all (cellsIn grid b) (Stands n (listIn b e grid) body) n u v h (l .seen) }
 
-      pub listed-later : firstOfCell (cellsIn grid b) u ≡ false → Listed b e c grid n u body → Listed b e c grid n (u + 1) body
-      listed-later later l = record { begun = l .begun; seen = seen-later (cellsIn grid b) (Stands n (listIn b e c grid) body) n u later (l .seen) }
+      pub listed-later : firstOfCell (cellsIn grid b) u ≡ false → Listed b e grid n u body → Listed b e grid n (u + 1) body
+      listed-later later l = record { begun = l .begun; seen = seen-later (cellsIn grid b) (Stands n (listIn b e grid) body) n u later (l .seen) }
 
-      pub listed-all : n ≤ u → Listed b e c grid n u body → body ≡ whole n (listIn b e c grid)
-      listed-all h l = assembled n (listIn b e c grid) body (l .begun .size) (l .begun .starts)
-          (seen-all (cellsIn grid b) (Stands n (listIn b e c grid) body) n u h (l .seen))
+      pub listed-all : n ≤ u → Listed b e grid n u body → body ≡ whole n (listIn b e grid)
+      listed-all h l = assembled n (listIn b e grid) body (l .begun .size) (l .begun .starts)
+          (seen-all (cellsIn grid b) (Stands n (listIn b e grid) body) n u h (l .seen))
 
 -- ---- the words for the cell of u, while its lists are written
-pub record Working (b e c : Bytes) (grid : Grid) (n u left : ℕ) (w₀ w : List ℕ) : Type 0 where
-  pub based : Based b e c grid n w
-  pub owns : membersIn n own w ≡ accessOf b e c grid u
+pub record Working (b e : Bytes) (grid : Grid) (n u left : ℕ) (w₀ w : List ℕ) : Type 0 where
+  pub based : Based b e grid n w
+  pub owns : membersIn n own w ≡ accessOf b e grid u
   pub sought : Sought n left w
   pub kept : length w ≡ length w₀
   pub others : KeptFrom (regionAt n transit) w₀ w
 
-pub working-next : (b e c : Bytes) (grid : Grid) (n u left : ℕ) (w₀ w w′ : List ℕ) → Working b e c grid n u left w₀ w → length w′ ≡ length w
+pub working-next : (b e : Bytes) (grid : Grid) (n u left : ℕ) (w₀ w w′ : List ℕ) → Working b e grid n u left w₀ w → length w′ ≡ length w
     → KeptFrom (searchWords n) w w′
-    → Working b e c grid n u left w₀ w′
-working-next b e c grid n u left w₀ w w′ g k q =
+    → Working b e grid n u left w₀ w′
+working-next b e grid n u left w₀ w w′ g k q =
     record {
-      based = based-later b e c grid n w w′ (g .based) k q;
+      based = based-later b e grid n w w′ (g .based) k q;
       owns = ap (membersOf n) (region-later n own w w′ (omega arith) q) ∙ g .owns;
       sought = sought-later n left w (g .sought) w′ q;
       kept = k ∙ g .kept;

@@ -17,8 +17,8 @@ use Rattle.passes.specs.BuildingLaws.{access-few}
 use Rattle.bodies.specs.Listed.{Based, Begun, Counts}
 use Rattle.bodies.proofs.CellLists.{length-its}
 
-module _ (b e c : Bytes) (grid : Grid) (n : ℕ) (work : List ℕ) (based : Based b e c grid n work) (all : Counts b e c grid n work) where
-  pub count-is : (v : ℕ) → v < n → getD (countsIn n work) v 0 ≡ length (accessOf b e c grid v)
+module _ (b e : Bytes) (grid : Grid) (n : ℕ) (work : List ℕ) (based : Based b e grid n work) (all : Counts b e grid n work) where
+  pub count-is : (v : ℕ) → v < n → getD (countsIn n work) v 0 ≡ length (accessOf b e grid v)
   count-is v h = getD-take n (drop (regionAt n counts) work) v 0 h ∙ (getD-drop (regionAt n counts) work v 0 ∙ all v h)
 
   pub counted-all : Counted n (countsIn n work)
@@ -32,20 +32,20 @@ module _ (b e c : Bytes) (grid : Grid) (n : ℕ) (work : List ℕ) (based : Base
       length-take-le n (drop (regionAt n counts) work)
           (simp length-drop (omega (arith, based .words, based .some))),
     ),
-    λ v h. omega (arith, count-is v h, based .few, access-few b e c grid n (based .count) v),
+    λ v h. omega (arith, count-is v h, based .few, access-few b e grid n (based .count) v),
   )
 
-  starts-are : startsOf (startSize * n) (listSizes n (countsIn n work)) ≡ front n (listIn b e c grid)
-  starts-are = sym (starts-lists (listIn b e c grid) n (countsIn n work) (λ v h. length-its b e c grid n v ∙ rw (count-is v h)))
+  starts-are : startsOf (startSize * n) (listSizes n (countsIn n work)) ≡ front n (listIn b e grid)
+  starts-are = sym (starts-lists (listIn b e grid) n (countsIn n work) (λ v h. length-its b e grid n v ∙ rw (count-is v h)))
 
-  module _ (body : Bytes) (size : length body ≡ length (whole n (listIn b e c grid))) where
+  module _ (body : Bytes) (size : length body ≡ length (whole n (listIn b e grid))) where
     pub starts-fit : startSize * n ≤ length body
-    starts-fit = omega (arith, size, length-whole n (listIn b e c grid))
+    starts-fit = omega (arith, size, length-whole n (listIn b e grid))
 
     pub begun-first : (new : Bytes) → new ≡ startsOf (startSize * n) (listSizes n (countsIn n work)) ++ drop (startSize * n) body
-        → length body < 4294967296 → Begun n (listIn b e c grid) new
+        → length body < 4294967296 → Begun n (listIn b e grid) new
     begun-first new put small =
-        let list = listIn b e c grid in
+        let list = listIn b e grid in
         let is : new ≡ front n list ++ drop (startSize * n) body = put ∙ rw starts-are in
         let long : startSize * n ≤ length body = starts-fit in
         record {

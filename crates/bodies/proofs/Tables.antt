@@ -25,13 +25,13 @@ use Rattle.words.specs.Frames.{KeptFrom}
 use Rattle.bodies.specs.Rows.{rowIn}
 
 -- ---- the row of v, where it is a transit node
-module _ (edges closed : Bytes) (n v : ℕ) (work : List ℕ) (h : v < n) where
+module _ (edges : Bytes) (n v : ℕ) (work : List ℕ) (h : v < n) where
   abbrev row : Bytes
-  row = rowIn edges closed n (membersIn n transit work) v
+  row = rowIn edges n (membersIn n transit work) v
 
   length-its : length row ≡ valueSize * length (membersIn n transit work)
   unfolding rowIn
-  length-its = length-row (distanceWords (arcsIn edges closed) n v) (membersIn n transit work)
+  length-its = length-row (distanceWords (arcsIn edges) n v) (membersIn n transit work)
 
   inside : isIn (region n transit work) v ≡ isIn (drop (regionAt n transit) work) v
   inside = in-front n (drop (regionAt n transit) work) v h
@@ -44,7 +44,7 @@ module _ (edges closed : Bytes) (n v : ℕ) (work : List ℕ) (h : v < n) where
       pub row-fits : at + length (ifIn (region n transit work) v row) ≤ length out → at + valueSize * t ≤ length out
       row-fits l = omega (arith, fits-in (region n transit work) v at (length out) row (inside ∙ q) l, length-its, e)
 
-      pub one-row : (work′ : List ℕ) (new : Bytes) → take n work′ ≡ distanceWords (arcsIn edges closed) n v → KeptFrom (searchWords n) work work′
+      pub one-row : (work′ : List ℕ) (new : Bytes) → take n work′ ≡ distanceWords (arcsIn edges) n v → KeptFrom (searchWords n) work work′
           → new ≡ splice at (rowBytes (take n work′) (membersIn n transit work′)) out
           → Wrote out at (ifIn (region n transit work) v row) (at + valueSize * t) new
       unfolding rowIn
@@ -53,13 +53,13 @@ module _ (edges closed : Bytes) (n v : ℕ) (work : List ℕ) (h : v < n) where
           (s ∙ rw (times, region-later n transit work work′ (omega arith) others))
 
 -- ---- all rows
-module _ (edges closed : Bytes) (n : ℕ) (work : List ℕ) where
+module _ (edges : Bytes) (n : ℕ) (work : List ℕ) where
   abbrev pub rows : ℕ → Bytes
-  rows = rowIn edges closed n (membersIn n transit work)
+  rows = rowIn edges n (membersIn n transit work)
 
   pub rows-start : (t : ℕ) (out : Bytes) → t ≡ length (membersIn n transit work) → length out ≡ valueSize * t * t
       → Written (concatMap rows (membersIn n transit work)) 0 out (membersFrom rows (region n transit work) n 0)
   rows-start t out e l =
       written-start (members-all rows (region n transit work) n)
       (l ∙ rw e (sym (length-concatMap rows (valueSize * length (membersIn n transit work)) (λ v. unfold rowIn in
-      length-row (distanceWords (arcsIn edges closed) n v) (membersIn n transit work)) (membersIn n transit work))))
+      length-row (distanceWords (arcsIn edges) n v) (membersIn n transit work)) (membersIn n transit work))))

@@ -16,14 +16,14 @@ use Rattle.passes.specs.Stands.{Stands, front, whole}
 use Rattle.words.specs.Frames.{Enough}
 
 -- What the lists are worked out by: an accepted network of n nodes with a grid, and working words with its transit nodes and the index of its edges.
-pub record Based (nodes edges closed : Bytes) (grid : Grid) (n : ℕ) (work : List ℕ) : Type 0 where
-  pub ground : Ground nodes edges closed grid
+pub record Based (nodes edges : Bytes) (grid : Grid) (n : ℕ) (work : List ℕ) : Type 0 where
+  pub ground : Ground nodes edges grid
   pub count : n ≡ nodeCount nodes
   pub few : n ≤ maxNodes
   pub words : Enough n work
   pub some : 1 ≤ n
-  pub transits : membersIn n transit work ≡ transitIn nodes edges closed grid
-  pub roads : IndexedEdges edges closed n work
+  pub transits : membersIn n transit work ≡ transitIn nodes edges grid
+  pub roads : IndexedEdges edges n work
 
 -- A body with the size of the whole one, and with its starts.
 pub record Begun (n : ℕ) (list : ℕ → Bytes) (body : Bytes) : Type 0 where
@@ -32,15 +32,15 @@ pub record Begun (n : ℕ) (list : ℕ → Bytes) (body : Bytes) : Type 0 where
   pub starts : take (startSize * n) body ≡ front n list
 
 -- The lists of the nodes of all cells met before u are written.
-pub record Listed (nodes edges closed : Bytes) (grid : Grid) (n u : ℕ) (body : Bytes) : Type 0 where
-  pub begun : Begun n (listIn nodes edges closed grid) body
-  pub seen : Seen (cellsIn grid nodes) (Stands n (listIn nodes edges closed grid) body) n u
+pub record Listed (nodes edges : Bytes) (grid : Grid) (n u : ℕ) (body : Bytes) : Type 0 where
+  pub begun : Begun n (listIn nodes edges grid) body
+  pub seen : Seen (cellsIn grid nodes) (Stands n (listIn nodes edges grid) body) n u
 
 -- And those of the nodes below v of the cell of u.
-pub record ListedTo (nodes edges closed : Bytes) (grid : Grid) (n u v : ℕ) (body : Bytes) : Type 0 where
-  pub begun : Begun n (listIn nodes edges closed grid) body
-  pub seen : SeenTo (cellsIn grid nodes) (Stands n (listIn nodes edges closed grid) body) n u v
+pub record ListedTo (nodes edges : Bytes) (grid : Grid) (n u v : ℕ) (body : Bytes) : Type 0 where
+  pub begun : Begun n (listIn nodes edges grid) body
+  pub seen : SeenTo (cellsIn grid nodes) (Stands n (listIn nodes edges grid) body) n u v
 
 -- Region COUNTS of the working words has the number of access nodes of each node.
-abbrev pub Counts : Bytes → Bytes → Bytes → Grid → ℕ → List ℕ → Type 0
-Counts nodes edges closed grid n work = (v : ℕ) → v < n → getD work (regionAt n counts + v) 0 ≡ length (accessOf nodes edges closed grid v)
+abbrev pub Counts : Bytes → Bytes → Grid → ℕ → List ℕ → Type 0
+Counts nodes edges grid n work = (v : ℕ) → v < n → getD work (regionAt n counts + v) 0 ≡ length (accessOf nodes edges grid v)

@@ -7,5 +7,5 @@ use Rattle.arcs.specs.Arcs.{arcsIn}
 use Rattle.emit.specs.Parts.{rowBytes}
 
 -- The row of v over n nodes, the columns being these nodes.
-unfoldable pub rowIn : Bytes → Bytes → ℕ → List ℕ → ℕ → Bytes
-rowIn edges closed n columns v = rowBytes (distanceWords (arcsIn edges closed) n v) columns
+unfoldable pub rowIn : Bytes → ℕ → List ℕ → ℕ → Bytes
+rowIn edges n columns v = rowBytes (distanceWords (arcsIn edges) n v) columns

@@ -27,7 +27,6 @@ use words::regions::counts;
 fn list_beside(
     nodes: &[u8],
     edges: &[u8],
-    closed: &[u8],
     grid: Grid,
     square: Square,
     n: usize,
@@ -37,14 +36,14 @@ fn list_beside(
     work: &mut [u32],
     body: &mut [u8],
 )
-    requires { ⌜ Based (now nodes) (now edges) (now closed) grid n (now work) × (u < n) × (v < n) × CellSquare (now nodes) grid u square ⌝ }
-    requires { ⌜ (membersIn n own (now work) ≡ accessOf (now nodes) (now edges) (now closed) grid u) × Sought n left (now work) ⌝ }
-    requires { ⌜ ListedTo (now nodes) (now edges) (now closed) grid n u v (now body) ⌝ }
-    ensures lists { λ _. ⌜ ListedTo (now (nodes .entry)) (now (edges .entry)) (now (closed .entry)) grid n u (v + 1) (now (body .exit)) ⌝ }
+    requires { ⌜ Based (now nodes) (now edges) grid n (now work) × (u < n) × (v < n) × CellSquare (now nodes) grid u square ⌝ }
+    requires { ⌜ (membersIn n own (now work) ≡ accessOf (now nodes) (now edges) grid u) × Sought n left (now work) ⌝ }
+    requires { ⌜ ListedTo (now nodes) (now edges) grid n u v (now body) ⌝ }
+    ensures lists { λ _. ⌜ ListedTo (now (nodes .entry)) (now (edges .entry)) grid n u (v + 1) (now (body .exit)) ⌝ }
     ensures others { λ _. ⌜ KeptFrom (searchWords n) (now (work .entry)) (now (work .exit)) ⌝ }
 {
     if beside(nodes, square, v) {
-        put_list(edges, closed, n, v, left, work, body);
+        put_list(edges, n, v, left, work, body);
     }
 }
 
@@ -52,34 +51,21 @@ fn list_beside(
 fn lists_of_cell(
     nodes: &[u8],
     edges: &[u8],
-    closed: &[u8],
     grid: Grid,
     n: usize,
     u: usize,
     work: &mut [u32],
     body: &mut [u8],
 )
-    requires { ⌜ Based (now nodes) (now edges) (now closed) grid n (now work) × (u < n) × Listed (now nodes) (now edges) (now closed) grid n u (now body) ⌝ }
-    ensures lists { λ _. ⌜ Listed (now (nodes .entry)) (now (edges .entry)) (now (closed .entry)) grid n (u + 1) (now (body .exit)) ⌝ }
+    requires { ⌜ Based (now nodes) (now edges) grid n (now work) × (u < n) × Listed (now nodes) (now edges) grid n u (now body) ⌝ }
+    ensures lists { λ _. ⌜ Listed (now (nodes .entry)) (now (edges .entry)) grid n (u + 1) (now (body .exit)) ⌝ }
     ensures others { λ _. ⌜ KeptFrom (regionAt n transit) (now (work .entry)) (now (work .exit)) ⌝ }
 {
-    let left = own_wanted(nodes, edges, closed, grid, n, u, work);
+    let left = own_wanted(nodes, edges, grid, n, u, work);
     let square = cell_square(nodes, grid, u);
     let mut v = 0;
     while v < n {
-        list_beside(
-            nodes,
-            edges,
-            closed,
-            grid,
-            square,
-            n,
-            u,
-            v,
-            left,
-            work,
-            body,
-        );
+        list_beside(nodes, edges, grid, square, n, u, v, left, work, body);
         v += 1;
     }
 }
@@ -88,39 +74,30 @@ fn lists_of_cell(
 fn lists_at(
     nodes: &[u8],
     edges: &[u8],
-    closed: &[u8],
     grid: Grid,
     n: usize,
     u: usize,
     work: &mut [u32],
     body: &mut [u8],
 )
-    requires { ⌜ Based (now nodes) (now edges) (now closed) grid n (now work) × (u < n) × Listed (now nodes) (now edges) (now closed) grid n u (now body) ⌝ }
-    ensures lists { λ _. ⌜ Listed (now (nodes .entry)) (now (edges .entry)) (now (closed .entry)) grid n (u + 1) (now (body .exit)) ⌝ }
+    requires { ⌜ Based (now nodes) (now edges) grid n (now work) × (u < n) × Listed (now nodes) (now edges) grid n u (now body) ⌝ }
+    ensures lists { λ _. ⌜ Listed (now (nodes .entry)) (now (edges .entry)) grid n (u + 1) (now (body .exit)) ⌝ }
     ensures others { λ _. ⌜ KeptFrom (regionAt n transit) (now (work .entry)) (now (work .exit)) ⌝ }
 {
     if first_of_cell(nodes, grid, u) {
-        lists_of_cell(nodes, edges, closed, grid, n, u, work, body);
+        lists_of_cell(nodes, edges, grid, n, u, work, body);
     }
 }
 
 // All lists, after the starts.
-fn put_lists(
-    nodes: &[u8],
-    edges: &[u8],
-    closed: &[u8],
-    grid: Grid,
-    n: usize,
-    work: &mut [u32],
-    body: &mut [u8],
-)
-    requires { ⌜ Based (now nodes) (now edges) (now closed) grid n (now work) × Listed (now nodes) (now edges) (now closed) grid n 0 (now body) ⌝ }
-    ensures bytes { λ _. ⌜ now (body .exit) ≡ whole n (listIn (now (nodes .entry)) (now (edges .entry)) (now (closed .entry)) grid) ⌝ }
+fn put_lists(nodes: &[u8], edges: &[u8], grid: Grid, n: usize, work: &mut [u32], body: &mut [u8])
+    requires { ⌜ Based (now nodes) (now edges) grid n (now work) × Listed (now nodes) (now edges) grid n 0 (now body) ⌝ }
+    ensures bytes { λ _. ⌜ now (body .exit) ≡ whole n (listIn (now (nodes .entry)) (now (edges .entry)) grid) ⌝ }
     ensures others { λ _. ⌜ KeptFrom (regionAt n transit) (now (work .entry)) (now (work .exit)) ⌝ }
 {
     let mut u = 0;
     while u < n {
-        lists_at(nodes, edges, closed, grid, n, u, work, body);
+        lists_at(nodes, edges, grid, n, u, work, body);
         u += 1;
     }
 }
@@ -138,17 +115,16 @@ fn put_starts(n: usize, work: &[u32], body: &mut [u8])
 pub fn put_access(
     nodes: &[u8],
     edges: &[u8],
-    closed: &[u8],
     grid: Grid,
     n: usize,
     work: &mut [u32],
     body: &mut [u8],
 )
-    requires { ⌜ Based (now nodes) (now edges) (now closed) grid n (now work) × Counts (now nodes) (now edges) (now closed) grid n (now work) ⌝ }
-    requires { ⌜ (length (now body) ≡ length (whole n (listIn (now nodes) (now edges) (now closed) grid))) × (length (now body) < 4294967296) ⌝ }
-    ensures bytes { λ _. ⌜ now (body .exit) ≡ whole n (listIn (now (nodes .entry)) (now (edges .entry)) (now (closed .entry)) grid) ⌝ }
+    requires { ⌜ Based (now nodes) (now edges) grid n (now work) × Counts (now nodes) (now edges) grid n (now work) ⌝ }
+    requires { ⌜ (length (now body) ≡ length (whole n (listIn (now nodes) (now edges) grid))) × (length (now body) < 4294967296) ⌝ }
+    ensures bytes { λ _. ⌜ now (body .exit) ≡ whole n (listIn (now (nodes .entry)) (now (edges .entry)) grid) ⌝ }
     ensures others { λ _. ⌜ KeptFrom (regionAt n transit) (now (work .entry)) (now (work .exit)) ⌝ }
 {
     put_starts(n, work, body);
-    put_lists(nodes, edges, closed, grid, n, work, body);
+    put_lists(nodes, edges, grid, n, work, body);
 }

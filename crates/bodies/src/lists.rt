@@ -46,24 +46,16 @@ fn put_own(n: usize, v: usize, size: usize, work: &[u32], body: &mut [u8])
 }
 
 // Searches from v for the `left` access nodes of its cell, and writes its list.
-pub fn put_list(
-    edges: &[u8],
-    closed: &[u8],
-    n: usize,
-    v: usize,
-    left: usize,
-    work: &mut [u32],
-    body: &mut [u8],
-)
+pub fn put_list(edges: &[u8], n: usize, v: usize, left: usize, work: &mut [u32], body: &mut [u8])
     requires { ⌜ (n ≤ maxNodes) × (v < n) × Enough n (now work) × Among n (region n own (now work)) (region n transit (now work)) × Sought n left (now work) ⌝ }
-    requires { ⌜ IndexedEdges (now edges) (now closed) n (now work) ⌝ }
+    requires { ⌜ IndexedEdges (now edges) n (now work) ⌝ }
     requires { ⌜ (startSize * v + startSize ≤ length (now body)) × (listStart (now body) v + listSize left ≤ length (now body)) ⌝ }
     ensures bytes { λ _. ⌜ now (body .exit) ≡ splice (listStart (now (body .entry)) v)
-        (listBytesOf (distanceWords (arcsIn (now (edges .entry)) (now (closed .entry))) n v) (membersIn n transit (now (work .entry)))
+        (listBytesOf (distanceWords (arcsIn (now (edges .entry))) n v) (membersIn n transit (now (work .entry)))
         (membersIn n own (now (work .entry)))) (now (body .entry)) ⌝ }
     ensures others { λ _. ⌜ KeptFrom (searchWords n) (now (work .entry)) (now (work .exit)) ⌝ }
 {
-    search_own(edges, closed, n, v, left, work);
+    search_own(edges, n, v, left, work);
     let size = list_size(left);
     put_own(n, v, size, work, body);
 }

@@ -34,7 +34,6 @@ fn write_times(n: usize, t: usize, work: &[u32], out: &mut [u8], at: usize)
 // Writes the row of v, if it is a transit node, from `at` on, and answers where it ends.
 fn put_row(
     edges: &[u8],
-    closed: &[u8],
     n: usize,
     v: usize,
     t: usize,
@@ -43,34 +42,34 @@ fn put_row(
     at: usize,
 ) -> usize
     requires { ⌜ (n ≤ maxNodes) × (v < n) × Enough n (now work) ⌝ }
-    requires { ⌜ IndexedEdges (now edges) (now closed) n (now work) × NotAlone n transit (now work) ⌝ }
+    requires { ⌜ IndexedEdges (now edges) n (now work) × NotAlone n transit (now work) ⌝ }
     requires { ⌜ (t ≡ length (membersIn n transit (now work))) × (at + length
-        (ifIn (region n transit (now work)) v (rowIn (now edges) (now closed) n (membersIn n transit (now work)) v)) ≤ length (now out)) ⌝ }
+        (ifIn (region n transit (now work)) v (rowIn (now edges) n (membersIn n transit (now work)) v)) ≤ length (now out)) ⌝ }
     ensures bytes { λ r. ⌜ Wrote (now (out .entry)) at (ifIn (region n transit (now (work .entry))) v
-        (rowIn (now (edges .entry)) (now (closed .entry)) n (membersIn n transit (now (work .entry))) v)) r (now (out .exit)) ⌝ }
+        (rowIn (now (edges .entry)) n (membersIn n transit (now (work .entry))) v)) r (now (out .exit)) ⌝ }
     ensures others { λ _. ⌜ KeptFrom (searchWords n) (now (work .entry)) (now (work .exit)) ⌝ }
 {
     if !has(work, n, TRANSIT, v) {
         return at;
     }
-    search_front(edges, closed, n, v, work);
+    search_front(edges, n, v, work);
     write_times(n, t, work, out, at);
     at + VALUE_SIZE * t
 }
 
 // The rows of the t transit nodes.
-pub fn put_table(edges: &[u8], closed: &[u8], n: usize, t: usize, work: &mut [u32], out: &mut [u8])
+pub fn put_table(edges: &[u8], n: usize, t: usize, work: &mut [u32], out: &mut [u8])
     requires { ⌜ (n ≤ maxNodes) × Enough n (now work) ⌝ }
-    requires { ⌜ IndexedEdges (now edges) (now closed) n (now work) × NotAlone n transit (now work) ⌝ }
+    requires { ⌜ IndexedEdges (now edges) n (now work) × NotAlone n transit (now work) ⌝ }
     requires { ⌜ (t ≡ length (membersIn n transit (now work))) × (length (now out) ≡ valueSize * t * t) ⌝ }
-    ensures bytes { λ _. ⌜ now (out .exit) ≡ concatMap (rowIn (now (edges .entry)) (now (closed .entry)) n (membersIn n transit (now (work .entry))))
+    ensures bytes { λ _. ⌜ now (out .exit) ≡ concatMap (rowIn (now (edges .entry)) n (membersIn n transit (now (work .entry))))
         (membersIn n transit (now (work .entry))) ⌝ }
     ensures others { λ _. ⌜ KeptFrom (searchWords n) (now (work .entry)) (now (work .exit)) ⌝ }
 {
     let mut at = 0;
     let mut v = 0;
     while v < n {
-        at = put_row(edges, closed, n, v, t, work, out, at);
+        at = put_row(edges, n, v, t, work, out, at);
         v += 1;
     }
 }

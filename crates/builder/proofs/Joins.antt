@@ -28,7 +28,7 @@ use Rattle.bodies.specs.Rows.{rowIn}
 use Rattle.bodies.proofs.CellLists.{based-still}
 use Rattle.words.specs.Frames.{Enough, KeptFrom}
 use Rattle.builder.specs.Plan.{networkEnd, gridEnd, backSize, sizesIn, wholeSize, frontBytes, backBytes, Planned}
-use Rattle.builder.proofs.Pieces.{wrote-then}
+use Rattle.emit.proofs.Pieces.{wrote-then}
 
 -- ---- the head, bodies 1 to 3 and body 4
 module _ (f : Bytes) (dv : Division) (sizes : List ℕ) (long : networkHead ≤ length f) where
@@ -53,13 +53,13 @@ module _ (f : Bytes) (dv : Division) (sizes : List ℕ) (long : networkHead ≤ 
   front-written p q r h = wrote-then (wrote-then p q (omega arith)) r (omega (arith, front-ends q))
 
 -- ---- the table
-table-is : (b e c : Bytes) (grid : Grid) (n : ℕ) → n ≡ nodeCount b → (l : List ℕ) → l ≡ transitIn b e c grid
-    → concatMap (rowIn e c n l) l ≡ tableBytes (distance (networkIn b e c)) (transitIn b e c grid)
+table-is : (b e : Bytes) (grid : Grid) (n : ℕ) → n ≡ nodeCount b → (l : List ℕ) → l ≡ transitIn b e grid
+    → concatMap (rowIn e n l) l ≡ tableBytes (distance (networkIn b e)) (transitIn b e grid)
 unfolding rowIn
-table-is b e c grid n size l q = table-words b e c grid n size l q
+table-is b e grid n size l q = table-words b e grid n size l q
 
 -- ---- bodies 5 to 7
-module _ (b e c : Bytes) (grid : Grid) (n t a : ℕ) (w : List ℕ) (p : Planned b e c grid n t a w) where
+module _ (b e : Bytes) (grid : Grid) (n t a : ℕ) (w : List ℕ) (p : Planned b e grid n t a w) where
   pub transit-room : (at room : ℕ) → at + backSize t a ≤ room
       → (n ≤ maxNodes) × Enough n w × (at + numberSize * length (membersIn n transit w) ≤ room) × (1 ≤ n)
   transit-room at room h = (p .based .few, p .based .words, omega (arith, ap length (p .based .transits), p .transits), p .based .some)
@@ -69,43 +69,43 @@ module _ (b e c : Bytes) (grid : Grid) (n t a : ℕ) (w : List ℕ) (p : Planned
 
   module _ (at m : ℕ) (old mid : Bytes) (q : Wrote old at (numbersBytes (membersIn n transit w)) m mid)
       (h : at + backSize t a ≤ length old) where
-    pub access-room : length mid ≡ length old → a < 4294967296 → (Based b e c grid n w × Counts b e c grid n w)
-        × ((a ≡ length (whole n (listIn b e c grid))) × (a < 4294967296) × (m + a ≤ length mid))
+    pub access-room : length mid ≡ length old → a < 4294967296 → (Based b e grid n w × Counts b e grid n w)
+        × ((a ≡ length (whole n (listIn b e grid))) × (a < 4294967296) × (m + a ≤ length mid))
     access-room k s = ((p .based, p .counts), (p .access, s, omega (arith, transit-ends q)))
 
     module _ (w′ : List ℕ) (kept : length w′ ≡ length w) (others : KeptFrom (regionAt n transit) w w′) (k : ℕ) (next : Bytes)
-        (r : Wrote mid m (whole n (listIn b e c grid)) k next) where
-      after : Based b e c grid n w′
-      after = based-still b e c grid n w w′ (p .based) kept others
+        (r : Wrote mid m (whole n (listIn b e grid)) k next) where
+      after : Based b e grid n w′
+      after = based-still b e grid n w w′ (p .based) kept others
 
       pub table-room : length next ≡ length old
           → ((n ≤ maxNodes) × Enough n w′ × (t ≡ length (membersIn n transit w′))
-          × (k + valueSize * t * t ≤ length next) × (t ≤ maxNodes)) × (IndexedEdges e c n w′ × NotAlone n transit w′)
+          × (k + valueSize * t * t ≤ length next) × (t ≤ maxNodes)) × (IndexedEdges e n w′ × NotAlone n transit w′)
       table-room l = (
         (
           after .few,
           after .words,
           rw (after .transits) (p .transits),
           omega (arith, transit-ends q, r .ends, p .access),
-          omega (arith, p .transits, p .based .few, transit-few b e c grid n (p .based .count)),
+          omega (arith, p .transits, p .based .few, transit-few b e grid n (p .based .count)),
         ),
-        (after .roads, transit-alone b e c grid n (after .count) (after .ground) transit w′ (after .transits)),
+        (after .roads, transit-alone b e grid n (after .count) (after .ground) transit w′ (after .transits)),
       )
 
       pub back-written : {end : ℕ} {new : Bytes} → length mid ≡ length old
-          → Wrote next k (concatMap (rowIn e c n (membersIn n transit w′)) (membersIn n transit w′)) end new
-          → Wrote old at (backBytes b e c grid n) end new
+          → Wrote next k (concatMap (rowIn e n (membersIn n transit w′)) (membersIn n transit w′)) end new
+          → Wrote old at (backBytes b e grid n) end new
       unfolding backBytes
       back-written l s =
           wrote-then
           (wrote-then (rw (p .based .transits) at q) r (omega (arith, transit-ends q)))
-          (rw (table-is b e c grid n (p .based .count) _ (after .transits)) at s)
+          (rw (table-is b e grid n (p .based .count) _ (after .transits)) at s)
           (omega (arith, transit-ends q, r .ends, p .access))
 
 -- ---- the whole
-module _ (f b e c : Bytes) (dv : Division) (t a : ℕ) (joined : networkHead + length b + length e + length c ≡ length f) where
+module _ (f b e : Bytes) (dv : Division) (t a : ℕ) (joined : networkHead + length b + length e ≡ length f) where
   abbrev sizes : List ℕ
-  sizes = sizesIn (length b) (length e) (length c) t a
+  sizes = sizesIn (length b) (length e) t a
 
   module _ (small : wholeSize (length f) t a < 4294967296) where
     pub sizes-fit : total sizes < 4294967296

@@ -29,14 +29,13 @@ use Rattle.builder.specs.Laid.{Laid}
 use Rattle.builder.proofs.Sums.{length-lists}
 use Rattle.words.proofs.Stays.{kept-more}
 
-module _ (f : Bytes) (dv : Division) (b e c : Bytes) (grid : Grid) (n : ℕ) (l : Laid f dv b e c grid n) where
-  laid-ground : Ground b e c grid
+module _ (f : Bytes) (dv : Division) (b e : Bytes) (grid : Grid) (n : ℕ) (l : Laid f dv b e grid n) where
+  laid-ground : Ground b e grid
   laid-ground =
       let s = l .passed .sound in
       record {
         over = over-made grid b dv (l .made) (rw (l .of-nodes) (s .nodes-rule)) (rw (l .of-nodes) (s .coordinates)) (l .passed .grid);
         edges-rule = rw (l .of-nodes, l .of-edges) (s .some-edge);
-        closed-rule = rw (l .of-edges, l .of-closed) (s .closed);
       }
 
   pub laid-some : 1 ≤ n
@@ -50,19 +49,19 @@ module _ (f : Bytes) (dv : Division) (b e c : Bytes) (grid : Grid) (n : ℕ) (l 
   laid-few = rw (l .count, l .of-nodes) (node-bytes f (l .passed .sound) .0)
 
   module _ (w : List ℕ) (words : Enough n w) where
-    pub pass-requires : Ground b e c grid × (n ≡ nodeCount b) × (n ≤ maxNodes) × Enough n w × (1 ≤ n)
+    pub pass-requires : Ground b e grid × (n ≡ nodeCount b) × (n ≤ maxNodes) × Enough n w × (1 ≤ n)
     pass-requires = (laid-ground, l .count, laid-few, words, laid-some)
 
-    module _ (members : membersIn n transit w ≡ transitIn b e c grid) (all : Counts b e c grid n w) (roads : IndexedEdges e c n w) where
-      based-first : Based b e c grid n w
+    module _ (members : membersIn n transit w ≡ transitIn b e grid) (all : Counts b e grid n w) (roads : IndexedEdges e n w) where
+      based-first : Based b e grid n w
       based-first = record { ground = laid-ground; count = l .count; few = laid-few; words = words; some = laid-some; transits = members; roads = roads }
 
       pub sizes-requires : Enough n w × Counted n (countsIn n w) × (1 ≤ n)
-      sizes-requires = (words, counted-all b e c grid n w based-first all, laid-some)
+      sizes-requires = (words, counted-all b e grid n w based-first all, laid-some)
 
-      pub planned : (t a : ℕ) → t ≡ ones (regionFlags n transit w) → a ≡ startSize * n + total (listSizes n (countsIn n w)) → Planned b e c grid n t a w
+      pub planned : (t a : ℕ) → t ≡ ones (regionFlags n transit w) → a ≡ startSize * n + total (listSizes n (countsIn n w)) → Planned b e grid n t a w
       planned t a p q =
-          let list = listIn b e c grid in
+          let list = listIn b e grid in
           record {
             based = based-first;
             counts = all;
@@ -71,6 +70,6 @@ module _ (f : Bytes) (dv : Division) (b e c : Bytes) (grid : Grid) (n : ℕ) (l 
               arith,
               length-whole n list,
               length-lists list n (countsIn n w)
-                  (λ v h. length-its b e c grid n v ∙ rw (count-is b e c grid n w based-first all v h)),
+                  (λ v h. length-its b e grid n v ∙ rw (count-is b e grid n w based-first all v h)),
             );
           }

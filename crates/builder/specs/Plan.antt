@@ -18,9 +18,9 @@ use Rattle.bodies.specs.Listed.{Based, Counts}
 
 -- ---- sizes
 
--- Bodies 1 to 3 of these sizes, t transit nodes, and body 6 of the size a.
-unfoldable pub sizesIn : ℕ → ℕ → ℕ → ℕ → ℕ → List ℕ
-sizesIn nodes edges closed t a = nodes ∷ edges ∷ closed ∷ divisionSize ∷ (numberSize * t) ∷ a ∷ (valueSize * t * t) ∷ []
+-- Bodies 1 and 2 of these sizes, an empty body 3, t transit nodes, and body 6 of the size a.
+unfoldable pub sizesIn : ℕ → ℕ → ℕ → ℕ → List ℕ
+sizesIn nodes edges t a = nodes ∷ edges ∷ 0 ∷ divisionSize ∷ (numberSize * t) ∷ a ∷ (valueSize * t * t) ∷ []
 
 -- Where bodies 1 to 3 of a network of `size` bytes end in its oracle, whose head takes the place of the network's own; and where body 4 does.
 abbrev pub networkEnd : ℕ → ℕ
@@ -43,13 +43,13 @@ unfoldable pub frontBytes : Bytes → Division → List ℕ → Bytes
 frontBytes f dv sizes = headBytes oracleEdition sizes ++ drop networkHead f ++ divisionBytes dv
 
 -- Bodies 5 to 7.
-unfoldable pub backBytes : Bytes → Bytes → Bytes → Grid → ℕ → Bytes
-backBytes nodes edges closed grid n = numbersBytes (transitIn nodes edges closed grid) ++ whole n (listIn nodes edges closed grid) ++ tableBytes
-    (distance (networkIn nodes edges closed)) (transitIn nodes edges closed grid)
+unfoldable pub backBytes : Bytes → Bytes → Grid → ℕ → Bytes
+backBytes nodes edges grid n = numbersBytes (transitIn nodes edges grid) ++ whole n (listIn nodes edges grid) ++ tableBytes
+    (distance (networkIn nodes edges)) (transitIn nodes edges grid)
 
 -- The working words are ready to write from, with t transit nodes and a body 6 of the size a.
-pub record Planned (nodes edges closed : Bytes) (grid : Grid) (n t a : ℕ) (work : List ℕ) : Type 0 where
-  pub based : Based nodes edges closed grid n work
-  pub counts : Counts nodes edges closed grid n work
-  pub transits : t ≡ length (transitIn nodes edges closed grid)
-  pub access : a ≡ length (whole n (listIn nodes edges closed grid))
+pub record Planned (nodes edges : Bytes) (grid : Grid) (n t a : ℕ) (work : List ℕ) : Type 0 where
+  pub based : Based nodes edges grid n work
+  pub counts : Counts nodes edges grid n work
+  pub transits : t ≡ length (transitIn nodes edges grid)
+  pub access : a ≡ length (whole n (listIn nodes edges grid))

@@ -28,7 +28,6 @@ use model::Built;
 use model::Division;
 use passes::transit::mark_transit;
 use reader::files::accept_refusal;
-use reader::oracle::CLOSED;
 use reader::oracle::EDGES;
 use reader::oracle::NODES;
 use words::regions::TRANSIT;
@@ -46,15 +45,15 @@ fn build_refusal(network: &[u8], dv: Division, words: usize) -> u32
 }
 
 // Puts the index of the edges, the transit nodes and how many access nodes each node has into the working words.
-fn prepare(nodes: &[u8], edges: &[u8], closed: &[u8], grid: Grid, n: usize, work: &mut [u32])
-    requires { ⌜ Ground (now nodes) (now edges) (now closed) grid × (n ≡ nodeCount (now nodes)) × (n ≤ maxNodes) × Enough n (now work) × (1 ≤ n) ⌝ }
-    ensures members { λ _. ⌜ membersIn n transit (now (work .exit)) ≡ transitIn (now (nodes .entry)) (now (edges .entry)) (now (closed .entry)) grid ⌝ }
-    ensures counted { λ _. ⌜ Counts (now (nodes .entry)) (now (edges .entry)) (now (closed .entry)) grid n (now (work .exit)) ⌝ }
-    ensures roads { λ _. ⌜ IndexedEdges (now (edges .entry)) (now (closed .entry)) n (now (work .exit)) ⌝ }
+fn prepare(nodes: &[u8], edges: &[u8], grid: Grid, n: usize, work: &mut [u32])
+    requires { ⌜ Ground (now nodes) (now edges) grid × (n ≡ nodeCount (now nodes)) × (n ≤ maxNodes) × Enough n (now work) × (1 ≤ n) ⌝ }
+    ensures members { λ _. ⌜ membersIn n transit (now (work .exit)) ≡ transitIn (now (nodes .entry)) (now (edges .entry)) grid ⌝ }
+    ensures counted { λ _. ⌜ Counts (now (nodes .entry)) (now (edges .entry)) grid n (now (work .exit)) ⌝ }
+    ensures roads { λ _. ⌜ IndexedEdges (now (edges .entry)) n (now (work .exit)) ⌝ }
     ensures behind { λ _. ⌜ KeptFrom (workWords n) (now (work .entry)) (now (work .exit)) ⌝ }
 {
-    build_index(edges, closed, n, work);
-    mark_transit(nodes, edges, closed, grid, n, work);
+    build_index(edges, n, work);
+    mark_transit(nodes, edges, grid, n, work);
 }
 
 // Building over the bodies. The size is known before any output is written.
@@ -62,18 +61,17 @@ fn build_in(
     network: &[u8],
     nodes: &[u8],
     edges: &[u8],
-    closed: &[u8],
     grid: Grid,
     dv: Division,
     n: usize,
     work: &mut [u32],
     out: &mut [u8],
 ) -> Built
-    requires { ⌜ Laid (now network) dv (now nodes) (now edges) (now closed) grid n × Enough n (now work) ⌝ }
+    requires { ⌜ Laid (now network) dv (now nodes) (now edges) grid n × Enough n (now work) ⌝ }
     ensures given { λ r. ⌜ BuildGiven (now (network .entry)) dv (now (out .entry)) r (now (out .exit)) ⌝ }
     ensures rest { λ _. ⌜ KeptFrom (workWords n) (now (work .entry)) (now (work .exit)) ⌝ }
 {
-    prepare(nodes, edges, closed, grid, n, work);
+    prepare(nodes, edges, grid, n, work);
     let t = count(work, n, TRANSIT);
     let a = access_size(n, work);
     let size = whole_size(network.len(), t, a);
@@ -84,7 +82,7 @@ fn build_in(
             transit: 0,
         };
     }
-    write_oracle(network, nodes, edges, closed, grid, dv, n, t, a, work, out);
+    write_oracle(network, nodes, edges, grid, dv, n, t, a, work, out);
     Built {
         rule: 0,
         size: size as u32,
@@ -101,10 +99,9 @@ fn build_of(network: &[u8], dv: Division, work: &mut [u32], out: &mut [u8]) -> B
     let c = network_contents(network);
     let nodes = c.body(network, NODES);
     let edges = c.body(network, EDGES);
-    let closed = c.body(network, CLOSED);
     let grid = Grid::over(nodes, dv);
     let n = node_count(network);
-    build_in(network, nodes, edges, closed, grid, dv, n, work, out)
+    build_in(network, nodes, edges, grid, dv, n, work, out)
 }
 
 // The oracle of the network under the division, written at the front of the output. The first 8 N words are zero afterwards.

@@ -18,7 +18,7 @@ use contents::NETWORK_HEAD;
 use contents::ORACLE_EDITION;
 use contents::ORACLE_ENTRIES;
 use contents::ORACLE_HEAD;
-use emit::copy::copy;
+use emit::copy::put;
 use emit::head::write_head;
 use emit::numbers::write_numbers;
 use model::Division;
@@ -30,7 +30,7 @@ pub fn put_head(sizes: [u32; ORACLE_ENTRIES], out: &mut [u8])
     requires { ⌜ (entryAt oracleEntries + total sizes < 4294967296) × (oracleHead ≤ length (now out)) ⌝ }
     ensures { λ _. ⌜ Wrote (now (out .entry)) 0 (headBytes oracleEdition sizes) oracleHead (now (out .exit)) ⌝ }
 {
-    write_head(ORACLE_EDITION, sizes, &mut out[..ORACLE_HEAD]);
+    write_head(ORACLE_EDITION, &sizes, &mut out[..ORACLE_HEAD]);
 }
 
 // Bodies 1 to 3: they stand one after the other to the end of the network. Answers where they end.
@@ -38,9 +38,7 @@ pub fn put_network(network: &[u8], out: &mut [u8]) -> usize
     requires { ⌜ (networkHead ≤ length (now network)) × (networkEnd (length (now network)) ≤ length (now out)) ⌝ }
     ensures { λ r. ⌜ Wrote (now (out .entry)) oracleHead (drop networkHead (now (network .entry))) r (now (out .exit)) ⌝ }
 {
-    let end = ORACLE_HEAD + (network.len() - NETWORK_HEAD);
-    copy(&network[NETWORK_HEAD..], &mut out[ORACLE_HEAD..end]);
-    end
+    put(&network[NETWORK_HEAD..], out, ORACLE_HEAD)
 }
 
 // Body 4.

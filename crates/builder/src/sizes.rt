@@ -50,21 +50,15 @@ pub fn whole_size(size: usize, t: usize, access: usize) -> usize
     front + NUMBER_SIZE * t + access + VALUE_SIZE * t * t
 }
 
-// The sizes of the bodies, as they stand in the head.
-pub fn head_sizes(
-    nodes: usize,
-    edges: usize,
-    closed: usize,
-    t: usize,
-    access: usize,
-) -> [u32; ORACLE_ENTRIES]
-    requires { ⌜ total (sizesIn nodes edges closed t access) < 4294967296 ⌝ }
-    ensures { λ r. ⌜ r ≡ sizesIn nodes edges closed t access ⌝ }
+// The sizes of the bodies, as they stand in the head. Body 3 is empty.
+pub fn head_sizes(nodes: usize, edges: usize, t: usize, access: usize) -> [u32; ORACLE_ENTRIES]
+    requires { ⌜ total (sizesIn nodes edges t access) < 4294967296 ⌝ }
+    ensures { λ r. ⌜ r ≡ sizesIn nodes edges t access ⌝ }
 {
     [
         nodes as u32,
         edges as u32,
-        closed as u32,
+        0,
         GRID_SIZE as u32,
         (NUMBER_SIZE * t) as u32,
         access as u32,

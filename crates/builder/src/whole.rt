@@ -44,7 +44,6 @@ fn put_front(network: &[u8], dv: Division, sizes: [u32; ORACLE_ENTRIES], out: &m
 fn access_part(
     nodes: &[u8],
     edges: &[u8],
-    closed: &[u8],
     grid: Grid,
     n: usize,
     a: usize,
@@ -52,21 +51,20 @@ fn access_part(
     out: &mut [u8],
     at: usize,
 ) -> usize
-    requires { ⌜ Based (now nodes) (now edges) (now closed) grid n (now work) × Counts (now nodes) (now edges) (now closed) grid n (now work) ⌝ }
-    requires { ⌜ (a ≡ length (whole n (listIn (now nodes) (now edges) (now closed) grid))) × (a < 4294967296) × (at + a ≤ length (now out)) ⌝ }
-    ensures bytes { λ r. ⌜ Wrote (now (out .entry)) at (whole n (listIn (now (nodes .entry)) (now (edges .entry)) (now (closed .entry)) grid)) r
+    requires { ⌜ Based (now nodes) (now edges) grid n (now work) × Counts (now nodes) (now edges) grid n (now work) ⌝ }
+    requires { ⌜ (a ≡ length (whole n (listIn (now nodes) (now edges) grid))) × (a < 4294967296) × (at + a ≤ length (now out)) ⌝ }
+    ensures bytes { λ r. ⌜ Wrote (now (out .entry)) at (whole n (listIn (now (nodes .entry)) (now (edges .entry)) grid)) r
         (now (out .exit)) ⌝ }
     ensures others { λ _. ⌜ KeptFrom (regionAt n transit) (now (work .entry)) (now (work .exit)) ⌝ }
 {
     let end = at + a;
-    put_access(nodes, edges, closed, grid, n, work, &mut out[at..end]);
+    put_access(nodes, edges, grid, n, work, &mut out[at..end]);
     end
 }
 
 // Body 7, for t transit nodes.
 fn table_part(
     edges: &[u8],
-    closed: &[u8],
     n: usize,
     t: usize,
     work: &mut [u32],
@@ -75,13 +73,13 @@ fn table_part(
 ) -> usize
     requires { ⌜ (n ≤ maxNodes) × Enough n (now work) × (t ≡ length (membersIn n transit (now work))) × (at + valueSize * t * t ≤ length (now out))
         × (t ≤ maxNodes) ⌝ }
-    requires { ⌜ IndexedEdges (now edges) (now closed) n (now work) × NotAlone n transit (now work) ⌝ }
-    ensures bytes { λ r. ⌜ Wrote (now (out .entry)) at (concatMap (rowIn (now (edges .entry)) (now (closed .entry)) n (membersIn n transit (now (work .entry))))
+    requires { ⌜ IndexedEdges (now edges) n (now work) × NotAlone n transit (now work) ⌝ }
+    ensures bytes { λ r. ⌜ Wrote (now (out .entry)) at (concatMap (rowIn (now (edges .entry)) n (membersIn n transit (now (work .entry))))
         (membersIn n transit (now (work .entry)))) r (now (out .exit)) ⌝ }
     ensures others { λ _. ⌜ KeptFrom (searchWords n) (now (work .entry)) (now (work .exit)) ⌝ }
 {
     let end = at + VALUE_SIZE * t * t;
-    put_table(edges, closed, n, t, work, &mut out[at..end]);
+    put_table(edges, n, t, work, &mut out[at..end]);
     end
 }
 
@@ -89,7 +87,6 @@ fn table_part(
 fn put_back(
     nodes: &[u8],
     edges: &[u8],
-    closed: &[u8],
     grid: Grid,
     n: usize,
     t: usize,
@@ -98,13 +95,13 @@ fn put_back(
     out: &mut [u8],
     at: usize,
 ) -> usize
-    requires { ⌜ Planned (now nodes) (now edges) (now closed) grid n t a (now work) × (at + backSize t a ≤ length (now out)) × (a < 4294967296) ⌝ }
-    ensures bytes { λ r. ⌜ Wrote (now (out .entry)) at (backBytes (now (nodes .entry)) (now (edges .entry)) (now (closed .entry)) grid n) r (now (out .exit)) ⌝ }
+    requires { ⌜ Planned (now nodes) (now edges) grid n t a (now work) × (at + backSize t a ≤ length (now out)) × (a < 4294967296) ⌝ }
+    ensures bytes { λ r. ⌜ Wrote (now (out .entry)) at (backBytes (now (nodes .entry)) (now (edges .entry)) grid n) r (now (out .exit)) ⌝ }
     ensures others { λ _. ⌜ KeptFrom (regionAt n transit) (now (work .entry)) (now (work .exit)) ⌝ }
 {
     let lists = put_transit(n, work, out, at);
-    let table = access_part(nodes, edges, closed, grid, n, a, work, out, lists);
-    table_part(edges, closed, n, t, work, out, table)
+    let table = access_part(nodes, edges, grid, n, a, work, out, lists);
+    table_part(edges, n, t, work, out, table)
 }
 
 // All of it. Answers where it ends.
@@ -112,7 +109,6 @@ pub fn write_oracle(
     network: &[u8],
     nodes: &[u8],
     edges: &[u8],
-    closed: &[u8],
     grid: Grid,
     dv: Division,
     n: usize,
@@ -121,15 +117,15 @@ pub fn write_oracle(
     work: &mut [u32],
     out: &mut [u8],
 ) -> usize
-    requires { ⌜ Planned (now nodes) (now edges) (now closed) grid n t a (now work)
-        × (networkHead + length (now nodes) + length (now edges) + length (now closed) ≡ length (now network)) ⌝ }
+    requires { ⌜ Planned (now nodes) (now edges) grid n t a (now work)
+        × (networkHead + length (now nodes) + length (now edges) ≡ length (now network)) ⌝ }
     requires { ⌜ (wholeSize (length (now network)) t a ≤ length (now out)) × (wholeSize (length (now network)) t a < 4294967296) ⌝ }
     ensures bytes { λ r. ⌜ Wrote (now (out .entry)) 0 (frontBytes (now (network .entry)) dv
-        (sizesIn (length (now (nodes .entry))) (length (now (edges .entry))) (length (now (closed .entry))) t a) ++ backBytes (now (nodes .entry))
-        (now (edges .entry)) (now (closed .entry)) grid n) r (now (out .exit)) ⌝ }
+        (sizesIn (length (now (nodes .entry))) (length (now (edges .entry))) t a) ++ backBytes (now (nodes .entry))
+        (now (edges .entry)) grid n) r (now (out .exit)) ⌝ }
     ensures others { λ _. ⌜ KeptFrom (regionAt n transit) (now (work .entry)) (now (work .exit)) ⌝ }
 {
-    let sizes = head_sizes(nodes.len(), edges.len(), closed.len(), t, a);
+    let sizes = head_sizes(nodes.len(), edges.len(), t, a);
     let at = put_front(network, dv, sizes, out);
-    put_back(nodes, edges, closed, grid, n, t, a, work, out, at)
+    put_back(nodes, edges, grid, n, t, a, work, out, at)
 }

@@ -2,10 +2,10 @@
 -- `WayCall` are the contracts of `build`, `audit`, `time`, `far` and `way`; `listResult` and `listRefusal` are what `list` and `list_rule` return.
 -- The words used here are defined in `Outcomes`; the proofs are in `DemandLaws`. Assumes nothing.
 use Prim.Native.Nat.{ℕ, _*_, _≤_, _<_}
-use mathlib.Core.Path.{_≡_}
+use mathlib.Core.Path.{_≡_, refl}
 use mathlib.Core.Logic.{_↔_}
 use mathlib.Core.Bool.{true}
-use mathlib.Core.List.{List, [], map, List·Memᴰ}
+use mathlib.Core.List.{List, [], _∷_, map, List·Memᴰ}
 use lib.ListN.{length, getD, drop}
 use Rattle.model.specs.Bytes.{Bytes, words16}
 use Rattle.model.specs.Contents.{nodeBody, edgeBody, closedBody, gridBody, transitBody, accessBody, tableBody}
@@ -16,6 +16,7 @@ use Rattle.model.specs.Grid.{Grid, Cell, gridOver, division, cells}
 use Rattle.model.specs.Access.{accessNodes}
 use Rattle.model.specs.Oracle.{AccessEntry, oracle, transitOf, transitCount, accessList, tableEntry}
 use Rattle.model.specs.Query.{ruleOf, kindBetween, way}
+use Rattle.model.specs.Rules.{networkRules, acceptRules, shapeRules, pairRules}
 use Rattle.model.specs.Rules.{accepted, wellShaped, wordsNeeded, buildRules, auditRules, timeRules, farRules, listRules, wayRules}
 use Rattle.model.specs.Calls.{cleared, Build, Audit, TimeCall, FarCall, listRefusal, listResult, WayCall}
 use Rattle.model.specs.declared.Division.{Division}
@@ -33,6 +34,36 @@ use Rattle.demands.specs.DemandLaws as laws
 
 -- ==== Demand 1: "A call that meets broken bytes, numbers or memory hands back the number of the first rule broken and writes nothing
 -- (rules 15 and 16 zero the working words they used)." That every call ends and stays inside what it was lent is proved of all code.
+
+-- The rules that each call checks, in checking order: 01's, and 21 "directly after 7" (document 02, T-06).
+pub build-order : (f : Bytes) (dv : Division) (words room : ℕ) → map (λ r. r .number) (buildRules f dv words room)
+    ≡ 1 ∷ 2 ∷ 3 ∷ 4 ∷ 5 ∷ 6 ∷ 7 ∷ 21 ∷ 8 ∷ 14 ∷ 15 ∷ []
+unfolding buildRules acceptRules networkRules
+build-order f dv words room = refl
+
+pub audit-order : (o : Bytes) (words : ℕ) → map (λ r. r .number) (auditRules o words)
+    ≡ 1 ∷ 2 ∷ 3 ∷ 4 ∷ 5 ∷ 6 ∷ 7 ∷ 21 ∷ 8 ∷ 9 ∷ 10 ∷ 11 ∷ 14 ∷ 16 ∷ []
+unfolding auditRules shapeRules networkRules
+audit-order o words = refl
+
+pub time-order : (o : Bytes) (s t words : ℕ) → map (λ r. r .number) (timeRules o s t words)
+    ≡ 1 ∷ 2 ∷ 3 ∷ 4 ∷ 5 ∷ 6 ∷ 7 ∷ 21 ∷ 8 ∷ 9 ∷ 10 ∷ 11 ∷ 12 ∷ 14 ∷ []
+unfolding timeRules pairRules shapeRules networkRules
+time-order o s t words = refl
+
+pub far-order : (o : Bytes) (s t : ℕ) → map (λ r. r .number) (farRules o s t)
+    ≡ 1 ∷ 2 ∷ 3 ∷ 4 ∷ 5 ∷ 6 ∷ 7 ∷ 21 ∷ 8 ∷ 9 ∷ 10 ∷ 11 ∷ 12 ∷ 13 ∷ []
+unfolding farRules pairRules shapeRules networkRules
+far-order o s t = refl
+
+pub list-order : (o : Bytes) (u : ℕ) → map (λ r. r .number) (listRules o u) ≡ 1 ∷ 2 ∷ 3 ∷ 4 ∷ 5 ∷ 6 ∷ 7 ∷ 21 ∷ 8 ∷ 9 ∷ 10 ∷ 11 ∷ 12 ∷ []
+unfolding listRules shapeRules networkRules
+list-order o u = refl
+
+pub way-order : (o : Bytes) (s t words room : ℕ) → map (λ r. r .number) (wayRules o s t words room)
+    ≡ 1 ∷ 2 ∷ 3 ∷ 4 ∷ 5 ∷ 6 ∷ 7 ∷ 21 ∷ 8 ∷ 9 ∷ 10 ∷ 11 ∷ 12 ∷ 14 ∷ 15 ∷ []
+unfolding wayRules timeRules pairRules shapeRules networkRules
+way-order o s t words room = refl
 
 pub build-refuses : {f : Bytes} {dv : Division} {work work′ : List ℕ} {out out′ : Bytes} {r : Built} → Build f dv work out r work′ out′
     → Refuses (buildRules f dv (length work) (length out)) (r .rule) f work work′ out out′

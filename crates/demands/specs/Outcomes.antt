@@ -84,7 +84,7 @@ pub record FarSum (o : Bytes) (s t n : ℕ) : Type 0 where
   pub last : b .distance ≡ finite z
   pub sum : x + y + z ≡ n
 
--- "Alike in places, grid, transit places, lists and table": bodies 1 and 4 to 7, the roads and the closed roads being free.
+-- "Alike in places, grid, transit places, lists and table": bodies 1 and 4 to 7, the roads being free.
 pub record Agree (o p : Bytes) : Type 0 where
   pub nodes : nodeBody o ≡ nodeBody p
   pub grid : gridBody o ≡ gridBody p

@@ -1,5 +1,6 @@
--- The laws that the proofs cite; `Writing`, `Comparing` and `Turns` have those for callers.
+-- The laws that the proofs cite; `Writing`, `Pieces`, `Comparing` and `Turns` have those for callers.
 pub mod Writing
+pub mod Pieces
 pub mod Comparing
 pub mod Turns
 mod Indexes

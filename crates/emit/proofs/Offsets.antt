@@ -8,7 +8,7 @@ use lib.ListN.{length, getD, drop, set, drop-of-length-le}
 use lib.Seq.{drop-cons, sets-eq}
 use Rattle.model.specs.Lists.{total}
 use Rattle.model.specs.Bytes.{Bytes, bytes16, bytes32, splice}
-use Rattle.model.specs.Contents.{contentsEntrySize, entryAt, oracleEntries}
+use Rattle.model.specs.Contents.{contentsEntrySize, entryAt}
 use Rattle.model.specs.Network.{maxNodes}
 use Rattle.model.specs.Oracle.{startSize, listSize}
 use Rattle.theory.specs.RangeLaws.{rest, rest-all, rest-step, rest-end}
@@ -79,10 +79,10 @@ pub contents-end : (sizes : List ℕ) (k offset : ℕ) → length sizes ≤ k �
 unfolding entriesOf
 contents-end sizes k offset h = rw (drop-of-length-le sizes h)
 
-pub head-start : (edition : ℕ) (sizes : List ℕ) → length sizes ≡ oracleEntries
-    → Then (headBytes edition sizes) (edition ∷ oracleEntries ∷ []) (entriesOf 0 (entryAt oracleEntries) sizes)
+pub head-start : (edition : ℕ) (sizes : List ℕ)
+    → Then (headBytes edition sizes) (edition ∷ length sizes ∷ []) (entriesOf 0 (entryAt (length sizes)) sizes)
 unfolding headBytes
-head-start edition sizes e = record { is = rw e }
+head-start edition sizes = record { is = refl }
 
 pub head-wrote : (old : Bytes) (edition entries : ℕ) → 2 ≤ length old → Wrote old 0 (edition ∷ entries ∷ []) (entryAt 0) (set (set old 0 edition) 1 entries)
 unfolding splice entryAt

@@ -8,7 +8,7 @@ use borrow.Rule.Slice.PartMut.{midOf, postOf, putMid, mid-len, take-put, drop-pu
 use lib.ListN.{length, take, drop}
 use lib.Seq.{length-take-le, take-at, drop-at}
 use Rattle.model.specs.Bytes.{Bytes}
-use Rattle.model.specs.Network.{edgeCount, someEdgeBroken, numbersBroken}
+use Rattle.model.specs.Network.{someEdgeBroken}
 use Rattle.words.specs.Frames.{KeptFrom, OnlyIn, Enough}
 use Rattle.words.proofs.Stays.{kept-more}
 use Rattle.model.specs.Rules.{workWords}
@@ -25,24 +25,22 @@ laid-same n a w ys e l h size =
     ∙ ap (take (workWords n - a)) (drop-at (take a w) (ys ++ postOf a (workWords n - a) w) a (length-take-le a w (omega arith)))
     ∙ take-at ys (postOf a (workWords n - a) w) (workWords n - a) size
 
-module _ (edges closed : Bytes) (n : ℕ) (ends : someEdgeBroken n edges ≡ false) (rising : numbersBroken (edgeCount edges) closed ≡ false) where
+module _ (edges : Bytes) (n : ℕ) (ends : someEdgeBroken n edges ≡ false) where
   -- For one node.
-  pub no-index : (w : List ℕ) → Enough n w → n < 2 → IndexedEdges edges closed n w
+  pub no-index : (w : List ℕ) → Enough n w → n < 2 → IndexedEdges edges n w
   no-index w h l = record {
     ends = ends;
-    rising = rising;
     indexed = cleared-index n (indexIn n w)
-        (λ x p. no-word n w h l x ∙ omega arith, λ x p. no-word n w h l x) edges closed;
+        (λ x p. no-word n w h l x ∙ omega arith, λ x p. no-word n w h l x) edges;
   }
 
-  pub laid-index : (a : ℕ) (w ys : List ℕ) → a ≡ indexAt n → 2 ≤ n → Enough n w → length ys ≡ length (midOf a (workWords n - a) w) → IndexOf edges closed n ys
-      → IndexedEdges edges closed n (putMid a (workWords n - a) w ys)
+  pub laid-index : (a : ℕ) (w ys : List ℕ) → a ≡ indexAt n → 2 ≤ n → Enough n w → length ys ≡ length (midOf a (workWords n - a) w) → IndexOf edges n ys
+      → IndexedEdges edges n (putMid a (workWords n - a) w ys)
       × ((take (indexAt n) (putMid a (workWords n - a) w ys) ≡ take (indexAt n) w) × (KeptFrom (workWords n) w (putMid a (workWords n - a) w ys)))
   laid-index a w ys e l h q x = (
     record {
       ends = ends;
-      rising = rising;
-      indexed = subst (λ (z : List ℕ). IndexOf edges closed n z)
+      indexed = subst (λ (z : List ℕ). IndexOf edges n z)
           (sym (laid-same n a w ys e l h size)) x;
     },
     (before, behind),
@@ -62,17 +60,17 @@ pub same-index : (n : ℕ) (w w′ : List ℕ) → KeptFrom (indexAt n) w w′ �
 unfolding indexIn
 same-index n w w′ e = ap (take (workWords n - indexAt n)) e
 
-module _ (edges closed : Bytes) (n : ℕ) (w w′ : List ℕ) where
+module _ (edges : Bytes) (n : ℕ) (w w′ : List ℕ) where
   module _ (e : KeptFrom (indexAt n) w w′) where
-    pub indexed-kept : Indexed edges closed n w → Indexed edges closed n w′
-    indexed-kept x = subst (λ (z : List ℕ). IndexOf edges closed n z) (sym (same-index n w w′ e)) x
+    pub indexed-kept : Indexed edges n w → Indexed edges n w′
+    indexed-kept x = subst (λ (z : List ℕ). IndexOf edges n z) (sym (same-index n w w′ e)) x
 
-    pub roads-kept : IndexedEdges edges closed n w → IndexedEdges edges closed n w′
-    roads-kept r = record { ends = r .ends; rising = r .rising; indexed = indexed-kept (r .indexed) }
+    pub roads-kept : IndexedEdges edges n w → IndexedEdges edges n w′
+    roads-kept r = record { ends = r .ends; indexed = indexed-kept (r .indexed) }
 
   -- The words from a on stay, or all but m words from a on.
-  pub roads-from : (a : ℕ) → a ≤ indexAt n → KeptFrom a w w′ → IndexedEdges edges closed n w → IndexedEdges edges closed n w′
+  pub roads-from : (a : ℕ) → a ≤ indexAt n → KeptFrom a w w′ → IndexedEdges edges n w → IndexedEdges edges n w′
   roads-from a h e r = roads-kept (kept-more a (indexAt n) w w′ h e) r
 
-  pub roads-only : (a m : ℕ) → a + m ≤ indexAt n → OnlyIn a m w w′ → IndexedEdges edges closed n w → IndexedEdges edges closed n w′
+  pub roads-only : (a m : ℕ) → a + m ≤ indexAt n → OnlyIn a m w w′ → IndexedEdges edges n w → IndexedEdges edges n w′
   roads-only a m h o r = roads-from (a + m) h (o .back) r

@@ -1,6 +1,5 @@
 -- The laws that the proofs cite, and that callers cite too.
 pub mod Places
-pub mod Find
 pub mod Grow
 pub mod Listing
 pub mod Laid

@@ -1,19 +1,17 @@
--- The chains of the open edges, one edge after another. Assumes nothing.
+-- The chains of the edges, one edge after another. Assumes nothing.
 use Prim.Native.Nat.{ℕ, zero, suc, _+_, _-_, _*_, _/_, _%_, _<_, _≤_}
 use native.Mathlib.Nat.{div-one}
 use native.Mathlib.Decide.{ℕ-discrete, decLt}
 use native.Mathlib.Omega.{arith}
 use mathlib.Core.Path.{_≡_, refl, sym, ap, _∙_, subst}
-use mathlib.Core.Bool.{true, false, true≢false}
 use mathlib.Core.List.{List, _++_}
 use mathlib.Core.Logic.{_⊎_, inl, inr, ⊎-elim}
 use lib.ListN.{length, getD, take, drop, replicate, length-replicate, List·getD-append}
 use lib.Seq.{length-take-le, getD-append-add, getD-drop}
-use Rattle.model.specs.Bytes.{Bytes, words16}
-use Rattle.model.specs.Network.{edge, edgeCount, isOpen}
-use Rattle.index.specs.Index.{next, block, Lists, here, there, OpenAt, Chained, IndexOf}
-use Rattle.index.specs.Grown.{Growing, Grown, OnlyAt, AtEnd, IfOpen}
-use Rattle.index.proofs.Grow.{grow-none}
+use Rattle.model.specs.Bytes.{Bytes}
+use Rattle.model.specs.Network.{edge, edgeCount}
+use Rattle.index.specs.Index.{next, block, Lists, here, there, Incident, Chained, IndexOf}
+use Rattle.index.specs.Grown.{Growing, Grown, OnlyAt, AtEnd}
 
 pub no-list : (ix : List ℕ) (n e q : ℕ) → e < n → Lists ix n e q → ⊥
 no-list ix n e q l (here h p) = omega arith
@@ -49,35 +47,15 @@ module _ (edges : Bytes) (i n k q : ℕ) (ix : List ℕ) where
       each z (inl p) = subst (λ (w : ℕ). Lists ix₂ n (next ix₂ w) q) (e ∙ p) (h .kept x q x-in a)
       each z (inr p) = subst (λ (w : ℕ). Lists ix₂ n (next ix₂ w) q) (f ∙ p) b
 
-  module _ (closed : Bytes) where
-    pub open-listed : (k′ : ℕ) (ix′ : List ℕ) → i < edgeCount edges → isOpen (words16 closed) i ≡ true
-        → Grown n k ix k′ 2 ix′ (AtEnd edges i q) × ((z : ℕ) → AtEnd edges i q z q → Lists ix′ n (next ix′ z) q)
-        → Grown n k ix k′ 2 ix′ (IfOpen edges closed i q) × ((z : ℕ) → IfOpen edges closed i q z q → Lists ix′ n (next ix′ z) q)
-    open-listed k′ ix′ l o (g, a) = (grown, λ z p. a z (p .0 .end, p .1))
-      where
-        grown : Grown n k ix k′ 2 ix′ (IfOpen edges closed i q)
-        grown = record {
-          growing = g .growing;
-          more = g .more;
-          few = g .few;
-          sized = g .sized;
-          kept = g .kept;
-          fresh = λ z r s c. ⊎-elim (λ d. inl d) (λ (p, t). inr (record { below = l; unclosed = o; end = p }, t)) (g .fresh z r s c);
-        }
-
-    pub closed-passed : isOpen (words16 closed) i ≡ false → Growing n k ix
-        → Grown n k ix k 2 ix (IfOpen edges closed i q) × ((z : ℕ) → IfOpen edges closed i q z q → Lists ix n (next ix z) q)
-    closed-passed o g = (grow-none n k 2 ix (IfOpen edges closed i q) g, λ z p. absurd (true≢false (sym (p .0 .unclosed) ∙ o)))
-
 -- ---- all edges
-module _ (edges closed : Bytes) (n s : ℕ) where
-  pub chained-growing : (i k : ℕ) (ix : List ℕ) → Chained edges closed i n s k ix → Growing n k ix
+module _ (edges : Bytes) (n s : ℕ) where
+  pub chained-growing : (i k : ℕ) (ix : List ℕ) → Chained edges i n s k ix → Growing n k ix
   chained-growing i k ix c = record { heads = c .heads; links = c .links }
 
-  pub chained-more : (i k k′ q : ℕ) (ix ix′ : List ℕ) → q ≡ i / s → Chained edges closed i n s k ix
-      → Grown n k ix k′ 2 ix′ (IfOpen edges closed i q) × ((z : ℕ) → IfOpen edges closed i q z q → Lists ix′ n (next ix′ z) q)
-      → Chained edges closed (i + 1) n s k′ ix′
-  chained-more i k k′ q ix ix′ e c (g, a) = record {
+  pub chained-more : (i k k′ q : ℕ) (ix ix′ : List ℕ) → i < edgeCount edges → q ≡ i / s → Chained edges i n s k ix
+      → Grown n k ix k′ 2 ix′ (AtEnd edges i q) × ((z : ℕ) → AtEnd edges i q z q → Lists ix′ n (next ix′ z) q)
+      → Chained edges (i + 1) n s k′ ix′
+  chained-more i k k′ q ix ix′ real e c (g, a) = record {
     sized = λ u l. g .sized u l ∙ c .sized u l;
     heads = g .growing .heads;
     links = g .growing .links;
@@ -85,20 +63,20 @@ module _ (edges closed : Bytes) (n s : ℕ) where
     single = λ f u r l m. only f u r l (g .fresh u r l m);
   }
     where
-      cover : (u j : ℕ) → u < n → j < i + 1 → 0 < s → OpenAt edges closed u j → Dec (j ≡ i) → Lists ix′ n (next ix′ u) (j / s)
+      cover : (u j : ℕ) → u < n → j < i + 1 → 0 < s → Incident edges u j → Dec (j ≡ i) → Lists ix′ n (next ix′ u) (j / s)
       cover u j l h p o (yes f) =
           let b : q ≡ j / s = e ∙ ap (λ (z : ℕ). z / s) (sym f) in
-          subst (λ (z : ℕ). Lists ix′ n (next ix′ u) z) b (a u (subst (λ (z : ℕ). OpenAt edges closed u z) f o, refl))
+          subst (λ (z : ℕ). Lists ix′ n (next ix′ u) z) b (a u (subst (λ (z : ℕ). Incident edges u z) f o .end, refl))
       cover u j l h p o (no d) = g .kept u (j / s) l (c .covers u j l (omega arith) p o)
 
-      only : s ≡ 1 → (u r : ℕ) → u < n → Lists ix n (next ix u) r ⊎ IfOpen edges closed i q u r → OpenAt edges closed u r
+      only : s ≡ 1 → (u r : ℕ) → u < n → Lists ix n (next ix u) r ⊎ AtEnd edges i q u r → Incident edges u r
       only f u r l (inl m) = c .single f u r l m
       only f u r l (inr (o, t)) =
           let b : i ≡ r = sym (t ∙ e ∙ ap (λ (z : ℕ). i / z) f ∙ div-one i) in
-          subst (λ (z : ℕ). OpenAt edges closed u z) b o
+          subst (λ (z : ℕ). Incident edges u z) b (record { below = real; end = o })
 
-  pub chained-last : (i k : ℕ) (ix : List ℕ) → edgeCount edges ≤ i → k ≤ length ix → Chained edges closed i n s k ix
-      → Chained edges closed (edgeCount edges) n s (length ix) ix
+  pub chained-last : (i k : ℕ) (ix : List ℕ) → edgeCount edges ≤ i → k ≤ length ix → Chained edges i n s k ix
+      → Chained edges (edgeCount edges) n s (length ix) ix
   chained-last i k ix h r c = record {
     sized = c .sized;
     heads = λ u l g. omega (arith, c .heads u l g);
@@ -151,8 +129,8 @@ module _ (n s : ℕ) (ix : List ℕ) (c : Cleared n s ix) where
   unfolding block
   clear-block x h = rw (c .0 x h) (omega arith)
 
-  module _ (edges closed : Bytes) where
-    cleared : (i k : ℕ) → (0 < s → i ≡ 0) → Chained edges closed i n s k ix
+  module _ (edges : Bytes) where
+    cleared : (i k : ℕ) → (0 < s → i ≡ 0) → Chained edges i n s k ix
     cleared i k g = record {
       sized = clear-block;
       heads = λ u l h. absurd (omega (arith, clear-next u));
@@ -161,14 +139,14 @@ module _ (n s : ℕ) (ix : List ℕ) (c : Cleared n s ix) where
       single = λ e u q l m. absurd (no-list ix n (next ix u) q (omega (arith, clear-next u)) m);
     }
 
-    pub cleared-first : Chained edges closed 0 n s n ix
+    pub cleared-first : Chained edges 0 n s n ix
     cleared-first = cleared 0 n (λ h. refl)
 
 -- Without chains.
-pub cleared-index : (n : ℕ) (ix : List ℕ) → Cleared n 0 ix → (edges closed : Bytes) → IndexOf edges closed n ix
-cleared-index n ix c edges closed =
-    record { size = 0; small = omega arith; chained = cleared n 0 ix c edges closed (edgeCount edges) (length ix) (λ h. absurd (omega arith)) }
+pub cleared-index : (n : ℕ) (ix : List ℕ) → Cleared n 0 ix → (edges : Bytes) → IndexOf edges n ix
+cleared-index n ix c edges =
+    record { size = 0; small = omega arith; chained = cleared n 0 ix c edges (edgeCount edges) (length ix) (λ h. absurd (omega arith)) }
 
-pub chained-index : (edges closed : Bytes) (n s : ℕ) (ix : List ℕ) → s ≤ 16384 → Chained edges closed (edgeCount edges) n s (length ix) ix
-    → IndexOf edges closed n ix
-chained-index edges closed n s ix h c = record { size = s; small = h; chained = c }
+pub chained-index : (edges : Bytes) (n s : ℕ) (ix : List ℕ) → s ≤ 16384 → Chained edges (edgeCount edges) n s (length ix) ix
+    → IndexOf edges n ix
+chained-index edges n s ix h c = record { size = s; small = h; chained = c }

@@ -5,22 +5,19 @@ use mathlib.Core.List.{List}
 use mathlib.Core.Logic.{_⊎_}
 use Rattle.model.specs.Bytes.{Bytes}
 use Rattle.model.specs.Network.{edge}
-use Rattle.index.specs.Index.{next, block, Lists, Within, OpenAt}
+use Rattle.index.specs.Index.{next, block, Lists, Within}
 
 -- The words below k are in use, and each chain goes down.
 pub record Growing (n k : ℕ) (ix : List ℕ) : Type 0 where
   pub heads : (u : ℕ) → u < n → Within n k (next ix u)
   pub links : (p : ℕ) → 0 < n → n ≤ p → next ix p < p
 
--- What may be listed anew: block q at node x; at the ends of edge i; at them where edge i is open.
+-- What may be listed anew: block q at node x; at the ends of edge i.
 abbrev pub OnlyAt : ℕ → ℕ → ℕ → ℕ → Type 0
 OnlyAt x q y r = (y ≡ x) × (r ≡ q)
 
 abbrev pub AtEnd : Bytes → ℕ → ℕ → ℕ → ℕ → Type 0
 AtEnd edges i q y r = ((edge edges i .first ≡ y) ⊎ (edge edges i .second ≡ y)) × (r ≡ q)
-
-abbrev pub IfOpen : Bytes → Bytes → ℕ → ℕ → ℕ → ℕ → Type 0
-IfOpen edges closed i q y r = OpenAt edges closed y i × (r ≡ q)
 
 -- What is in the chains stays in them, and only what New says is added, by at most `most` words more.
 pub record Grown (n k : ℕ) (ix : List ℕ) (k′ most : ℕ) (ix′ : List ℕ) (New : ℕ → ℕ → Type 0) : Type 0 where

@@ -1,15 +1,14 @@
-// Building the index: one pass over the edges puts each open edge's block in front of the chains of its two ends.
+// Building the index: one pass over the edges puts each edge's block in front of the chains of its two ends.
 ghost use mathlib.Core.Path.{_≡_};
 ghost use mathlib.Core.Bool.{true, false};
 ghost use Prim.Native.Nat.{ℕ, _+_, _*_, _<_, _≤_};
 ghost use lib.ListN.{length, getD, set, take};
-ghost use Rattle.model.specs.Network.{maxNodes, edge, edgeSize, edgeCount, someEdgeBroken, numbersBroken};
+ghost use Rattle.model.specs.Network.{maxNodes, edge, edgeSize, edgeCount, someEdgeBroken};
 ghost use Rattle.model.specs.Rules.{workWords};
 ghost use Rattle.words.specs.Frames.{Enough, KeptFrom};
 ghost use Rattle.index.specs.Index.{next, block, Lists, Chained, IndexOf, IndexedEdges};
-ghost use Rattle.index.specs.Grown.{Growing, Grown, OnlyAt, AtEnd, IfOpen};
+ghost use Rattle.index.specs.Grown.{Growing, Grown, OnlyAt, AtEnd};
 ghost use Rattle.words.specs.Regions.{indexAt};
-use crate::open::is_open;
 use crate::positions::block_of;
 use crate::positions::next_of;
 use bitset::words::fill;
@@ -72,34 +71,12 @@ fn list_edge(edges: &[u8], i: usize, q: usize, ix: &mut [u32], n: usize, k: usiz
     list_at(ix, n, j, second, q)
 }
 
-// The same where edge i is open, and else nothing.
-fn list_open(
-    edges: &[u8],
-    closed: &[u8],
-    i: usize,
-    q: usize,
-    ix: &mut [u32],
-    n: usize,
-    k: usize,
-) -> usize
-    requires { ⌜ (someEdgeBroken n (now edges) ≡ false) × (numbersBroken (edgeCount (now edges)) (now closed) ≡ false) × (i < edgeCount (now edges)) ⌝ }
-    requires { ⌜ (n ≤ k) × (k + 2 ≤ length (now ix)) × (length (now ix) ≤ 65536) × (q < 65536) ⌝ }
-    requires { ⌜ Growing n k (now ix) ⌝ }
-    ensures { λ r. ⌜ Grown n k (now (ix .entry)) r 2 (now (ix .exit)) (IfOpen (now (edges .entry)) (now (closed .entry)) i q)
-        × ((x : ℕ) → IfOpen (now (edges .entry)) (now (closed .entry)) i q x q → Lists (now (ix .exit)) n (next (now (ix .exit)) x) q) ⌝ }
-{
-    if is_open(closed, edges.len() / EDGE_SIZE, i) {
-        return list_edge(edges, i, q, ix, n, k);
-    }
-    k
-}
-
-// Lists all open edges in blocks of s; false where the words do not suffice.
-fn list_all(edges: &[u8], closed: &[u8], s: usize, ix: &mut [u32], n: usize) -> bool
-    requires { ⌜ (someEdgeBroken n (now edges) ≡ false) × (numbersBroken (edgeCount (now edges)) (now closed) ≡ false) ⌝ }
+// Lists all edges in blocks of s; false where the words do not suffice.
+fn list_all(edges: &[u8], s: usize, ix: &mut [u32], n: usize) -> bool
+    requires { ⌜ someEdgeBroken n (now edges) ≡ false ⌝ }
     requires { ⌜ (edgeCount (now edges) ≤ 65536) × (0 < s) × (n ≤ length (now ix)) × (length (now ix) ≤ 65536) ⌝ }
-    requires { ⌜ Chained (now edges) (now closed) 0 n s n (now ix) ⌝ }
-    ensures { λ r. ⌜ (r ≡ true → Chained (now (edges .entry)) (now (closed .entry)) (edgeCount (now (edges .entry))) n s (length (now (ix .exit)))
+    requires { ⌜ Chained (now edges) 0 n s n (now ix) ⌝ }
+    ensures { λ r. ⌜ (r ≡ true → Chained (now (edges .entry)) (edgeCount (now (edges .entry))) n s (length (now (ix .exit)))
         (now (ix .exit))) ⌝ }
 {
     let m = edges.len() / EDGE_SIZE;
@@ -109,7 +86,7 @@ fn list_all(edges: &[u8], closed: &[u8], s: usize, ix: &mut [u32], n: usize) -> 
         if ix.len() - k < 2 {
             return false;
         }
-        k = list_open(edges, closed, i, i / s, ix, n, k);
+        k = list_edge(edges, i, i / s, ix, n, k);
         i += 1;
     }
     true
@@ -125,27 +102,27 @@ fn clear(ix: &mut [u32], n: usize, s: usize)
 }
 
 // The index in blocks of s; false where the words do not suffice.
-fn build_by(edges: &[u8], closed: &[u8], s: usize, ix: &mut [u32], n: usize) -> bool
-    requires { ⌜ (someEdgeBroken n (now edges) ≡ false) × (numbersBroken (edgeCount (now edges)) (now closed) ≡ false) ⌝ }
+fn build_by(edges: &[u8], s: usize, ix: &mut [u32], n: usize) -> bool
+    requires { ⌜ someEdgeBroken n (now edges) ≡ false ⌝ }
     requires { ⌜ (edgeCount (now edges) ≤ 65536) × (0 < s) × (s ≤ 16384) × (n ≤ length (now ix)) × (length (now ix) ≤ 65536) ⌝ }
-    ensures { λ r. ⌜ (r ≡ true → IndexOf (now (edges .entry)) (now (closed .entry)) n (now (ix .exit))) ⌝ }
+    ensures { λ r. ⌜ (r ≡ true → IndexOf (now (edges .entry)) n (now (ix .exit))) ⌝ }
 {
     clear(ix, n, s);
-    list_all(edges, closed, s, ix, n)
+    list_all(edges, s, ix, n)
 }
 
 // The index in the smallest blocks of 1, 2, 4, .. edges that fit; false where none do.
-fn build_any(edges: &[u8], closed: &[u8], ix: &mut [u32], n: usize) -> bool
-    requires { ⌜ (someEdgeBroken n (now edges) ≡ false) × (numbersBroken (edgeCount (now edges)) (now closed) ≡ false) ⌝ }
+fn build_any(edges: &[u8], ix: &mut [u32], n: usize) -> bool
+    requires { ⌜ someEdgeBroken n (now edges) ≡ false ⌝ }
     requires { ⌜ (n ≤ length (now ix)) × (length (now ix) ≤ 65536) ⌝ }
-    ensures { λ r. ⌜ (r ≡ true → IndexOf (now (edges .entry)) (now (closed .entry)) n (now (ix .exit))) ⌝ }
+    ensures { λ r. ⌜ (r ≡ true → IndexOf (now (edges .entry)) n (now (ix .exit))) ⌝ }
 {
     if MAX_LISTED < edges.len() / EDGE_SIZE {
         return false;
     }
     let mut s = 1;
     while s <= MAX_SIZE {
-        if build_by(edges, closed, s, ix, n) {
+        if build_by(edges, s, ix, n) {
             return true;
         }
         s = s * 2;
@@ -154,22 +131,22 @@ fn build_any(edges: &[u8], closed: &[u8], ix: &mut [u32], n: usize) -> bool
 }
 
 // The index; one without chains where no blocks fit.
-fn build(edges: &[u8], closed: &[u8], ix: &mut [u32], n: usize)
-    requires { ⌜ (someEdgeBroken n (now edges) ≡ false) × (numbersBroken (edgeCount (now edges)) (now closed) ≡ false) ⌝ }
+fn build(edges: &[u8], ix: &mut [u32], n: usize)
+    requires { ⌜ someEdgeBroken n (now edges) ≡ false ⌝ }
     requires { ⌜ (n ≤ length (now ix)) × (length (now ix) ≤ 65536) ⌝ }
-    ensures { λ _. ⌜ IndexOf (now (edges .entry)) (now (closed .entry)) n (now (ix .exit)) ⌝ }
+    ensures { λ _. ⌜ IndexOf (now (edges .entry)) n (now (ix .exit)) ⌝ }
 {
-    if build_any(edges, closed, ix, n) {
+    if build_any(edges, ix, n) {
         return;
     }
     clear(ix, n, 0);
 }
 
-// Writes the index of the open edges into the last of the 8 n lent words.
-pub fn build_index(edges: &[u8], closed: &[u8], n: usize, work: &mut [u32])
+// Writes the index of the edges into the last of the 8 n lent words.
+pub fn build_index(edges: &[u8], n: usize, work: &mut [u32])
     requires { ⌜ (n ≤ maxNodes) × Enough n (now work) ⌝ }
-    requires { ⌜ (someEdgeBroken n (now edges) ≡ false) × (numbersBroken (edgeCount (now edges)) (now closed) ≡ false) ⌝ }
-    ensures roads { λ _. ⌜ IndexedEdges (now (edges .entry)) (now (closed .entry)) n (now (work .exit)) ⌝ }
+    requires { ⌜ someEdgeBroken n (now edges) ≡ false ⌝ }
+    ensures roads { λ _. ⌜ IndexedEdges (now (edges .entry)) n (now (work .exit)) ⌝ }
     ensures before { λ _. ⌜ take (indexAt n) (now (work .exit)) ≡ take (indexAt n) (now (work .entry)) ⌝ }
     ensures behind { λ _. ⌜ KeptFrom (workWords n) (now (work .entry)) (now (work .exit)) ⌝ }
 {
@@ -178,5 +155,5 @@ pub fn build_index(edges: &[u8], closed: &[u8], n: usize, work: &mut [u32])
     }
     let at = index_at(n);
     let end = WORDS * n;
-    build(edges, closed, &mut work[at..end], n);
+    build(edges, &mut work[at..end], n);
 }

@@ -1,4 +1,3 @@
-// The index of the open edges at each node, in the lent words: how it is built, and what its words mean.
+// The index of the edges at each node, in the lent words: how it is built, and what its words mean.
 pub mod chains;
-pub mod open;
 pub mod positions;

@@ -30,18 +30,18 @@ fn leads_to(n: usize, work: &[u32], v: usize, to: usize, cost: u64) -> bool
 }
 
 // Whether some arc leads on from v.
-pub fn leads(edges: &[u8], closed: &[u8], n: usize, work: &[u32], v: usize) -> bool
+pub fn leads(edges: &[u8], n: usize, work: &[u32], v: usize) -> bool
     requires { ⌜ (n ≤ maxNodes) × Enough n (now work) × (v < n) ⌝ }
-    requires { ⌜ IndexedEdges (now edges) (now closed) n (now work) ⌝ }
-    ensures { λ r. ⌜ r ≡ any (leading (timesIn n (now (work .entry))) (marksIn n (now (work .entry))) v) (arcsIn (now (edges .entry)) (now (closed .entry))) ⌝ }
+    requires { ⌜ IndexedEdges (now edges) n (now work) ⌝ }
+    ensures { λ r. ⌜ r ≡ any (leading (timesIn n (now (work .entry))) (marksIn n (now (work .entry))) v) (arcsIn (now (edges .entry))) ⌝ }
 {
-    let c = first_edge(edges, closed, n, work, v);
+    let c = first_edge(edges, n, work, v);
     let mut a = arc_at(edges, n, v, c);
     while a.to < n {
         if leads_to(n, work, v, a.to, a.cost) {
             return true;
         }
-        a = next_arc(edges, closed, n, work, v, a);
+        a = next_arc(edges, n, work, v, a);
     }
     false
 }

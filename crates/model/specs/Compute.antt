@@ -33,9 +33,9 @@ unfolding Distance.sooner Distance.soonest Distance.plus Distance.agree Distance
 distance-computed = tt
 
 unfoldable pub network-computed : Unit {0}
-unfolding Network.coordinate Network.node Network.edge Network.nodeCount Network.edgeCount Network.nodes Network.edges Network.isOpen Network.openEdges
-    Network.network Network.order Network.arcsOf Network.arcs Network.distance Network.nodesBroken Network.nodeBroken Network.coordinatesBroken
-    Network.edgesBroken Network.edgeBroken Network.someEdgeBroken Network.numbersBroken
+unfolding Network.coordinate Network.node Network.edge Network.nodeCount Network.edgeCount Network.nodes Network.edges Network.network
+    Network.order Network.arcsOf Network.arcs Network.distance Network.nodesBroken Network.nodeBroken Network.coordinatesBroken
+    Network.edgesBroken Network.edgeBroken Network.someEdgeBroken Network.numbersBroken Network.closedListed
 network-computed = tt
 
 unfoldable pub grid-computed : Unit {0}
@@ -48,7 +48,8 @@ access-computed = tt
 
 unfoldable pub oracle-computed : Unit {0}
 unfolding Oracle.coded Oracle.valueBytes Oracle.decoded Oracle.value Oracle.valueBroken Oracle.entryBytes Oracle.listBytes Oracle.starts Oracle.accessBytes
-    Oracle.tableBytes Oracle.transitOf Oracle.oracle Oracle.transitCount Oracle.listStart Oracle.listCount Oracle.listPart Oracle.accessAt Oracle.accessEntry
+    Oracle.tableBytes Oracle.transitOf Oracle.oracleOver Oracle.oracle Oracle.transitCount Oracle.listStart Oracle.listCount Oracle.listPart
+    Oracle.accessAt Oracle.accessEntry
     Oracle.accessList Oracle.tableEntry Oracle.gridBodyBroken Oracle.entryBroken Oracle.indexes Oracle.listBroken Oracle.accessBroken Oracle.cellBroken
     Oracle.tableBroken
 oracle-computed = tt

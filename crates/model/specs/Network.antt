@@ -1,13 +1,14 @@
--- The network of a file: nodes and edges, the arcs of its open edges, distances, and rules 3 to 7. Assumes nothing.
--- A node is document 01's place, an edge its road. A network file and an oracle hold them alike, in their first three bodies.
+-- The network of a file: nodes and edges, the arcs of its edges, distances, and rules 3 to 7 and 21. Assumes nothing.
+-- A node is document 01's place, an edge its road. A network file and an oracle hold them alike, in their first two bodies. Body 3, the closed roads, must
+-- be empty (rule 21), so that every edge is open; what it once said stands with the converter (`convert`, Old).
 use Prim.Native.Nat.{ℕ, _+_, _*_, _/_, _%_}
 use mathlib.Core.Bool.{Bool, not, _||_}
 use mathlib.Core.List.{List, [], _∷_, map}
 use lib.ListN.{length}
 use lib.Dec.{eqb, ltb, leb}
-use Rattle.model.specs.Lists.{any, filter, concatMap, member, rising, upTo}
+use Rattle.model.specs.Lists.{any, concatMap, rising, upTo}
 use Rattle.model.specs.Bytes.{Bytes, word16, word32, numberSize, words16}
-use Rattle.model.specs.Contents.{nodeBody, edgeBody, closedBody}
+use Rattle.model.specs.Contents.{nodeBody, edgeBody}
 use Rattle.model.specs.Walk.{Arc}
 use Rattle.model.specs.Distance.{Distance, dist}
 
@@ -57,22 +58,15 @@ nodes b = map (node b) (upTo (nodeCount b))
 unfoldable pub edges : Bytes → List Edge
 edges b = map (edge b) (upTo (edgeCount b))
 
--- "A closed road is in no walk and crosses nothing; all others are open."
-unfoldable pub isOpen : List ℕ → ℕ → Bool
-isOpen closed i = not (member i closed)
-
-unfoldable pub openEdges : Bytes → List ℕ → List Edge
-openEdges b closed = map (edge b) (filter (isOpen closed) (upTo (edgeCount b)))
-
 -- ---- the network
 
--- What walks and crossings go by: the nodes and the open edges.
+-- What walks and crossings go by: the nodes and the edges.
 pub record Network : Type 0 where
   pub nodes : List Node
   pub edges : List Edge
 
 unfoldable pub network : Bytes → Network
-network f = record { nodes = nodes (nodeBody f); edges = openEdges (edgeBody f) (words16 (closedBody f)) }
+network f = record { nodes = nodes (nodeBody f); edges = edges (edgeBody f) }
 
 -- The number of nodes.
 unfoldable pub order : Network → ℕ
@@ -128,3 +122,7 @@ someEdgeBroken n b = any (edgeBroken n) (edges b)
 -- Rules 7 and 9: "A closed list [a transit body] of odd length, not rising, or naming no road [no place]", of which there are `limit`.
 unfoldable pub numbersBroken : ℕ → Bytes → Bool
 numbersBroken limit b = not (eqb (length b % numberSize) 0) || not (rising (words16 b)) || any (leb limit) (words16 b)
+
+-- Rule 21: "when body 3 holds a well-formed entry" (document 02, T-06). Past rule 7 every entry is well-formed, so a body that is not empty holds one.
+unfoldable pub closedListed : Bytes → Bool
+closedListed b = not (eqb (length b) 0)

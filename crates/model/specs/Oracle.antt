@@ -8,7 +8,7 @@ use Rattle.model.specs.Lists.{Part, gapless, any, concat, concatMap, ind
 use Rattle.model.specs.Bytes.{Bytes, word16, word32, bytes16, bytes32, numberSize}
 use Rattle.model.specs.Contents.{nodeBody, edgeBody, closedBody, file, oracleEdition}
 use Rattle.model.specs.Distance.{Distance, unreachable, finite}
-use Rattle.model.specs.Network.{network, order, distance}
+use Rattle.model.specs.Network.{Network, network, order, distance}
 use Rattle.model.specs.Grid.{gridOver, gridBroken, division, divisionSize, divisionBytes}
 use Rattle.model.specs.Access.{accessLists, transitNodes}
 use Rattle.model.specs.declared.Division.{Division}
@@ -87,15 +87,18 @@ tableBytes d transit = concatMap (λ a. concatMap (λ b. valueBytes (d a b)) tra
 unfoldable pub transitOf : Bytes → Division → List ℕ
 transitOf f dv = let net = network f in transitNodes (order net) (accessLists net (gridOver dv (net .nodes)))
 
--- The oracle built under a division from f: "its bodies 1 to 3 are the network's own bytes".
-unfoldable pub oracle : Bytes → Division → Bytes
-oracle f dv =
-    let net = network f in
+-- The oracle over a network under a division, with these bodies 1 to 3.
+unfoldable pub oracleOver : Network → Bytes → Bytes → Bytes → Division → Bytes
+oracleOver net b1 b2 b3 dv =
     let lists = accessLists net (gridOver dv (net .nodes)) in
     let transit = transitNodes (order net) lists in
     file oracleEdition
-    (nodeBody f ∷ edgeBody f ∷ closedBody f ∷ divisionBytes dv ∷ concatMap bytes16 transit ∷
-    accessBytes (distance net) transit lists ∷ tableBytes (distance net) transit ∷ [])
+    (b1 ∷ b2 ∷ b3 ∷ divisionBytes dv ∷ concatMap bytes16 transit ∷ accessBytes (distance net) transit lists ∷ tableBytes (distance net) transit ∷ [])
+
+-- The oracle built under a division from f: "its bodies 1 to 3 are the network's own bytes".
+unfoldable pub oracle : Bytes → Division → Bytes
+unfolding oracleOver
+oracle f dv = oracleOver (network f) (nodeBody f) (edgeBody f) (closedBody f) dv
 
 -- ---- reading
 

@@ -10,6 +10,7 @@ use Rattle.model.specs.Bytes.{Bytes, numberSize}
 use Rattle.model.specs.Contents.{contentsBroken, bodiesBroken, nodeBody, edgeBody, closedBody, gridBody, transitBody, accessBody, tableBody}
 use Rattle.model.specs.Contents.{networkEdition, networkEntries, oracleEdition, oracleEntries}
 use Rattle.model.specs.Network.{network, nodeCount, edgeCount, nodesBroken, coordinatesBroken, edgesBroken, someEdgeBroken, numbersBroken}
+use Rattle.model.specs.Network.{closedListed}
 use Rattle.model.specs.Grid.{gridBroken, division}
 use Rattle.model.specs.Oracle.{oracle, transitCount, gridBodyBroken, accessBroken, tableBroken}
 use Rattle.model.specs.Query.{kindBetween, way}
@@ -74,14 +75,18 @@ networkRules edition entries f =
     rule 6 (someEdgeBroken (nodeCount (nodeBody f)) (edgeBody f)) ∷
     rule 7 (numbersBroken (edgeCount (edgeBody f)) (closedBody f)) ∷ []
 
+-- With 21 "directly after 7, in every call but this converter" (document 02, T-06).
+abbrev pub plainRules : ℕ → ℕ → Bytes → List Rule
+plainRules edition entries f = networkRules edition entries f ++ (rule 21 (closedListed (closedBody f)) ∷ [])
+
 -- Building's rules before 14.
 unfoldable pub acceptRules : Bytes → Division → List Rule
-acceptRules f dv = networkRules networkEdition networkEntries f ++ (rule 8 (gridBroken (dv .g)) ∷ [])
+acceptRules f dv = plainRules networkEdition networkEntries f ++ (rule 8 (gridBroken (dv .g)) ∷ [])
 
--- Rules 1 to 11, of an oracle.
+-- Rules 1 to 11 and 21, of an oracle.
 unfoldable pub shapeRules : Bytes → List Rule
 shapeRules o =
-    networkRules oracleEdition oracleEntries o ++
+    plainRules oracleEdition oracleEntries o ++
     (rule 8 (gridBodyBroken (gridBody o)) ∷
     rule 9 (numbersBroken (nodeCount (nodeBody o)) (transitBody o)) ∷
     rule 10 (accessBroken (nodeCount (nodeBody o)) (transitCount (transitBody o)) (accessBody o)) ∷

@@ -47,5 +47,5 @@ pub struct Route {
 #[repr(C)]
 pub struct Output {
     pub rule: u32,
-    pub size: u32,
+    pub size: usize,
 }

@@ -8,7 +8,7 @@ use mathlib.Core.List.{List}
 use lib.ListN.{length, getD, set, take, drop, replicate, length-set, length-replicate}
 use lib.Seq.{getD-take, getD-drop, getD-set-same}
 use Rattle.model.specs.Bytes.{Bytes}
-use Rattle.model.specs.Contents.{nodeBody, edgeBody, closedBody}
+use Rattle.model.specs.Contents.{nodeBody, edgeBody}
 use Rattle.model.specs.Network.{maxNodes, nodeCount}
 use Rattle.model.specs.Rules.{wellShaped, wordsNeeded, workWords}
 use Rattle.model.specs.Walk.{Arc}
@@ -44,8 +44,8 @@ module _ (n : ℕ) (w w′ : List ℕ) where
       sym (getD-take a w′ (gridAt n + i) 0 (omega arith)) ∙ (ap (λ (l : List ℕ). getD l (gridAt n + i) 0) e ∙ getD-take a w (gridAt n + i) 0 (omega arith)))
 
 -- The index stands behind the grid.
-roads-behind : (eb cb : Bytes) (n : ℕ) (w w′ : List ℕ) → KeptFrom (gridAt n) w w′ → IndexedEdges eb cb n w → IndexedEdges eb cb n w′
-roads-behind eb cb n w w′ e r = roads-kept eb cb n w w′ (kept-more (gridAt n) (indexAt n) w w′ (omega arith) e) r
+roads-behind : (eb : Bytes) (n : ℕ) (w w′ : List ℕ) → KeptFrom (gridAt n) w w′ → IndexedEdges eb n w → IndexedEdges eb n w′
+roads-behind eb n w w′ e r = roads-kept eb n w w′ (kept-more (gridAt n) (indexAt n) w w′ (omega arith) e) r
 
 -- ---- an opened oracle
 module _ (o : Bytes) where
@@ -58,7 +58,7 @@ module _ (o : Bytes) where
     shape = h .shape;
     room = omega (arith, h .room, l);
     grid = grid-behind n w w′ e ∙ h .grid;
-    roads = roads-behind (edgeBody o) (closedBody o) n w w′ e (h .roads);
+    roads = roads-behind (edgeBody o) n w w′ e (h .roads);
   }
 
   pub others-rest : (w w′ : List ℕ) → 0 < n → KeptFrom (gridAt n) w w′ → KeptFrom (wordsNeeded o) w w′
@@ -68,7 +68,7 @@ module _ (o : Bytes) where
   -- From w₀, by the numbers of the grid, to w₁, and by the index to w₂.
   module _ (w₀ w₁ w₂ : List ℕ) (p : 0 < n) (long : length w₂ ≡ length w₀) (g : gridIn n w₁ ≡ oracleGrid o) (before : take (indexAt n) w₂ ≡ take (indexAt n) w₁)
     where
-      pub opened-made : wellShaped o ≡ true → wordsNeeded o ≤ length w₀ → IndexedEdges (edgeBody o) (closedBody o) n w₂ → Opened o w₂
+      pub opened-made : wellShaped o ≡ true → wordsNeeded o ≤ length w₀ → IndexedEdges (edgeBody o) n w₂ → Opened o w₂
       opened-made shape room roads = record
           { shape = shape; room = omega (arith, room, long); grid = grid-before n w₁ w₂ (indexAt n) (omega arith) before ∙ g; roads = roads }
 
@@ -77,12 +77,12 @@ module _ (o : Bytes) where
   opened-rest w₀ w₁ w₂ p d e = e ∙ kept-more (gridAt n + 4) (workWords n) w₀ w₁ (omega arith) d
 
 -- The same, for the number of nodes and the bodies as the code has them.
-module _ (o : Bytes) (m : ℕ) (e : m ≡ nodeCount (nodeBody o)) (eb cb : Bytes) (p : eb ≡ edgeBody o) (q : cb ≡ closedBody o) (w₀ w₁ w₂ : List ℕ) where
+module _ (o : Bytes) (m : ℕ) (e : m ≡ nodeCount (nodeBody o)) (eb : Bytes) (p : eb ≡ edgeBody o) (w₀ w₁ w₂ : List ℕ) where
   pub words-opened : 0 < nodeCount (nodeBody o) → length w₂ ≡ length w₀ → wellShaped o ≡ true → wordsNeeded o ≤ length w₀ → gridIn m w₁ ≡ oracleGrid o
       → KeptFrom (gridAt m + 4) w₀ w₁
-      → IndexedEdges eb cb m w₂ → take (indexAt m) w₂ ≡ take (indexAt m) w₁ → KeptFrom (workWords m) w₁ w₂ → Opened o w₂ × (KeptFrom (wordsNeeded o) w₀ w₂)
+      → IndexedEdges eb m w₂ → take (indexAt m) w₂ ≡ take (indexAt m) w₁ → KeptFrom (workWords m) w₁ w₂ → Opened o w₂ × (KeptFrom (wordsNeeded o) w₀ w₂)
   words-opened some long shape room g d roads before back = (
-    opened-made o w₀ w₁ w₂ some long (rw e at g) (rw e at before) shape room (rw (e, p, q) at roads),
+    opened-made o w₀ w₁ w₂ some long (rw e at g) (rw e at before) shape room (rw (e, p) at roads),
     opened-rest o w₀ w₁ w₂ some (rw e at d) (rw e at back),
   )
 
@@ -107,28 +107,28 @@ stays-noted o w w′ h two l k =
         shape = h .shape;
         room = omega (arith, h .room, l);
         grid = grid-before n w w′ (spansAt n) (omega arith) (k .front) ∙ h .grid;
-        roads = roads-kept (edgeBody o) (closedBody o) n w w′ back (h .roads);
+        roads = roads-kept (edgeBody o) n w w′ back (h .roads);
       };
       rest = kept-more (indexAt n) (workWords n) w w′ (omega arith) back;
     }
 
 -- ---- what a search asks for, of the bodies and the number of nodes as the code has them
-pub record Lent (o eb cb : Bytes) (m : ℕ) (w : List ℕ) : Type 0 where
+pub record Lent (o eb : Bytes) (m : ℕ) (w : List ℕ) : Type 0 where
   pub few : m ≤ maxNodes
   pub below : (u : ℕ) → u < nodeCount (nodeBody o) → u < m
   pub room : workWords m ≤ length w
-  pub roads : IndexedEdges eb cb m w
+  pub roads : IndexedEdges eb m w
 
-pub lent : (o : Bytes) (w : List ℕ) → Opened o w → (eb cb : Bytes) (m : ℕ) → eb ≡ edgeBody o → cb ≡ closedBody o → m ≡ nodeCount (nodeBody o)
-    → Lent o eb cb m w
+pub lent : (o : Bytes) (w : List ℕ) → Opened o w → (eb : Bytes) (m : ℕ) → eb ≡ edgeBody o → m ≡ nodeCount (nodeBody o)
+    → Lent o eb m w
 unfolding wordsNeeded
-lent o w h eb cb m p q e =
+lent o w h eb m p e =
     let sound = all-shaped o (h .shape) .sound in
     record {
       few = omega (arith, node-bytes o sound .0, e);
       below = λ u l. omega (arith, e);
       room = omega (arith, h .room, e);
-      roads = rw (e, p, q) (h .roads);
+      roads = rw (e, p) (h .roads);
     }
 
 -- ---- one node wanted

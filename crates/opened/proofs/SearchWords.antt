@@ -6,7 +6,7 @@ use mathlib.Core.Bool.{true}
 use mathlib.Core.List.{List}
 use lib.ListN.{getD}
 use Rattle.model.specs.Bytes.{Bytes}
-use Rattle.model.specs.Contents.{nodeBody, edgeBody, closedBody}
+use Rattle.model.specs.Contents.{nodeBody, edgeBody}
 use Rattle.model.specs.Distance.{dist, finite}
 use Rattle.model.specs.Network.{network, nodeCount, distance}
 use Rattle.model.specs.Oracle.{coded, decoded}
@@ -35,7 +35,7 @@ found-word arcs n s t ys found h =
     sym (time-at n ys t h) ∙ (ap (λ (l : List ℕ). getD l t 0) found ∙ (getD-map-range (λ v. coded (dist arcs n s v)) 0 0 n t h ∙ rw zero-add))
 
 -- The distance in the oracle's network, over its bodies.
-pub distance-in : (o : Bytes) (s t : ℕ) → distance (network o) s t ≡ dist (arcsIn (edgeBody o) (closedBody o)) (nodeCount (nodeBody o)) s t
+pub distance-in : (o : Bytes) (s t : ℕ) → distance (network o) s t ≡ dist (arcsIn (edgeBody o)) (nodeCount (nodeBody o)) s t
 unfolding distance
 distance-in o s t = rw (arcs-in o, count-nodes o)
 
@@ -43,7 +43,7 @@ distance-in o s t = rw (arcs-in o, count-nodes o)
 pub toward-word : (o : Bytes) (s t : ℕ) (work : List ℕ) → TimesFrom o s work → t < nodeCount (nodeBody o)
     → time (nodeCount (nodeBody o)) work t ≡ coded (distance (network o) s t)
 toward-word o s t work toward h =
-    rw (distance-in o s t) (found-word (arcsIn (edgeBody o) (closedBody o)) (nodeCount (nodeBody o)) s t work (toward .times) h)
+    rw (distance-in o s t) (found-word (arcsIn (edgeBody o)) (nodeCount (nodeBody o)) s t work (toward .times) h)
 
 -- The local answer, from the word that the search has left.
 pub local-is : (o : Bytes) → Shaped o → (s t r : ℕ) → s < nodeCount (nodeBody o) → r ≡ coded (distance (network o) s t)
@@ -59,5 +59,5 @@ pub itself-no-time : (o : Bytes) (s : ℕ) → wellShaped o ≡ true → s < nod
 unfolding coded
 itself-no-time o s shape h =
     let n = nodeCount (nodeBody o) in
-    let within = arcs-within n (edgeBody o) (all-shaped o shape .sound .some-edge) (closedBody o) in
-    rw (distance-in o s s) (ap coded (itself-none (arcsIn (edgeBody o) (closedBody o)) n within s h))
+    let within = arcs-within n (edgeBody o) (all-shaped o shape .sound .some-edge) in
+    rw (distance-in o s s) (ap coded (itself-none (arcsIn (edgeBody o)) n within s h))

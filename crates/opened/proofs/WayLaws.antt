@@ -7,7 +7,7 @@ use mathlib.Core.Path.{_≡_, refl, sym, _∙_, ap}
 use mathlib.Core.List.{List, []}
 use lib.ListN.{length, getD, List·getD-eq-default, length-map}
 use Rattle.model.specs.Bytes.{Bytes}
-use Rattle.model.specs.Contents.{nodeBody, edgeBody, closedBody}
+use Rattle.model.specs.Contents.{nodeBody, edgeBody}
 use Rattle.model.specs.Distance.{Distance, unreachable, dist}
 use Rattle.model.specs.Lists.{upTo}
 use Rattle.model.specs.Network.{Network, network, nodeCount, order, arcs, distance}
@@ -80,10 +80,10 @@ module _ (net : Network) (es : List Arc) (n : ℕ) (g : Searched net es n) where
         ap (λ (xs : List Arc). wayFrom (λ v. distance net v t) xs (distance net s t) s) (sym (g .same))
 
 -- The oracle's own network, without lines.
-pub own-searched : (o : Bytes) → Shaped o → Searched (network o) (arcsUnder (edgeBody o) (closedBody o) []) (nodeCount (nodeBody o))
+pub own-searched : (o : Bytes) → Shaped o → Searched (network o) (arcsUnder (edgeBody o) []) (nodeCount (nodeBody o))
 own-searched o shaped = record {
   sane = sane o (shaped .sound);
   small = near o (shaped .sound);
-  same = arcs-in o ∙ sym (plain-arcs (edgeBody o) (closedBody o));
+  same = arcs-in o ∙ sym (plain-arcs (edgeBody o));
   count = count-nodes o;
 }

@@ -5,7 +5,7 @@ use mathlib.Core.Bool.{true}
 use mathlib.Core.List.{List}
 use lib.ListN.{length, getD}
 use Rattle.model.specs.Bytes.{Bytes}
-use Rattle.model.specs.Contents.{nodeBody, edgeBody, closedBody}
+use Rattle.model.specs.Contents.{nodeBody, edgeBody}
 use Rattle.model.specs.Network.{nodeCount}
 use Rattle.model.specs.Grid.{Grid, innerRadius, outerRadius}
 use Rattle.model.specs.Rules.{firstBroken, wellShaped, wordsNeeded}
@@ -31,7 +31,7 @@ pub record Opened (o : Bytes) (w : List ℕ) : Type 0 where
   pub shape : wellShaped o ≡ true
   pub room : wordsNeeded o ≤ length w
   pub grid : gridIn (nodeCount (nodeBody o)) w ≡ oracleGrid o
-  pub roads : IndexedEdges (edgeBody o) (closedBody o) (nodeCount (nodeBody o)) w
+  pub roads : IndexedEdges (edgeBody o) (nodeCount (nodeBody o)) w
 
 -- Opening: 0 and an opened oracle, or the number of the broken rule and nothing written.
 pub record OpenCall (o : Bytes) (w : List ℕ) (r : ℕ) (w′ : List ℕ) : Type 0 where

@@ -4,7 +4,7 @@ use mathlib.Core.Path.{_≡_}
 use mathlib.Core.List.{List}
 use lib.ListN.{length}
 use Rattle.model.specs.Bytes.{Bytes}
-use Rattle.model.specs.Contents.{nodeBody, edgeBody, closedBody}
+use Rattle.model.specs.Contents.{nodeBody, edgeBody}
 use Rattle.model.specs.Network.{nodeCount}
 use Rattle.model.specs.Walk.{Arc}
 use Rattle.algorithms.specs.Rounds.{distanceWords}
@@ -14,7 +14,7 @@ use Rattle.way.specs.Distances.{wayIn}
 
 -- The first words are the distances from s in the oracle's network.
 pub record TimesFrom (o : Bytes) (s : ℕ) (work : List ℕ) : Type 0 where
-  pub times : timesIn (nodeCount (nodeBody o)) work ≡ distanceWords (arcsIn (edgeBody o) (closedBody o)) (nodeCount (nodeBody o)) s
+  pub times : timesIn (nodeCount (nodeBody o)) work ≡ distanceWords (arcsIn (edgeBody o)) (nodeCount (nodeBody o)) s
   pub room : nodeCount (nodeBody o) ≤ length work
 
 -- The way from s to t over these arcs, by the distances from t: roads run both ways (theory `both-ways`).

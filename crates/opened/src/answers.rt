@@ -19,12 +19,10 @@ use model::Answer;
 use model::Kind;
 use model::Route;
 use reader::oracle::ACCESS;
-use reader::oracle::CLOSED;
 use reader::oracle::EDGES;
 use reader::oracle::TABLE;
 use reader::oracle::node_count;
 use reader::oracle::oracle_body;
-use reader::oracle::oracle_contents;
 use reader::oracle::transit_count;
 use tables::far::answer_of;
 use tables::far::far_answer;
@@ -43,7 +41,7 @@ pub fn far_of(o: &[u8], s: usize, t: usize) -> Answer
     )
 }
 
-// The local answer, from a search over the open edges.
+// The local answer, from a search over the edges.
 fn local_of(o: &[u8], s: usize, t: usize, work: &mut [u32]) -> Answer
     requires { ⌜ Opened (now o) (now work) × (s < nodeCount (nodeBody (now o))) × (t < nodeCount (nodeBody (now o))) ⌝ }
     ensures answer { λ r. ⌜ r ≡ localAnswer (network (now (o .entry))) s t ⌝ }
@@ -95,16 +93,6 @@ pub fn way_of(o: &[u8], s: usize, t: usize, work: &mut [u32], out: &mut [u8]) ->
     ensures given { λ r. ⌜ WayGiven (now (o .entry)) s t (now (out .entry)) r (now (out .exit)) ⌝ }
     ensures others { λ _. ⌜ KeptFrom (gridAt (nodeCount (nodeBody (now (o .entry))))) (now (work .entry)) (now (work .exit)) ⌝ }
 {
-    let c = oracle_contents(o);
-    let edges = c.body(o, EDGES);
-    write_way_to(
-        edges,
-        c.body(o, CLOSED),
-        &edges[..0],
-        node_count(o),
-        s,
-        t,
-        work,
-        out,
-    )
+    let edges = oracle_body(o, EDGES);
+    write_way_to(edges, &edges[..0], node_count(o), s, t, work, out)
 }

@@ -12,7 +12,6 @@ ghost use Rattle.arcs.specs.Leaving.{EdgesUnder};
 ghost use Rattle.words.specs.Frames.{Enough, KeptFrom};
 ghost use Rattle.opened.specs.Opened.{Opened};
 ghost use Rattle.words.specs.Regions.{timesIn, orderIn, wantIn, gridAt};
-use reader::oracle::CLOSED;
 use reader::oracle::EDGES;
 use reader::oracle::node_count;
 use reader::oracle::oracle_body;
@@ -35,37 +34,35 @@ fn want_only(work: &mut [u32], n: usize, t: usize)
 // Searches from s until t is settled, over the edges as the lines of a sheet leave them. The search leaves what it likes before the grid.
 pub fn search_to(
     edges: &[u8],
-    closed: &[u8],
     lines: &[u8],
     n: usize,
     s: usize,
     t: usize,
     work: &mut [u32],
 ) -> usize
-    requires { ⌜ (n ≤ maxNodes) × (s < n) × (t < n) × Enough n (now work) × EdgesUnder (now edges) (now closed) (now lines) n (now work) × (2 ≤ n) ⌝ }
-    ensures found { λ e. ⌜ Stopped (arcsUnder (now (edges .entry)) (now (closed .entry)) (now (lines .entry))) n s (set (replicate n 0) t 1)
+    requires { ⌜ (n ≤ maxNodes) × (s < n) × (t < n) × Enough n (now work) × EdgesUnder (now edges) (now lines) n (now work) × (2 ≤ n) ⌝ }
+    ensures found { λ e. ⌜ Stopped (arcsUnder (now (edges .entry)) (now (lines .entry))) n s (set (replicate n 0) t 1)
         (timesIn n (now (work .exit))) (orderIn n e (now (work .exit))) ⌝ }
     ensures others { λ _. ⌜ KeptFrom (gridAt n) (now (work .entry)) (now (work .exit)) ⌝ }
 {
     want_only(work, n, t);
-    search_wanted_under(edges, closed, lines, n, s, 1, work)
+    search_wanted_under(edges, lines, n, s, 1, work)
 }
 
 // The distance from s to t over them.
 pub fn search_seconds(
     edges: &[u8],
-    closed: &[u8],
     lines: &[u8],
     n: usize,
     s: usize,
     t: usize,
     work: &mut [u32],
 ) -> u32
-    requires { ⌜ (n ≤ maxNodes) × (s < n) × (t < n) × Enough n (now work) × EdgesUnder (now edges) (now closed) (now lines) n (now work) × (2 ≤ n) ⌝ }
-    ensures seconds { λ r. ⌜ r ≡ coded (dist (arcsUnder (now (edges .entry)) (now (closed .entry)) (now (lines .entry))) n s t) ⌝ }
+    requires { ⌜ (n ≤ maxNodes) × (s < n) × (t < n) × Enough n (now work) × EdgesUnder (now edges) (now lines) n (now work) × (2 ≤ n) ⌝ }
+    ensures seconds { λ r. ⌜ r ≡ coded (dist (arcsUnder (now (edges .entry)) (now (lines .entry))) n s t) ⌝ }
     ensures others { λ _. ⌜ KeptFrom (gridAt n) (now (work .entry)) (now (work .exit)) ⌝ }
 {
-    search_to(edges, closed, lines, n, s, t, work);
+    search_to(edges, lines, n, s, t, work);
     time_of(work, n, t)
 }
 
@@ -79,13 +76,5 @@ pub fn local_seconds(o: &[u8], s: usize, t: usize, work: &mut [u32]) -> u32
         return 0;
     }
     let edges = oracle_body(o, EDGES);
-    search_seconds(
-        edges,
-        oracle_body(o, CLOSED),
-        &edges[..0],
-        node_count(o),
-        s,
-        t,
-        work,
-    )
+    search_seconds(edges, &edges[..0], node_count(o), s, t, work)
 }

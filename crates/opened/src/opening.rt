@@ -17,10 +17,9 @@ use checks::kinds::kind_in;
 use grid::Grid;
 use index::chains::build_index;
 use model::Kind;
-use reader::oracle::CLOSED;
 use reader::oracle::EDGES;
 use reader::oracle::node_count;
-use reader::oracle::oracle_contents;
+use reader::oracle::oracle_body;
 use words::regions::grid_at;
 
 fn put_grid(work: &mut [u32], n: usize, grid: Grid)
@@ -57,8 +56,7 @@ pub fn open_words(o: &[u8], work: &mut [u32])
 {
     let n = node_count(o);
     put_grid(work, n, grid_of(o));
-    let c = oracle_contents(o);
-    build_index(c.body(o, EDGES), c.body(o, CLOSED), n, work);
+    build_index(oracle_body(o, EDGES), n, work);
 }
 
 // The grid of an opened oracle.

@@ -1,4 +1,4 @@
-// The way, over the bodies of edges and closed edges and the lines of a sheet alone.
+// The way, over the body of edges and the lines of a sheet alone.
 ghost use mathlib.Core.List.{[], _∷_};
 ghost use Prim.Native.Nat.{_<_, _≤_};
 ghost use Rattle.model.specs.Contents.{nodeBody};
@@ -16,10 +16,9 @@ use codec::bytes::write16;
 use codec::records::NUMBER_SIZE;
 use emit::copy::copy;
 use model::Route;
-use reader::oracle::CLOSED;
 use reader::oracle::EDGES;
 use reader::oracle::node_count;
-use reader::oracle::oracle_contents;
+use reader::oracle::oracle_body;
 use search::front::search_front;
 use way::after::LONGEST;
 use way::whole::whole_way;
@@ -30,8 +29,7 @@ pub fn times_from(o: &[u8], s: usize, work: &mut [u32])
     ensures times { λ _. ⌜ TimesFrom (now (o .entry)) s (now (work .exit)) ⌝ }
     ensures others { λ _. ⌜ KeptFrom (gridAt (nodeCount (nodeBody (now (o .entry))))) (now (work .entry)) (now (work .exit)) ⌝ }
 {
-    let c = oracle_contents(o);
-    search_front(c.body(o, EDGES), c.body(o, CLOSED), node_count(o), s, work);
+    search_front(oracle_body(o, EDGES), node_count(o), s, work);
 }
 
 // Writes the way from s to itself, which has no other node.
@@ -49,7 +47,6 @@ pub fn write_way_itself(s: usize, out: &mut [u8]) -> Route
 // Writes the way from s at the front of the output, by the times in the first words. It is found before any output is written.
 fn write_way_from(
     edges: &[u8],
-    closed: &[u8],
     lines: &[u8],
     n: usize,
     work: &[u32],
@@ -57,12 +54,12 @@ fn write_way_from(
     out: &mut [u8],
 ) -> Route
     requires { ⌜ (s < n) × (n ≤ maxNodes) × Enough n (now work) ⌝ }
-    requires { ⌜ EdgesUnder (now edges) (now closed) (now lines) n (now work) ⌝ }
-    ensures { λ r. ⌜ NodesGiven (nodesIn (now (edges .entry)) (now (closed .entry)) (now (lines .entry)) n (now (work .entry)) s) (now (out .entry)) r
+    requires { ⌜ EdgesUnder (now edges) (now lines) n (now work) ⌝ }
+    ensures { λ r. ⌜ NodesGiven (nodesIn (now (edges .entry)) (now (lines .entry)) n (now (work .entry)) s) (now (out .entry)) r
         (now (out .exit)) ⌝ }
 {
     let mut nodes = [0u8; LONGEST];
-    let size = whole_way(edges, closed, lines, n, work, s, &mut nodes);
+    let size = whole_way(edges, lines, n, work, s, &mut nodes);
     if out.len() < size {
         return Route { rule: 15, nodes: 0 };
     }
@@ -77,7 +74,6 @@ fn write_way_from(
 // s is settled. From a node to itself nothing is searched.
 pub fn write_way_to(
     edges: &[u8],
-    closed: &[u8],
     lines: &[u8],
     n: usize,
     s: usize,
@@ -85,14 +81,14 @@ pub fn write_way_to(
     work: &mut [u32],
     out: &mut [u8],
 ) -> Route
-    requires { ⌜ (n ≤ maxNodes) × (s < n) × (t < n) × Enough n (now work) × EdgesUnder (now edges) (now closed) (now lines) n (now work) ⌝ }
-    ensures given { λ r. ⌜ NodesGiven (wayOver (arcsUnder (now (edges .entry)) (now (closed .entry)) (now (lines .entry))) n s t) (now (out .entry)) r
+    requires { ⌜ (n ≤ maxNodes) × (s < n) × (t < n) × Enough n (now work) × EdgesUnder (now edges) (now lines) n (now work) ⌝ }
+    ensures given { λ r. ⌜ NodesGiven (wayOver (arcsUnder (now (edges .entry)) (now (lines .entry))) n s t) (now (out .entry)) r
         (now (out .exit)) ⌝ }
     ensures others { λ _. ⌜ KeptFrom (gridAt n) (now (work .entry)) (now (work .exit)) ⌝ }
 {
     if s == t {
         return write_way_itself(s, out);
     }
-    search_to(edges, closed, lines, n, t, s, work);
-    write_way_from(edges, closed, lines, n, work, s, out)
+    search_to(edges, lines, n, t, s, work);
+    write_way_from(edges, lines, n, work, s, out)
 }

@@ -22,7 +22,7 @@ use Rattle.grid.specs.declared.Grid.{Grid}
 use Rattle.grid.proofs.Cells.{cell-at}
 use Rattle.crossing.specs.Sets.{testFlags, memberFlags, ones}
 use Rattle.crossing.specs.SetLaws.{flags-test, test-flag, ones-members, filter-flags}
-use Rattle.crossing.specs.Ground.{cellsIn, openIn, Ground}
+use Rattle.crossing.specs.Ground.{cellsIn, edgesIn, Ground}
 use Rattle.emit.specs.MemberLaws.{members-passing}
 use Rattle.access.specs.Networks.{networkIn, count-cells}
 use Rattle.access.specs.Pairs.{NotAlone}
@@ -63,16 +63,16 @@ module _ (n k : ℕ) (w : List ℕ) where
       ∙ tests-agree (isIn (drop (regionAt n k) w)) p n (sym (flags-test n (drop (regionAt n k) w)) ∙ (e ∙ filter-flags n p)) v h)
 
 -- Region k has the access nodes of the cell of u.
-pub access-listed : (b e c : Bytes) (grid : Grid) (n : ℕ) → n ≡ nodeCount b → (u : ℕ) → u < n → (k : ℕ) (w : List ℕ) (cell : model.Cell)
+pub access-listed : (b e : Bytes) (grid : Grid) (n : ℕ) → n ≡ nodeCount b → (u : ℕ) → u < n → (k : ℕ) (w : List ℕ) (cell : model.Cell)
     → cell ≡ model.cellOf (gridOf grid) (node b u) → regionFlags n k w ≡ memberFlags n
-    (accessNodes (distance (networkIn b e c)) (gridOf grid) (cellsIn grid b) (openIn e c) cell)
-    → membersIn n k w ≡ accessOf b e c grid u
+    (accessNodes (distance (networkIn b e)) (gridOf grid) (cellsIn grid b) (edgesIn e) cell)
+    → membersIn n k w ≡ accessOf b e grid u
 unfolding accessOf accessNodes
-access-listed b e c grid n size u h k w cell q f =
+access-listed b e grid n size u h k w cell q f =
     let l = count-cells b n size grid in
     rw (cell-at (gridOf grid) b u (rw (← size) h), ← q, l) (members-listed n k w _ (rw l at f))
 
 -- These are not alone.
-pub access-alone : (b e c : Bytes) (grid : Grid) (n : ℕ) → n ≡ nodeCount b → Ground b e c grid → (u k : ℕ) (w : List ℕ)
-    → membersIn n k w ≡ accessOf b e c grid u → NotAlone n k w
-access-alone b e c grid n size ground u k w q v f = access-two b e c grid n size ground u v (rw q at (flagged-member n k w v .0 f))
+pub access-alone : (b e : Bytes) (grid : Grid) (n : ℕ) → n ≡ nodeCount b → Ground b e grid → (u k : ℕ) (w : List ℕ)
+    → membersIn n k w ≡ accessOf b e grid u → NotAlone n k w
+access-alone b e grid n size ground u k w q v f = access-two b e grid n size ground u v (rw q at (flagged-member n k w v .0 f))

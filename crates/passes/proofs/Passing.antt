@@ -29,28 +29,28 @@ use Rattle.passes.proofs.Taken.{transit-needed, members-transit}
 use Rattle.words.specs.Frames.{OnlyIn, Only, KeptFrom}
 use Rattle.words.proofs.Stays.{kept-more, after-kept}
 
-module _ (b e c : Bytes) (grid : Grid) (n : ℕ) where
+module _ (b e : Bytes) (grid : Grid) (n : ℕ) where
   abbrev cs : List Cell
   cs = cellsIn grid b
 
-  pub passed-none : (w : List ℕ) → regionFlags n transit w ≡ replicate n 0 → CellsPassed b e c grid n 0 w
+  pub passed-none : (w : List ℕ) → regionFlags n transit w ≡ replicate n 0 → CellsPassed b e grid n 0 w
   passed-none w z = record {
     sound = λ a m. let f : Flagged (replicate n 0) a = rw z at (flagged-member n transit w a .1 m) in absurd (omega (arith, blank n a));
-    seen = seen-none cs (Told b e c grid n w) n;
+    seen = seen-none cs (Told b e grid n w) n;
   }
 
   -- A node that is not the first of its cell.
-  pub passed-later : (u : ℕ) (w : List ℕ) → CellsPassed b e c grid n u w → false ≡ firstOfCell cs u → CellsPassed b e c grid n (u + 1) w
-  passed-later u w g f = record { sound = g .sound; seen = seen-later cs (Told b e c grid n w) n u (sym f) (g .seen) }
+  pub passed-later : (u : ℕ) (w : List ℕ) → CellsPassed b e grid n u w → false ≡ firstOfCell cs u → CellsPassed b e grid n (u + 1) w
+  passed-later u w g f = record { sound = g .sound; seen = seen-later cs (Told b e grid n w) n u (sym f) (g .seen) }
 
   -- The first of its cell: from the words w, the access nodes put into x, their union with region TRANSIT into y, and their count into z.
-  module _ (u : ℕ) (h : u < n) (w x y z : List ℕ) (g : CellsPassed b e c grid n u w)
-      (mine : membersIn n own x ≡ accessOf b e c grid u) (rest : KeptFrom (regionAt n transit) w x)
+  module _ (u : ℕ) (h : u < n) (w x y z : List ℕ) (g : CellsPassed b e grid n u w)
+      (mine : membersIn n own x ≡ accessOf b e grid u) (rest : KeptFrom (regionAt n transit) w x)
       (united : regionFlags n transit y ≡ either (regionFlags n own x) (regionFlags n transit x)) (apart : Only n transit x y)
       (k : ℕ) (count : k ≡ ones (regionFlags n own x))
       (put : (v : ℕ) → v < n → getD z (regionAt n counts + v) 0 ≡ cond (sameCell cs u v) k (getD y (regionAt n counts + v) 0))
       (alone : OnlyIn (regionAt n counts) n y z) where
-    joined : (a : ℕ) → List·Memᴰ a (membersIn n transit z) ↔ (List·Memᴰ a (accessOf b e c grid u) ⊎ List·Memᴰ a (membersIn n transit w))
+    joined : (a : ℕ) → List·Memᴰ a (membersIn n transit z) ↔ (List·Memᴰ a (accessOf b e grid u) ⊎ List·Memᴰ a (membersIn n transit w))
     joined a =
         let i = flagged-member n transit z a in
         let j = rw mine at (flagged-member n own x a) in
@@ -71,41 +71,41 @@ module _ (b e c : Bytes) (grid : Grid) (n : ℕ) where
         sym (getD-drop (regionAt n counts) y v 0) ∙ (ap (λ (l : List ℕ). getD l v 0) (s ∙ r) ∙ getD-drop (regionAt n counts) w v 0)
 
     -- A node of the cell of u, and one of another.
-    told-same : (v : ℕ) → v < n → sameCell cs u v ≡ true → Told b e c grid n z v
+    told-same : (v : ℕ) → v < n → sameCell cs u v ≡ true → Told b e grid n z v
     told-same v l s =
-        let q = same-access b e c grid u v (same-cell cs u v .0 s) in
+        let q = same-access b e grid u v (same-cell cs u v .0 s) in
         record {
           counted = put v l ∙ rw s (count ∙ (count-members n own x ∙ ap length (mine ∙ q)));
           members = λ a m. joined a .1 (inl (rw q m));
         }
 
-    told-other : (v : ℕ) → v < n → sameCell cs u v ≡ false → Told b e c grid n w v → Told b e c grid n z v
+    told-other : (v : ℕ) → v < n → sameCell cs u v ≡ false → Told b e grid n w v → Told b e grid n z v
     told-other v l s t = record { counted = put v l ∙ rw s (stayed v ∙ t .counted); members = λ a m. joined a .1 (inr (t .members a m)) }
 
-    told : (v : ℕ) → v < n → Covered cs u v ⊎ Beside cs u n v → Told b e c grid n z v
+    told : (v : ℕ) → v < n → Covered cs u v ⊎ Beside cs u n v → Told b e grid n z v
     told v l d = pick (sameCell cs u v) refl d
       where
-        pick : (s : Bool) → sameCell cs u v ≡ s → Covered cs u v ⊎ Beside cs u n v → Told b e c grid n z v
+        pick : (s : Bool) → sameCell cs u v ≡ s → Covered cs u v ⊎ Beside cs u n v → Told b e grid n z v
         pick true s d = told-same v l s
         pick false s (inl d) = told-other v l s (g .seen v l d)
         pick false s (inr d) = absurd (false≢true (sym s ∙ same-cell cs u v .1 (d .1)))
 
-    pub passed-next : CellsPassed b e c grid n (u + 1) z × (KeptFrom (indexAt n) w z)
+    pub passed-next : CellsPassed b e grid n (u + 1) z × (KeptFrom (indexAt n) w z)
     passed-next = (
       record {
         sound = λ a m. ⊎-elim (λ i. record { by = u; below = h; listed = i }) (g .sound a) (joined a .0 m);
-        seen = to-all cs (Told b e c grid n z) n u n (omega arith) told;
+        seen = to-all cs (Told b e grid n z) n u n (omega arith) told;
       },
       after-kept _ _ y z alone (indexAt n) (omega arith)
           ∙ (after-kept _ _ x y apart (indexAt n) (omega arith) ∙ kept-more (regionAt n transit) (indexAt n) w x (omega arith) rest),
     )
 
   -- All nodes are passed.
-  pub passed-all : Ground b e c grid → n ≡ nodeCount b → (u : ℕ) (w : List ℕ) → n ≤ u → CellsPassed b e c grid n u w
-      → (membersIn n transit w ≡ transitIn b e c grid) × ((v : ℕ) → v < n → getD w (regionAt n counts + v) 0 ≡ length (accessOf b e c grid v))
+  pub passed-all : Ground b e grid → n ≡ nodeCount b → (u : ℕ) (w : List ℕ) → n ≤ u → CellsPassed b e grid n u w
+      → (membersIn n transit w ≡ transitIn b e grid) × ((v : ℕ) → v < n → getD w (regionAt n counts + v) 0 ≡ length (accessOf b e grid v))
   passed-all ground size u w l g =
-      let t = seen-all cs (Told b e c grid n w) n u l (g .seen) in (
-        members-transit b e c grid n size transit w (λ a m. let d = g .sound a m in in-transit b e c grid n size (d .by) (d .below) a (d .listed))
-            (λ a m. let d = transit-needed b e c grid n size a m in t (d .by) (d .below) .members a (d .listed)),
+      let t = seen-all cs (Told b e grid n w) n u l (g .seen) in (
+        members-transit b e grid n size transit w (λ a m. let d = g .sound a m in in-transit b e grid n size (d .by) (d .below) a (d .listed))
+            (λ a m. let d = transit-needed b e grid n size a m in t (d .by) (d .below) .members a (d .listed)),
         λ v h. t v h .counted,
       )

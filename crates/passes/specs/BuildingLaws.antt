@@ -21,7 +21,7 @@ use Rattle.bitset.specs.Members.{membersOf}
 use Rattle.arcs.specs.Arcs.{arcsIn}
 use Rattle.grid.specs.Stored.{gridOf}
 use Rattle.grid.specs.declared.Grid.{Grid}
-use Rattle.crossing.specs.Ground.{cellsIn, openIn, Ground}
+use Rattle.crossing.specs.Ground.{cellsIn, edgesIn, Ground}
 use Rattle.access.specs.Networks.{networkIn, count-order, count-cells}
 use Rattle.access.specs.Pairs.{crossing-two}
 use Rattle.words.specs.Regions.{region, own, transit}
@@ -45,14 +45,14 @@ map-upTo : {A : Type 0} (n : ℕ) (f g : ℕ → A) → ((i : ℕ) → i < n →
 map-upTo n f g h = map-range-same f g 0 n (λ i l. rw zero-add (h i l))
 
 -- Nodes of one cell have the same access nodes.
-pub same-access : (b e c : Bytes) (grid : Grid) (u v : ℕ) → cellAt (cellsIn grid b) u ≡ cellAt (cellsIn grid b) v
-    → accessOf b e c grid u ≡ accessOf b e c grid v
+pub same-access : (b e : Bytes) (grid : Grid) (u v : ℕ) → cellAt (cellsIn grid b) u ≡ cellAt (cellsIn grid b) v
+    → accessOf b e grid u ≡ accessOf b e grid v
 unfolding accessOf
-same-access b e c grid u v q = rw q
+same-access b e grid u v q = rw q
 
-module _ (b e c : Bytes) (grid : Grid) (n : ℕ) (size : n ≡ nodeCount b) where
+module _ (b e : Bytes) (grid : Grid) (n : ℕ) (size : n ≡ nodeCount b) where
   abbrev net : Network
-  net = networkIn b e c
+  net = networkIn b e
 
   abbrev cs : List Cell
   cs = cellsIn grid b
@@ -60,33 +60,33 @@ module _ (b e c : Bytes) (grid : Grid) (n : ℕ) (size : n ≡ nodeCount b) wher
   -- ---- the access nodes and the transit nodes
 
   -- An access node is a node.
-  pub access-below : (u v : ℕ) → List·Memᴰ v (accessOf b e c grid u) → v < n
+  pub access-below : (u v : ℕ) → List·Memᴰ v (accessOf b e grid u) → v < n
   unfolding accessOf accessNodes
   access-below u v m = omega (arith, count-cells b n size grid, range→ 0 (length cs) v (filter→ _ (upTo (length cs)) m .0))
 
   -- And there is another.
-  pub access-two : Ground b e c grid → (u v : ℕ) → List·Memᴰ v (accessOf b e c grid u) → 2 ≤ n
+  pub access-two : Ground b e grid → (u v : ℕ) → List·Memᴰ v (accessOf b e grid u) → 2 ≤ n
   unfolding accessOf accessNodes
   access-two ground u v m =
-      let inner = crossings cs (openIn e c) (gridOf grid .inner) (cellAt cs u) in
+      let inner = crossings cs (edgesIn e) (gridOf grid .inner) (cellAt cs u) in
       let i = member→ v inner (both {b = member v inner} (filter→ _ (upTo (length cs)) m .1) .0) in
-      omega (arith, size, crossing-two (nodeCount b) e c (ground .edges-rule) cs (gridOf grid .inner) (cellAt cs u) i)
+      omega (arith, size, crossing-two (nodeCount b) e (ground .edges-rule) cs (gridOf grid .inner) (cellAt cs u) i)
 
-  pub access-few : (u : ℕ) → length (accessOf b e c grid u) ≤ n
+  pub access-few : (u : ℕ) → length (accessOf b e grid u) ≤ n
   unfolding accessOf accessNodes
   access-few u =
-      let l : length (accessOf b e c grid u) ≤ length (upTo (length cs)) = length-filter _ (upTo (length cs)) in
+      let l : length (accessOf b e grid u) ≤ length (upTo (length cs)) = length-filter _ (upTo (length cs)) in
       omega (arith, length-range 0 (length cs), count-cells b n size grid)
 
-  pub transit-few : length (transitIn b e c grid) ≤ n
+  pub transit-few : length (transitIn b e grid) ≤ n
   unfolding transitIn transitNodes
   transit-few = omega (arith, size, length-filter (λ a. any (member a) (accessLists net (gridOf grid))) (upTo (nodeCount b)), length-range 0 (nodeCount b))
 
-  pub transit-below : (v : ℕ) → List·Memᴰ v (transitIn b e c grid) → v < n
+  pub transit-below : (v : ℕ) → List·Memᴰ v (transitIn b e grid) → v < n
   unfolding transitIn transitNodes
   transit-below v m = omega (arith, size, range→ 0 (nodeCount b) v (filter→ _ (upTo (nodeCount b)) m .0))
 
-  list-of : (u : ℕ) → u < n → getD (accessLists net (gridOf grid)) u [] ≡ accessOf b e c grid u
+  list-of : (u : ℕ) → u < n → getD (accessLists net (gridOf grid)) u [] ≡ accessOf b e grid u
   unfolding accessLists cellAt accessOf
   list-of u h = getD-map-in (accessNodes (distance net) (gridOf grid) cs (net .edges)) cs u (record { column = 0; row = 0 }) []
       (rw (count-cells b n size grid) h)
@@ -96,53 +96,53 @@ module _ (b e c : Bytes) (grid : Grid) (n : ℕ) (size : n ≡ nodeCount b) wher
   count-lists = length-map cs (accessNodes (distance net) (gridOf grid) cs (net .edges)) ∙ count-cells b n size grid
 
   -- An access node is a transit node.
-  pub in-transit : (u : ℕ) → u < n → (v : ℕ) → List·Memᴰ v (accessOf b e c grid u) → List·Memᴰ v (transitIn b e c grid)
+  pub in-transit : (u : ℕ) → u < n → (v : ℕ) → List·Memᴰ v (accessOf b e grid u) → List·Memᴰ v (transitIn b e grid)
   unfolding transitIn transitNodes
   in-transit u h v m =
       let ls = accessLists net (gridOf grid) in
       →filter (λ a. any (member a) ls) (upTo (nodeCount b)) (→upTo (nodeCount b) v (omega (arith, size, access-below u v m)))
-      (→any (member v) ls (getD-mem ls u [] (rw count-lists h)) (rw (list-of u h) (→member v (accessOf b e c grid u) m)))
+      (→any (member v) ls (getD-mem ls u [] (rw count-lists h)) (rw (list-of u h) (→member v (accessOf b e grid u) m)))
 
   -- ---- the distances from u as words, with the sets in the regions
 
-  pub distance-words : (u : ℕ) → distanceWords (arcsIn e c) n u ≡ map (λ v. coded (distance net u v)) (upTo n)
+  pub distance-words : (u : ℕ) → distanceWords (arcsIn e) n u ≡ map (λ v. coded (distance net u v)) (upTo n)
   unfolding distanceWords distance arcs arcsIn
-  distance-words u = rw (count-order b n size e c)
+  distance-words u = rw (count-order b n size e)
 
   -- u has the access nodes of the cell of x.
-  pub list-words : (w : List ℕ) (u x : ℕ) → membersIn n transit w ≡ transitIn b e c grid → accessOf b e c grid x ≡ accessOf b e c grid u
-      → membersIn n own w ≡ accessOf b e c grid x
-      → listBytesOf (distanceWords (arcsIn e c) n u) (membersIn n transit w) (membersIn n own w) ≡ listIn b e c grid u
+  pub list-words : (w : List ℕ) (u x : ℕ) → membersIn n transit w ≡ transitIn b e grid → accessOf b e grid x ≡ accessOf b e grid u
+      → membersIn n own w ≡ accessOf b e grid x
+      → listBytesOf (distanceWords (arcsIn e) n u) (membersIn n transit w) (membersIn n own w) ≡ listIn b e grid u
   unfolding listIn
-  list-words w u x ts same os = rw (ts, os, same) (list-values (distance net) u n (distanceWords (arcsIn e c) n u) (transitIn b e c grid)
-      (accessOf b e c grid u) (distance-words u) (access-below u))
+  list-words w u x ts same os = rw (ts, os, same) (list-values (distance net) u n (distanceWords (arcsIn e) n u) (transitIn b e grid)
+      (accessOf b e grid u) (distance-words u) (access-below u))
 
   -- ---- the sets in the regions
 
   -- Each access node stands among the transit nodes.
-  pub among : (w : List ℕ) (u : ℕ) → u < n → membersIn n transit w ≡ transitIn b e c grid → membersIn n own w ≡ accessOf b e c grid u
+  pub among : (w : List ℕ) (u : ℕ) → u < n → membersIn n transit w ≡ transitIn b e grid → membersIn n own w ≡ accessOf b e grid u
       → Among n (region n own w) (region n transit w)
   unfolding membersOf
   among w u h ts os v l f =
-      let m : List·Memᴰ v (accessOf b e c grid u) = subst (List·Memᴰ v) os (→filter (isIn (region n own w)) (upTo n) (→upTo n v l) f) in
+      let m : List·Memᴰ v (accessOf b e grid u) = subst (List·Memᴰ v) os (→filter (isIn (region n own w)) (upTo n) (→upTo n v l) f) in
       filter→ (isIn (region n transit w)) (upTo n) (subst (List·Memᴰ v) (sym ts) (in-transit u h v m)) .1
 
   -- ---- the bodies
 
-  pub access-body : accessBytes (distance net) (transitIn b e c grid) (accessLists net (gridOf grid)) ≡ whole n (listIn b e c grid)
+  pub access-body : accessBytes (distance net) (transitIn b e grid) (accessLists net (gridOf grid)) ≡ whole n (listIn b e grid)
   unfolding accessBytes
   access-body =
       rw count-lists
       (ap (λ (ls : List Bytes). starts (startSize * n) ls ++ concat ls)
-      (map-upTo n (λ u. listBytes (distance net) (transitIn b e c grid) u (getD (accessLists net (gridOf grid)) u [])) (listIn b e c grid)
-      (λ u h. unfold listIn in ap (listBytes (distance net) (transitIn b e c grid) u) (list-of u h))))
+      (map-upTo n (λ u. listBytes (distance net) (transitIn b e grid) u (getD (accessLists net (gridOf grid)) u [])) (listIn b e grid)
+      (λ u h. unfold listIn in ap (listBytes (distance net) (transitIn b e grid) u) (list-of u h))))
 
   -- Rows of the times from each transit node, the columns being the transit nodes.
-  pub table-words : (l : List ℕ) → l ≡ transitIn b e c grid → concatMap (λ u. rowBytes (distanceWords (arcsIn e c) n u) l) l ≡ tableBytes (distance net)
-      (transitIn b e c grid)
+  pub table-words : (l : List ℕ) → l ≡ transitIn b e grid → concatMap (λ u. rowBytes (distanceWords (arcsIn e) n u) l) l ≡ tableBytes (distance net)
+      (transitIn b e grid)
   unfolding tableBytes
   table-words l q =
-      let t = transitIn b e c grid in
-      let row : (u : ℕ) → rowBytes (distanceWords (arcsIn e c) n u) t ≡ concatMap (λ v. valueBytes (distance net u v)) t =
-      λ u. row-values (distance net u) n (distanceWords (arcsIn e c) n u) (distance-words u) t transit-below in
+      let t = transitIn b e grid in
+      let row : (u : ℕ) → rowBytes (distanceWords (arcsIn e) n u) t ≡ concatMap (λ v. valueBytes (distance net u v)) t =
+      λ u. row-values (distance net u) n (distanceWords (arcsIn e) n u) (distance-words u) t transit-below in
       rw q (λ i. concatMap (λ u. row u i) t)

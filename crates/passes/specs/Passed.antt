@@ -10,17 +10,17 @@ use Rattle.words.specs.Regions.{regionAt, transit, counts}
 use Rattle.passes.specs.Building.{accessOf, membersIn}
 use Rattle.passes.specs.Covered.{Seen}
 
-module _ (b e c : Bytes) (grid : Grid) (n : ℕ) where
+module _ (b e : Bytes) (grid : Grid) (n : ℕ) where
   -- a is an access node of the cell of some node.
   pub record Needed (a : ℕ) : Type 0 where
     pub by : ℕ
     pub below : by < n
-    pub listed : List·Memᴰ a (accessOf b e c grid by)
+    pub listed : List·Memᴰ a (accessOf b e grid by)
 
   -- v is seen to: its word is the number of its access nodes, and these are in region TRANSIT.
   pub record Told (w : List ℕ) (v : ℕ) : Type 0 where
-    pub counted : getD w (regionAt n counts + v) 0 ≡ length (accessOf b e c grid v)
-    pub members : (a : ℕ) → List·Memᴰ a (accessOf b e c grid v) → List·Memᴰ a (membersIn n transit w)
+    pub counted : getD w (regionAt n counts + v) 0 ≡ length (accessOf b e grid v)
+    pub members : (a : ℕ) → List·Memᴰ a (accessOf b e grid v) → List·Memᴰ a (membersIn n transit w)
 
   pub record CellsPassed (u : ℕ) (w : List ℕ) : Type 0 where
     pub sound : (a : ℕ) → List·Memᴰ a (membersIn n transit w) → Needed a

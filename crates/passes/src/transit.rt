@@ -64,22 +64,14 @@ fn put_counts(nodes: &[u8], grid: Grid, n: usize, u: usize, k: usize, work: &mut
 }
 
 // Sees to the nodes of the cell of u, if u is its first node.
-fn pass_cell(
-    nodes: &[u8],
-    edges: &[u8],
-    closed: &[u8],
-    grid: Grid,
-    n: usize,
-    u: usize,
-    work: &mut [u32],
-)
-    requires { ⌜ Ground (now nodes) (now edges) (now closed) grid × (n ≡ nodeCount (now nodes)) × (n ≤ maxNodes) × (u < n) × Enough n (now work) ⌝ }
-    requires { ⌜ CellsPassed (now nodes) (now edges) (now closed) grid n u (now work) × IndexedEdges (now edges) (now closed) n (now work) ⌝ }
-    ensures passed { λ _. ⌜ CellsPassed (now (nodes .entry)) (now (edges .entry)) (now (closed .entry)) grid n (u + 1) (now (work .exit)) ⌝ }
+fn pass_cell(nodes: &[u8], edges: &[u8], grid: Grid, n: usize, u: usize, work: &mut [u32])
+    requires { ⌜ Ground (now nodes) (now edges) grid × (n ≡ nodeCount (now nodes)) × (n ≤ maxNodes) × (u < n) × Enough n (now work) ⌝ }
+    requires { ⌜ CellsPassed (now nodes) (now edges) grid n u (now work) × IndexedEdges (now edges) n (now work) ⌝ }
+    ensures passed { λ _. ⌜ CellsPassed (now (nodes .entry)) (now (edges .entry)) grid n (u + 1) (now (work .exit)) ⌝ }
     ensures others { λ _. ⌜ KeptFrom (indexAt n) (now (work .entry)) (now (work .exit)) ⌝ }
 {
     if first_of_cell(nodes, grid, u) {
-        own_access(nodes, edges, closed, grid, n, u, work);
+        own_access(nodes, edges, grid, n, u, work);
         let k = count(work, n, OWN);
         unite(work, n, OWN, TRANSIT);
         put_counts(nodes, grid, n, u, k, work);
@@ -87,25 +79,18 @@ fn pass_cell(
 }
 
 // Makes region TRANSIT the set of the transit nodes, and word v of region COUNTS the number of access nodes of the cell of v. The words after the regions stay.
-pub fn mark_transit(
-    nodes: &[u8],
-    edges: &[u8],
-    closed: &[u8],
-    grid: Grid,
-    n: usize,
-    work: &mut [u32],
-)
-    requires { ⌜ Ground (now nodes) (now edges) (now closed) grid × (n ≡ nodeCount (now nodes)) × (n ≤ maxNodes) × Enough n (now work) × (1 ≤ n) ⌝ }
-    requires { ⌜ IndexedEdges (now edges) (now closed) n (now work) ⌝ }
-    ensures members { λ _. ⌜ membersIn n transit (now (work .exit)) ≡ transitIn (now (nodes .entry)) (now (edges .entry)) (now (closed .entry)) grid ⌝ }
+pub fn mark_transit(nodes: &[u8], edges: &[u8], grid: Grid, n: usize, work: &mut [u32])
+    requires { ⌜ Ground (now nodes) (now edges) grid × (n ≡ nodeCount (now nodes)) × (n ≤ maxNodes) × Enough n (now work) × (1 ≤ n) ⌝ }
+    requires { ⌜ IndexedEdges (now edges) n (now work) ⌝ }
+    ensures members { λ _. ⌜ membersIn n transit (now (work .exit)) ≡ transitIn (now (nodes .entry)) (now (edges .entry)) grid ⌝ }
     ensures counted { λ _. ⌜ ((v : ℕ) → v < n → getD (now (work .exit)) (regionAt n counts + v) 0 ≡ length
-        (accessOf (now (nodes .entry)) (now (edges .entry)) (now (closed .entry)) grid v)) ⌝ }
+        (accessOf (now (nodes .entry)) (now (edges .entry)) grid v)) ⌝ }
     ensures others { λ _. ⌜ KeptFrom (indexAt n) (now (work .entry)) (now (work .exit)) ⌝ }
 {
     clear(work, n, TRANSIT);
     let mut u = 0;
     while u < n {
-        pass_cell(nodes, edges, closed, grid, n, u, work);
+        pass_cell(nodes, edges, grid, n, u, work);
         u += 1;
     }
 }

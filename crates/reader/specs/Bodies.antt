@@ -6,7 +6,7 @@ use Rattle.model.specs.Bytes.{Bytes}
 use Rattle.model.specs.Contents.{contentsBroken, bodiesBroken, nodeBody, edgeBody, closedBody, gridBody, transitBody, accessBody, tableBody}
 use Rattle.model.specs.Network.{nodeCount, edgeCount, nodesBroken, coordinatesBroken, edgesBroken, someEdgeBroken, numbersBroken}
 use Rattle.model.specs.Oracle.{transitCount, gridBodyBroken, accessBroken, tableBroken}
-use Rattle.model.specs.Rules.{Rule, rule, networkRules, shapeRules}
+use Rattle.model.specs.Rules.{Rule, rule, networkRules, plainRules, shapeRules}
 use Rattle.model.specs.Contents.{oracleEdition, oracleEntries}
 
 -- Rules 3 to 7, over bodies 1 to 3.
@@ -26,14 +26,14 @@ oracleBodyRules n grid transit access table =
     rule 10 (accessBroken n (transitCount transit) access) ∷
     rule 11 (tableBroken (transitCount transit) table) ∷ []
 
--- These are the rules of a file past 1 and 2, and of an oracle past 7.
+-- These are the rules of a file past 1 and 2, and of an oracle past 21.
 pub network-rules : (edition entries : ℕ) (f : Bytes)
     → networkRules edition entries f ≡ rule 1 (contentsBroken edition entries f) ∷
     (rule 2 (bodiesBroken entries f) ∷ networkBodyRules (nodeBody f) (edgeBody f) (closedBody f))
 unfolding networkRules
 network-rules edition entries f = refl
 
-pub shape-rules : (o : Bytes) → shapeRules o ≡ networkRules oracleEdition oracleEntries o ++ oracleBodyRules (nodeCount (nodeBody o)) (gridBody o)
+pub shape-rules : (o : Bytes) → shapeRules o ≡ plainRules oracleEdition oracleEntries o ++ oracleBodyRules (nodeCount (nodeBody o)) (gridBody o)
     (transitBody o) (accessBody o) (tableBody o)
 unfolding shapeRules
 shape-rules o = refl

@@ -2,7 +2,7 @@
 ghost use mathlib.Core.Path.{_≡_};
 ghost use Prim.Native.Nat.{_≤_};
 ghost use Rattle.model.specs.Contents.{networkEntries, oracleEdition, oracleEntries};
-ghost use Rattle.model.specs.Rules.{firstBroken, networkRules, acceptRules, shapeRules};
+ghost use Rattle.model.specs.Rules.{firstBroken, networkRules, plainRules, acceptRules, shapeRules};
 use crate::bodies::network_bodies;
 use crate::bodies::oracle_bodies;
 use crate::oracle::ACCESS;
@@ -17,13 +17,14 @@ use contents::NETWORK_EDITION;
 use contents::NETWORK_ENTRIES;
 use contents::ORACLE_EDITION;
 use contents::ORACLE_ENTRIES;
+use contents::body_of;
 use contents::contents_broken;
 use contents::read;
 use model::Division;
 use rules::grid::grid_broken;
 
 // Rules 1 to 7, of a network or an oracle.
-fn network_refusal(edition: u32, entries: usize, f: &[u8]) -> u32
+pub fn network_refusal(edition: u32, entries: usize, f: &[u8]) -> u32
     requires { ⌜ (networkEntries ≤ entries) × (entries ≤ oracleEntries) ⌝ }
     ensures { λ r. ⌜ r ≡ firstBroken (networkRules edition entries (now (f .entry))) ⌝ }
 {
@@ -37,11 +38,26 @@ fn network_refusal(edition: u32, entries: usize, f: &[u8]) -> u32
     network_bodies(c.body(f, NODES), c.body(f, EDGES), c.body(f, CLOSED))
 }
 
+// The same with 21, which every call but the converter checks.
+fn plain_refusal(edition: u32, entries: usize, f: &[u8]) -> u32
+    requires { ⌜ (networkEntries ≤ entries) × (entries ≤ oracleEntries) ⌝ }
+    ensures { λ r. ⌜ r ≡ firstBroken (plainRules edition entries (now (f .entry))) ⌝ }
+{
+    let r = network_refusal(edition, entries, f);
+    if r != 0 {
+        return r;
+    }
+    if body_of(entries, f, CLOSED).len() != 0 {
+        return 21;
+    }
+    0
+}
+
 // The rules that building checks before 14.
 pub fn accept_refusal(f: &[u8], dv: Division) -> u32
     ensures { λ r. ⌜ r ≡ firstBroken (acceptRules (now (f .entry)) dv) ⌝ }
 {
-    let r = network_refusal(NETWORK_EDITION, NETWORK_ENTRIES, f);
+    let r = plain_refusal(NETWORK_EDITION, NETWORK_ENTRIES, f);
     if r != 0 {
         return r;
     }
@@ -51,9 +67,9 @@ pub fn accept_refusal(f: &[u8], dv: Division) -> u32
     0
 }
 
-// Rules 8 to 11 of an oracle that keeps 1 to 7.
+// Rules 8 to 11 of an oracle that keeps 1 to 7 and 21.
 fn oracle_refusal(o: &[u8]) -> u32
-    requires { ⌜ firstBroken (networkRules oracleEdition oracleEntries (now o)) ≡ 0 ⌝ }
+    requires { ⌜ firstBroken (plainRules oracleEdition oracleEntries (now o)) ≡ 0 ⌝ }
     ensures { λ r. ⌜ r ≡ firstBroken (shapeRules (now (o .entry))) ⌝ }
 {
     let c = read(ORACLE_ENTRIES, o);
@@ -71,7 +87,7 @@ fn oracle_refusal(o: &[u8]) -> u32
 pub fn shape_refusal(o: &[u8]) -> u32
     ensures { λ r. ⌜ r ≡ firstBroken (shapeRules (now (o .entry))) ⌝ }
 {
-    let r = network_refusal(ORACLE_EDITION, ORACLE_ENTRIES, o);
+    let r = plain_refusal(ORACLE_EDITION, ORACLE_ENTRIES, o);
     if r != 0 {
         return r;
     }

@@ -1,4 +1,4 @@
-// The bodies of an oracle that keeps rules 1 to 11.
+// The bodies of an oracle that keeps rules 1 to 11 and 21.
 ghost use mathlib.Core.Path.{_≡_};
 ghost use mathlib.Core.Bool.{true};
 ghost use Prim.Native.Nat.{_<_};

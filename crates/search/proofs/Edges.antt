@@ -57,17 +57,17 @@ module _ (n e u d : ℕ) (w : List ℕ) (k : ℕ) (g : Holds n k e (frontIn n w)
       rw (z, front-is w ys (searchWords n) long same) (record { holds = t .holds; times = t .times; order = t .order; settled = t .settled })
 
 -- ---- from w₀ to w, with k nodes held: what is left of the edges passed is relaxed
-pub record RelaxedEdges (b closed lines : Bytes) (n e u d : ℕ) (w₀ : List ℕ) (c : Cursor) (w : List ℕ) (k : ℕ) : Type 0 where
+pub record RelaxedEdges (b lines : Bytes) (n e u d : ℕ) (w₀ : List ℕ) (c : Cursor) (w : List ℕ) (k : ℕ) : Type 0 where
   pub over : List ℕ
-  pub passing : PassedEdges b closed n w u over c
+  pub passing : PassedEdges b n w u over c
   pub relaxed : Relaxed n e (relax-all d (arcsOver b lines u over) (timesIn n (frontIn n w₀))) (frontIn n w₀) (frontIn n w) k
   pub within : SettledWithin n d (frontIn n w)
-  pub edges : EdgesUnder b closed lines n w
+  pub edges : EdgesUnder b lines n w
   pub others : KeptFrom (searchWords n) w₀ w
 
-module _ (b closed lines : Bytes) (n e u d : ℕ) (w₀ : List ℕ) where
-  pub edges-first : (k : ℕ) (c : Cursor) → Holds n k e (frontIn n w₀) → SettledWithin n d (frontIn n w₀) → EdgesUnder b closed lines n w₀
-      → PassedEdges b closed n w₀ u [] c → RelaxedEdges b closed lines n e u d w₀ c w₀ k
+module _ (b lines : Bytes) (n e u d : ℕ) (w₀ : List ℕ) where
+  pub edges-first : (k : ℕ) (c : Cursor) → Holds n k e (frontIn n w₀) → SettledWithin n d (frontIn n w₀) → EdgesUnder b lines n w₀
+      → PassedEdges b n w₀ u [] c → RelaxedEdges b lines n e u d w₀ c w₀ k
   unfolding relax-all arcsOver concatMap
   edges-first k c h s r p = record {
     over = [];
@@ -79,15 +79,15 @@ module _ (b closed lines : Bytes) (n e u d : ℕ) (w₀ : List ℕ) where
   }
 
   -- An edge is relaxed, and the words become w′.
-  module _ (c : Cursor) (k : ℕ) (w w′ : List ℕ) (g : RelaxedEdges b closed lines n e u d w₀ c w k) (kept : KeptFrom (searchWords n) w w′) where
-    pub turn-edges : EdgesUnder b closed lines n w′
-    turn-edges = edges-kept b closed lines n w w′ kept (g .edges)
+  module _ (c : Cursor) (k : ℕ) (w w′ : List ℕ) (g : RelaxedEdges b lines n e u d w₀ c w k) (kept : KeptFrom (searchWords n) w w′) where
+    pub turn-edges : EdgesUnder b lines n w′
+    turn-edges = edges-kept b lines n w w′ kept (g .edges)
 
-    pub turn-passing : PassedEdges b closed n w′ u (g .over) c
-    turn-passing = passing-kept b closed n w w′ (kept-more (searchWords n) (indexAt n) w w′ (omega arith) kept) u c (g .over) (g .passing)
+    pub turn-passing : PassedEdges b n w′ u (g .over) c
+    turn-passing = passing-kept b n w w′ (kept-more (searchWords n) (indexAt n) w w′ (omega arith) kept) u c (g .over) (g .passing)
 
     pub edges-next : (r : ℕ) → Relaxed n e (relax-all d (leaving u (arcsLeft b lines (c .edge))) (timesIn n (frontIn n w))) (frontIn n w) (frontIn n w′) r
-        → (c′ : Cursor) → Stepped b closed n w′ u c c′ → RelaxedEdges b closed lines n e u d w₀ c′ w′ r
+        → (c′ : Cursor) → Stepped b n w′ u c c′ → RelaxedEdges b lines n e u d w₀ c′ w′ r
     edges-next r t c′ s =
         let j = c .edge in
         let new = leaving u (arcsLeft b lines j) in
@@ -110,10 +110,10 @@ module _ (b closed lines : Bytes) (n e u d : ℕ) (w₀ : List ℕ) where
         }
 
   -- All are passed.
-  pub edges-last : (k : ℕ) (w : List ℕ) (c : Cursor) → edgeCount b ≤ c .edge → RelaxedEdges b closed lines n e u d w₀ c w k
-      → Relaxed n e (relax-all d (leaving u (arcsUnder b closed lines)) (timesIn n (frontIn n w₀))) (frontIn n w₀) (frontIn n w) k
+  pub edges-last : (k : ℕ) (w : List ℕ) (c : Cursor) → edgeCount b ≤ c .edge → RelaxedEdges b lines n e u d w₀ c w k
+      → Relaxed n e (relax-all d (leaving u (arcsUnder b lines)) (timesIn n (frontIn n w₀))) (frontIn n w₀) (frontIn n w) k
   edges-last k w c h g =
-      let all = passing-all b closed u (g .over) n w c h (g .passing) in
-      let same = relax-all-same d (arcsOver b lines u (g .over)) (leaving u (arcsUnder b closed lines)) (timesIn n (frontIn n w₀))
-      (λ x. (arcs-same→ b closed u (g .over) lines all x, →arcs-same b closed u (g .over) lines all x)) in
+      let all = passing-all b u (g .over) n w c h (g .passing) in
+      let same = relax-all-same d (arcsOver b lines u (g .over)) (leaving u (arcsUnder b lines)) (timesIn n (frontIn n w₀))
+      (λ x. (arcs-same→ b u (g .over) lines all x, →arcs-same b u (g .over) lines all x)) in
       subst (λ (t : List ℕ). Relaxed n e t (frontIn n w₀) (frontIn n w) k) same (g .relaxed)

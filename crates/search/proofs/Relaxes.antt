@@ -29,18 +29,18 @@ pub time-read : (n u : ℕ) (w : List ℕ) → u < n → (d : ℕ) → d ≡ tim
 time-read n u w i d e = ap (λ (l : List ℕ). at l u) (take-take n (searchWords n) w (omega arith)) ∙ (time-at n w u i ∙ sym e)
 
 -- From w₀ to w, with k nodes held: the arcs that the walk has passed are relaxed.
-pub record RelaxedArcs (b closed lines : Bytes) (n e u d : ℕ) (w₀ : List ℕ) (a : ArcAt) (w : List ℕ) (k : ℕ) : Type 0 where
+pub record RelaxedArcs (b lines : Bytes) (n e u d : ℕ) (w₀ : List ℕ) (a : ArcAt) (w : List ℕ) (k : ℕ) : Type 0 where
   pub done : List Arc
-  pub passes : PassedArcs b closed lines n w u done a
+  pub passes : PassedArcs b lines n w u done a
   pub relaxed : Relaxed n e (relax-all d done (timesIn n (frontIn n w₀))) (frontIn n w₀) (frontIn n w) k
   pub within : SettledWithin n d (frontIn n w)
-  pub edges : EdgesUnder b closed lines n w
+  pub edges : EdgesUnder b lines n w
   pub others : KeptFrom (searchWords n) w₀ w
 
-module _ (b closed lines : Bytes) (n e u d : ℕ) (w₀ : List ℕ) where
-  pub passed-first : (k : ℕ) (a : ArcAt) → Holds n k e (frontIn n w₀) → SettledWithin n d (frontIn n w₀) → EdgesUnder b closed lines n w₀
-      → PassedArcs b closed lines n w₀ u [] a
-      → RelaxedArcs b closed lines n e u d w₀ a w₀ k
+module _ (b lines : Bytes) (n e u d : ℕ) (w₀ : List ℕ) where
+  pub passed-first : (k : ℕ) (a : ArcAt) → Holds n k e (frontIn n w₀) → SettledWithin n d (frontIn n w₀) → EdgesUnder b lines n w₀
+      → PassedArcs b lines n w₀ u [] a
+      → RelaxedArcs b lines n e u d w₀ a w₀ k
   unfolding relax-all
   passed-first k a h s r p = record {
     done = [];
@@ -52,7 +52,7 @@ module _ (b closed lines : Bytes) (n e u d : ℕ) (w₀ : List ℕ) where
   }
 
   -- An arc is relaxed: ys come back for the first 3 n words of w.
-  module _ (a : ArcAt) (k : ℕ) (w ys : List ℕ) (g : RelaxedArcs b closed lines n e u d w₀ a w k) (long : searchWords n ≤ length w)
+  module _ (a : ArcAt) (k : ℕ) (w ys : List ℕ) (g : RelaxedArcs b lines n e u d w₀ a w k) (long : searchWords n ≤ length w)
       (same : length ys ≡ length (take (searchWords n) w)) where
     abbrev whole : List ℕ
     whole = ys ++ drop (searchWords n) w
@@ -60,11 +60,11 @@ module _ (b closed lines : Bytes) (n e u d : ℕ) (w₀ : List ℕ) where
     kept : KeptFrom (searchWords n) w whole
     kept = front-others w ys (searchWords n) long same
 
-    pub turn-passes : PassedArcs b closed lines n whole u (g .done) a
-    turn-passes = passes-kept b closed lines n w whole kept u a (g .done) (g .passes)
+    pub turn-passes : PassedArcs b lines n whole u (g .done) a
+    turn-passes = passes-kept b lines n w whole kept u a (g .done) (g .passes)
 
-    pub turn-edges : EdgesUnder b closed lines n whole
-    turn-edges = edges-kept b closed lines n w whole kept (g .edges)
+    pub turn-edges : EdgesUnder b lines n whole
+    turn-edges = edges-kept b lines n w whole kept (g .edges)
 
     module _ (r : ℕ) (t : Relaxed n e (lowered (timesIn n (frontIn n w)) (a .to) (d + a .cost)) (frontIn n w) ys r) where
       one : timesIn n ys ≡ relax-all d (arcHere u a ∷ []) (timesIn n (frontIn n w))
@@ -74,7 +74,7 @@ module _ (b closed lines : Bytes) (n e u d : ℕ) (w₀ : List ℕ) where
       more : timesIn n ys ≡ relax-all d (g .done ++ arcHere u a ∷ []) (timesIn n (frontIn n w₀))
       more = one ∙ ap (relax-all d (arcHere u a ∷ [])) (g .relaxed .times) ∙ sym (relax-append d (g .done) (arcHere u a ∷ []) (timesIn n (frontIn n w₀)))
 
-      pub passed-next : (a′ : ArcAt) → SteppedArc b closed lines n whole u a a′ → RelaxedArcs b closed lines n e u d w₀ a′ whole r
+      pub passed-next : (a′ : ArcAt) → SteppedArc b lines n whole u a a′ → RelaxedArcs b lines n e u d w₀ a′ whole r
       passed-next a′ s = record {
         done = g .done ++ arcHere u a ∷ [];
         passes = s .passes (g .done) turn-passes;
@@ -98,8 +98,8 @@ module _ (b closed lines : Bytes) (n e u d : ℕ) (w₀ : List ℕ) where
       }
 
   -- All are passed.
-  pub passed-last : (k : ℕ) (w : List ℕ) (a : ArcAt) → n ≤ a .to → RelaxedArcs b closed lines n e u d w₀ a w k
-      → Relaxed n e (relax-all d (leaving u (arcsUnder b closed lines)) (timesIn n (frontIn n w₀))) (frontIn n w₀) (frontIn n w) k
+  pub passed-last : (k : ℕ) (w : List ℕ) (a : ArcAt) → n ≤ a .to → RelaxedArcs b lines n e u d w₀ a w k
+      → Relaxed n e (relax-all d (leaving u (arcsUnder b lines)) (timesIn n (frontIn n w₀))) (frontIn n w₀) (frontIn n w) k
   passed-last k w a h g =
       relaxed-as n e _ _ (frontIn n w₀) (frontIn n w) k (g .relaxed)
-      (relax-all-same d (g .done) (leaving u (arcsUnder b closed lines)) (timesIn n (frontIn n w₀)) (g .passes .all h))
+      (relax-all-same d (g .done) (leaving u (arcsUnder b lines)) (timesIn n (frontIn n w₀)) (g .passes .all h))

@@ -16,24 +16,17 @@ use crate::rounds::round;
 // Searches from s over the edges as the lines of a sheet leave them, among two nodes or more: one alone has no edge, and nothing is searched there. In the
 // first 3 n words then stand the times of all n nodes, and from position e of the order on the nodes that are reached, each once and the farthest first. The
 // others stay. Left open: which of equally far nodes stands first, and what the other words of the 3 n are.
-pub fn search_front_under(
-    edges: &[u8],
-    closed: &[u8],
-    lines: &[u8],
-    n: usize,
-    s: usize,
-    work: &mut [u32],
-) -> usize
+pub fn search_front_under(edges: &[u8], lines: &[u8], n: usize, s: usize, work: &mut [u32]) -> usize
     requires { ⌜ (n ≤ maxNodes) × (s < n) × Enough n (now work) × (2 ≤ n) ⌝ }
-    requires { ⌜ EdgesUnder (now edges) (now closed) (now lines) n (now work) ⌝ }
-    ensures found { λ e. ⌜ Found (arcsUnder (now (edges .entry)) (now (closed .entry)) (now (lines .entry))) n s (timesIn n (now (work .exit)))
+    requires { ⌜ EdgesUnder (now edges) (now lines) n (now work) ⌝ }
+    ensures found { λ e. ⌜ Found (arcsUnder (now (edges .entry)) (now (lines .entry))) n s (timesIn n (now (work .exit)))
         (orderIn n e (now (work .exit))) × (e ≤ n) × Distinct (orderIn n e (now (work .exit))) ⌝ }
     ensures others { λ _. ⌜ KeptFrom (searchWords n) (now (work .entry)) (now (work .exit)) ⌝ }
 {
     let mut k = begin(work, n, s);
     let mut e = n;
     while 0 < k {
-        k = round(edges, closed, lines, n, k, e, work);
+        k = round(edges, lines, n, k, e, work);
         e -= 1;
     }
     finish(work, n, e);
@@ -41,12 +34,12 @@ pub fn search_front_under(
 }
 
 // The same over the edges as they are.
-pub fn search_front(edges: &[u8], closed: &[u8], n: usize, s: usize, work: &mut [u32]) -> usize
+pub fn search_front(edges: &[u8], n: usize, s: usize, work: &mut [u32]) -> usize
     requires { ⌜ (n ≤ maxNodes) × (s < n) × Enough n (now work) × (2 ≤ n) ⌝ }
-    requires { ⌜ IndexedEdges (now edges) (now closed) n (now work) ⌝ }
-    ensures found { λ e. ⌜ Found (arcsIn (now (edges .entry)) (now (closed .entry))) n s (timesIn n (now (work .exit))) (orderIn n e (now (work .exit)))
+    requires { ⌜ IndexedEdges (now edges) n (now work) ⌝ }
+    ensures found { λ e. ⌜ Found (arcsIn (now (edges .entry))) n s (timesIn n (now (work .exit))) (orderIn n e (now (work .exit)))
         × (e ≤ n) × Distinct (orderIn n e (now (work .exit))) ⌝ }
     ensures others { λ _. ⌜ KeptFrom (searchWords n) (now (work .entry)) (now (work .exit)) ⌝ }
 {
-    search_front_under(edges, closed, &edges[..0], n, s, work)
+    search_front_under(edges, &edges[..0], n, s, work)
 }

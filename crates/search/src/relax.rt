@@ -27,30 +27,22 @@ use words::regions::SEARCH;
 use words::times::time_of;
 
 // Relaxes the arcs out of u, than which no settled node is farther, in the first 3 n words. The number of nodes held.
-fn relax_plain(
-    edges: &[u8],
-    closed: &[u8],
-    work: &mut [u32],
-    n: usize,
-    k: usize,
-    e: usize,
-    u: usize,
-) -> usize
+fn relax_plain(edges: &[u8], work: &mut [u32], n: usize, k: usize, e: usize, u: usize) -> usize
     requires { ⌜ Holds n k e (frontIn n (now work)) × (u < n) × SettledWithin n (at (timesIn n (frontIn n (now work))) u) (frontIn n (now work)) ⌝ }
-    requires { ⌜ EdgesUnder (now edges) (now closed) [] n (now work) × Enough n (now work) ⌝ }
+    requires { ⌜ EdgesUnder (now edges) [] n (now work) × Enough n (now work) ⌝ }
     ensures relaxed { λ r. ⌜ Relaxed n e (relax-all (at (timesIn n (frontIn n (now (work .entry)))) u)
-        (leaving u (arcsUnder (now (edges .entry)) (now (closed .entry)) [])) (timesIn n (frontIn n (now (work .entry)))))
+        (leaving u (arcsUnder (now (edges .entry)) [])) (timesIn n (frontIn n (now (work .entry)))))
         (frontIn n (now (work .entry))) (frontIn n (now (work .exit))) r ⌝ }
     ensures others { λ _. ⌜ KeptFrom (searchWords n) (now (work .entry)) (now (work .exit)) ⌝ }
 {
     let d = time_of(work, n, u) as u64;
     let front = SEARCH * n;
     let mut held = k;
-    let c = first_edge(edges, closed, n, work, u);
+    let c = first_edge(edges, n, work, u);
     let mut a = arc_at(edges, n, u, c);
     while a.to < n {
         held = offer_in(&mut work[..front], n, held, e, a.to, d + a.cost);
-        a = next_arc(edges, closed, n, work, u, a);
+        a = next_arc(edges, n, work, u, a);
     }
     held
 }
@@ -87,7 +79,6 @@ fn offer_edge(
 // The same over the edges as the lines leave them.
 fn relax_under(
     edges: &[u8],
-    closed: &[u8],
     lines: &[u8],
     work: &mut [u32],
     n: usize,
@@ -96,19 +87,19 @@ fn relax_under(
     u: usize,
 ) -> usize
     requires { ⌜ Holds n k e (frontIn n (now work)) × (u < n) × SettledWithin n (at (timesIn n (frontIn n (now work))) u) (frontIn n (now work)) ⌝ }
-    requires { ⌜ EdgesUnder (now edges) (now closed) (now lines) n (now work) × Enough n (now work) ⌝ }
+    requires { ⌜ EdgesUnder (now edges) (now lines) n (now work) × Enough n (now work) ⌝ }
     ensures relaxed { λ r. ⌜ Relaxed n e (relax-all (at (timesIn n (frontIn n (now (work .entry)))) u)
-        (leaving u (arcsUnder (now (edges .entry)) (now (closed .entry)) (now (lines .entry)))) (timesIn n (frontIn n (now (work .entry)))))
+        (leaving u (arcsUnder (now (edges .entry)) (now (lines .entry)))) (timesIn n (frontIn n (now (work .entry)))))
         (frontIn n (now (work .entry))) (frontIn n (now (work .exit))) r ⌝ }
     ensures others { λ _. ⌜ KeptFrom (searchWords n) (now (work .entry)) (now (work .exit)) ⌝ }
 {
     let d = time_of(work, n, u) as u64;
     let m = edges.len() / EDGE_SIZE;
     let mut held = k;
-    let mut c = first_edge(edges, closed, n, work, u);
+    let mut c = first_edge(edges, n, work, u);
     while c.edge < m {
         held = offer_edge(edges, lines, work, n, held, e, u, d, c.edge);
-        c = next_edge(edges, closed, n, work, u, c);
+        c = next_edge(edges, n, work, u, c);
     }
     held
 }
@@ -116,7 +107,6 @@ fn relax_under(
 // With a sheet or without. The loops are two so that a search without a sheet, on which building rests, is not slowed.
 pub fn relax(
     edges: &[u8],
-    closed: &[u8],
     lines: &[u8],
     work: &mut [u32],
     n: usize,
@@ -125,14 +115,14 @@ pub fn relax(
     u: usize,
 ) -> usize
     requires { ⌜ Holds n k e (frontIn n (now work)) × (u < n) × SettledWithin n (at (timesIn n (frontIn n (now work))) u) (frontIn n (now work)) ⌝ }
-    requires { ⌜ EdgesUnder (now edges) (now closed) (now lines) n (now work) × Enough n (now work) ⌝ }
+    requires { ⌜ EdgesUnder (now edges) (now lines) n (now work) × Enough n (now work) ⌝ }
     ensures relaxed { λ r. ⌜ Relaxed n e (relax-all (at (timesIn n (frontIn n (now (work .entry)))) u)
-        (leaving u (arcsUnder (now (edges .entry)) (now (closed .entry)) (now (lines .entry)))) (timesIn n (frontIn n (now (work .entry)))))
+        (leaving u (arcsUnder (now (edges .entry)) (now (lines .entry)))) (timesIn n (frontIn n (now (work .entry)))))
         (frontIn n (now (work .entry))) (frontIn n (now (work .exit))) r ⌝ }
     ensures others { λ _. ⌜ KeptFrom (searchWords n) (now (work .entry)) (now (work .exit)) ⌝ }
 {
     if lines.len() == 0 {
-        return relax_plain(edges, closed, work, n, k, e, u);
+        return relax_plain(edges, work, n, k, e, u);
     }
-    relax_under(edges, closed, lines, work, n, k, e, u)
+    relax_under(edges, lines, work, n, k, e, u)
 }

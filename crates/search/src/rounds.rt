@@ -30,24 +30,16 @@ pub fn begin(work: &mut [u32], n: usize, s: usize) -> usize
 }
 
 // Settles a nearest of the k nodes held, and relaxes the arcs out of it. The number of nodes held then.
-pub fn round(
-    edges: &[u8],
-    closed: &[u8],
-    lines: &[u8],
-    n: usize,
-    k: usize,
-    e: usize,
-    work: &mut [u32],
-) -> usize
+pub fn round(edges: &[u8], lines: &[u8], n: usize, k: usize, e: usize, work: &mut [u32]) -> usize
     requires { ⌜ Holds n k e (frontIn n (now work)) × (0 < k) × SettledFirst n (frontIn n (now work)) ⌝ }
-    requires { ⌜ EdgesUnder (now edges) (now closed) (now lines) n (now work) × Enough n (now work) ⌝ }
-    ensures round { λ r. ⌜ Round (arcsUnder (now (edges .entry)) (now (closed .entry)) (now (lines .entry))) n e (frontIn n (now (work .entry)))
+    requires { ⌜ EdgesUnder (now edges) (now lines) n (now work) × Enough n (now work) ⌝ }
+    ensures round { λ r. ⌜ Round (arcsUnder (now (edges .entry)) (now (lines .entry))) n e (frontIn n (now (work .entry)))
         (frontIn n (now (work .exit))) r ⌝ }
     ensures others { λ _. ⌜ KeptFrom (searchWords n) (now (work .entry)) (now (work .exit)) ⌝ }
 {
     let m = SEARCH * n;
     let u = settle_nearest(&mut work[..m], n, k, e);
-    relax(edges, closed, lines, work, n, k - 1, e - 1, u)
+    relax(edges, lines, work, n, k - 1, e - 1, u)
 }
 
 // What a search leaves: the settled nodes alone, from position e on.

@@ -38,7 +38,6 @@ fn left_then(work: &[u32], n: usize, e: usize, left: usize) -> usize
 // stands first, and what the other words of the 3 n are.
 pub fn search_wanted_under(
     edges: &[u8],
-    closed: &[u8],
     lines: &[u8],
     n: usize,
     s: usize,
@@ -46,8 +45,8 @@ pub fn search_wanted_under(
     work: &mut [u32],
 ) -> usize
     requires { ⌜ (n ≤ maxNodes) × (s < n) × Enough n (now work) × (lacking (wantIn n (now work)) (replicate n 0) ≤ left) × (2 ≤ n) ⌝ }
-    requires { ⌜ EdgesUnder (now edges) (now closed) (now lines) n (now work) ⌝ }
-    ensures found { λ e. ⌜ Stopped (arcsUnder (now (edges .entry)) (now (closed .entry)) (now (lines .entry))) n s (wantIn n (now (work .entry)))
+    requires { ⌜ EdgesUnder (now edges) (now lines) n (now work) ⌝ }
+    ensures found { λ e. ⌜ Stopped (arcsUnder (now (edges .entry)) (now (lines .entry))) n s (wantIn n (now (work .entry)))
         (timesIn n (now (work .exit))) (orderIn n e (now (work .exit))) × (e ≤ n) ⌝ }
     ensures others { λ _. ⌜ KeptFrom (searchWords n) (now (work .entry)) (now (work .exit)) ⌝ }
 {
@@ -55,7 +54,7 @@ pub fn search_wanted_under(
     let mut e = n;
     let mut lacking = left;
     while 0 < k && 0 < lacking {
-        k = round(edges, closed, lines, n, k, e, work);
+        k = round(edges, lines, n, k, e, work);
         e -= 1;
         lacking = left_then(work, n, e, lacking);
     }
@@ -64,19 +63,12 @@ pub fn search_wanted_under(
 }
 
 // The same over the edges as they are.
-pub fn search_wanted(
-    edges: &[u8],
-    closed: &[u8],
-    n: usize,
-    s: usize,
-    left: usize,
-    work: &mut [u32],
-) -> usize
+pub fn search_wanted(edges: &[u8], n: usize, s: usize, left: usize, work: &mut [u32]) -> usize
     requires { ⌜ (n ≤ maxNodes) × (s < n) × Enough n (now work) × (lacking (wantIn n (now work)) (replicate n 0) ≤ left) × (2 ≤ n) ⌝ }
-    requires { ⌜ IndexedEdges (now edges) (now closed) n (now work) ⌝ }
-    ensures found { λ e. ⌜ Stopped (arcsIn (now (edges .entry)) (now (closed .entry))) n s (wantIn n (now (work .entry))) (timesIn n (now (work .exit)))
+    requires { ⌜ IndexedEdges (now edges) n (now work) ⌝ }
+    ensures found { λ e. ⌜ Stopped (arcsIn (now (edges .entry))) n s (wantIn n (now (work .entry))) (timesIn n (now (work .exit)))
         (orderIn n e (now (work .exit))) × (e ≤ n) ⌝ }
     ensures others { λ _. ⌜ KeptFrom (searchWords n) (now (work .entry)) (now (work .exit)) ⌝ }
 {
-    search_wanted_under(edges, closed, &edges[..0], n, s, left, work)
+    search_wanted_under(edges, &edges[..0], n, s, left, work)
 }

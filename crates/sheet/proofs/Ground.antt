@@ -3,14 +3,14 @@ use Prim.Native.Nat.{ℕ, _+_, _≤_, _<_}
 use native.Mathlib.Omega.{arith}
 use native.Mathlib.Nat.{add-zero}
 use mathlib.Core.Path.{_≡_, refl, sym, _∙_, ap}
-use mathlib.Core.Bool.{true, false}
+use mathlib.Core.Bool.{false}
 use mathlib.Core.List.{List, [], _∷_, map, List·Memᴰ, List·Memᴰ·head, List·Memᴰ·not-nil, List·Memᴰ·eq-of-singleton}
 use borrow.Author.Tests.{ltb-false, le-ltb}
-use Rattle.model.specs.Lists.{any, filter, concatMap, upTo}
-use Rattle.model.specs.Bytes.{Bytes, words16}
-use Rattle.model.specs.Network.{Edge, edge, edgeCount, isOpen, openEdges, arcsOf, maxSeconds, someEdgeBroken}
+use Rattle.model.specs.Lists.{any, concatMap, upTo}
+use Rattle.model.specs.Bytes.{Bytes}
+use Rattle.model.specs.Network.{Edge, edge, edges, edgeCount, arcsOf, maxSeconds, someEdgeBroken}
 use Rattle.theory.specs.Walks.{Within, Costs, Positive}
-use Rattle.theory.specs.Members.{→map, concatMap→, →concatMap, filter→, →filter, range→, →upTo, none-any}
+use Rattle.theory.specs.Members.{→map, concatMap→, →concatMap, range→, →upTo, none-any}
 use Rattle.theory.specs.Shape.{any-none}
 use Rattle.theory.specs.Sound as sound
 use Rattle.sheet.specs.Sheet.{Effect, Effect.shut, Effect.delayed, lineCount, linesIn, holds}
@@ -41,73 +41,64 @@ pub record Comes (es : List Edge) (e : Edge) : Type 0 where
   pub second : old .second ≡ e .second
   pub seconds : old .seconds ≤ e .seconds
 
-module _ (effect : ℕ → Effect) (b : Bytes) (closed : List ℕ) where
-  abbrev open-ones : List ℕ
-  open-ones = filter (isOpen closed) (upTo (edgeCount b))
-
-  is-open : {i : ℕ} → i < edgeCount b → isOpen closed i ≡ true → List·Memᴰ i open-ones
-  is-open {i} h o = →filter (isOpen closed) (upTo (edgeCount b)) (→upTo (edgeCount b) i h) o
-
-  pub under→ : {e : Edge} → List·Memᴰ e (edgesUnder effect b closed) → (i : ℕ) × (i < edgeCount b) × (isOpen closed i ≡ true) × List·Memᴰ e (leftOf effect b i)
+module _ (effect : ℕ → Effect) (b : Bytes) where
+  pub under→ : {e : Edge} → List·Memᴰ e (edgesUnder effect b) → (i : ℕ) × (i < edgeCount b) × List·Memᴰ e (leftOf effect b i)
   unfolding edgesUnder
-  under→ m =
-      let r = concatMap→ (leftOf effect b) open-ones m in
-      let f = filter→ (isOpen closed) (upTo (edgeCount b)) (r .1) in
-      (r .0, omega (arith, range→ 0 (edgeCount b) (r .0) (f .0)), f .1, r .2)
+  under→ m = let r = concatMap→ (leftOf effect b) (upTo (edgeCount b)) m in (r .0, omega (arith, range→ 0 (edgeCount b) (r .0) (r .1)), r .2)
 
-  pub →under : {e : Edge} {i : ℕ} → i < edgeCount b → isOpen closed i ≡ true → List·Memᴰ e (leftOf effect b i) → List·Memᴰ e (edgesUnder effect b closed)
+  pub →under : {e : Edge} {i : ℕ} → i < edgeCount b → List·Memᴰ e (leftOf effect b i) → List·Memᴰ e (edgesUnder effect b)
   unfolding edgesUnder
-  →under h o m = →concatMap (leftOf effect b) open-ones (is-open h o) m
+  →under {i = i} h m = →concatMap (leftOf effect b) (upTo (edgeCount b)) (→upTo (edgeCount b) i h) m
 
-  -- Each was open, with the same ends and no more seconds.
-  pub left-comes : {e : Edge} → List·Memᴰ e (edgesUnder effect b closed) → Comes (openEdges b closed) e
-  unfolding openEdges leftOf
+  -- Each was there, with the same ends and no more seconds.
+  pub left-comes : {e : Edge} → List·Memᴰ e (edgesUnder effect b) → Comes (edges b) e
+  unfolding edges leftOf
   left-comes m =
-      let (i, h, o, k) = under→ m in
+      let (i, h, k) = under→ m in
       let (n, p, q) = left→ (effect i) (edge b i) k in
       record {
         old = edge b i;
-        listed = →map (edge b) open-ones (is-open h o);
+        listed = →map (edge b) (upTo (edgeCount b)) (→upTo (edgeCount b) i h);
         first = sym (ap (λ (e : Edge). e .first) q);
         second = sym (ap (λ (e : Edge). e .second) q);
         seconds = omega (arith, ap (λ (e : Edge). e .seconds) q);
       }
 
 -- ---- rules 6 and 20
-module _ (b closed lines : Bytes) (n : ℕ) (ends : someEdgeBroken n b ≡ false) (slow : any tooSlow (leftUnder b closed lines) ≡ false) where
-  pub left-fine : (e : Edge) → List·Memᴰ e (leftUnder b closed lines) → sound.Fine n e
+module _ (b lines : Bytes) (n : ℕ) (ends : someEdgeBroken n b ≡ false) (slow : any tooSlow (leftUnder b lines) ≡ false) where
+  pub left-fine : (e : Edge) → List·Memᴰ e (leftUnder b lines) → sound.Fine n e
   unfolding leftUnder
   left-fine e m =
-      let c = left-comes (holds (linesIn lines)) b (words16 closed) m in
-      let r = sound.open-fine n b (words16 closed) ends (c .old) (c .listed) in
+      let c = left-comes (holds (linesIn lines)) b m in
+      let r = sound.each-fine n b ends (c .old) (c .listed) in
       record {
         first-in = omega (arith, r .first-in, c .first);
         second-in = omega (arith, r .second-in, c .second);
         apart = λ q. r .apart (c .first ∙ (q ∙ sym (c .second)));
-        at-most = ltb-false maxSeconds (e .seconds) (unfold tooSlow in none-any tooSlow (leftUnder b closed lines) slow m);
+        at-most = ltb-false maxSeconds (e .seconds) (unfold tooSlow in none-any tooSlow (leftUnder b lines) slow m);
         at-least = omega (arith, r .at-least, c .seconds);
       }
 
-  pub arcs-within : Within n (arcsUnder b closed lines)
+  pub arcs-within : Within n (arcsUnder b lines)
   unfolding arcsUnder
-  arcs-within = sound.arcs-within n (leftUnder b closed lines) left-fine
+  arcs-within = sound.arcs-within n (leftUnder b lines) left-fine
 
-  pub arcs-cost : Costs maxSeconds (arcsUnder b closed lines)
+  pub arcs-cost : Costs maxSeconds (arcsUnder b lines)
   unfolding arcsUnder
-  arcs-cost = sound.arcs-cost n (leftUnder b closed lines) left-fine
+  arcs-cost = sound.arcs-cost n (leftUnder b lines) left-fine
 
-  pub arcs-positive : Positive (arcsUnder b closed lines)
+  pub arcs-positive : Positive (arcsUnder b lines)
   unfolding arcsUnder
-  arcs-positive = sound.arcs-positive n (leftUnder b closed lines) left-fine
+  arcs-positive = sound.arcs-positive n (leftUnder b lines) left-fine
 
--- What rule 20 says of one open edge.
-module _ (b closed lines : Bytes) (slow : any tooSlow (leftUnder b closed lines) ≡ false) where
-  pub not-slow : (i : ℕ) → i < edgeCount b → isOpen (words16 closed) i ≡ true → (x : ℕ) → holds (linesIn lines) i ≡ delayed x
+-- What rule 20 says of one edge.
+module _ (b lines : Bytes) (slow : any tooSlow (leftUnder b lines) ≡ false) where
+  pub not-slow : (i : ℕ) → i < edgeCount b → (x : ℕ) → holds (linesIn lines) i ≡ delayed x
       → edge b i .seconds + x ≤ maxSeconds
   unfolding leftUnder leftOf tooSlow
-  not-slow i h o x p =
-      let m = →under (holds (linesIn lines)) b (words16 closed) h o (→left (edge b i) p refl) in
-      ltb-false maxSeconds (edge b i .seconds + x) (none-any tooSlow (edgesUnder (holds (linesIn lines)) b (words16 closed)) slow m)
+  not-slow i h x p =
+      let m = →under (holds (linesIn lines)) b h (→left (edge b i) p refl) in
+      ltb-false maxSeconds (edge b i .seconds + x) (none-any tooSlow (edgesUnder (holds (linesIn lines)) b) slow m)
 
 -- ---- effects that do nothing, and a sheet without lines
 left-zero : (e : Edge) → left (delayed 0) e ≡ e ∷ []
@@ -119,22 +110,22 @@ unfolding concatMap leftOf
 all-left effect h b [] = refl
 all-left effect h b (i ∷ is) = rw (h i, left-zero (edge b i), all-left effect h b is)
 
-pub as-were : (effect : ℕ → Effect) → ((i : ℕ) → effect i ≡ delayed 0) → (b : Bytes) (closed : List ℕ) → edgesUnder effect b closed ≡ openEdges b closed
-unfolding edgesUnder openEdges
-as-were effect h b closed = all-left effect h b (filter (isOpen closed) (upTo (edgeCount b)))
+pub as-were : (effect : ℕ → Effect) → ((i : ℕ) → effect i ≡ delayed 0) → (b : Bytes) → edgesUnder effect b ≡ edges b
+unfolding edgesUnder edges
+as-were effect h b = all-left effect h b (upTo (edgeCount b))
 
-edges-as-were : (b closed : Bytes) → leftUnder b closed [] ≡ openEdges b (words16 closed)
+edges-as-were : (b : Bytes) → leftUnder b [] ≡ edges b
 unfolding leftUnder lineCount
-edges-as-were b closed = as-were (holds (linesIn [])) (none-held [] refl) b (words16 closed)
+edges-as-were b = as-were (holds (linesIn [])) (none-held [] refl) b
 
-pub no-lines : (b closed : Bytes) → arcsUnder b closed [] ≡ concatMap arcsOf (openEdges b (words16 closed))
+pub no-lines : (b : Bytes) → arcsUnder b [] ≡ concatMap arcsOf (edges b)
 unfolding arcsUnder
-no-lines b closed = ap (concatMap arcsOf) (edges-as-were b closed)
+no-lines b = ap (concatMap arcsOf) (edges-as-were b)
 
 -- Rule 20 follows from rule 6 then.
-pub open-quick : (n : ℕ) (b : Bytes) (closed : List ℕ) → someEdgeBroken n b ≡ false → any tooSlow (openEdges b closed) ≡ false
+pub all-quick : (n : ℕ) (b : Bytes) → someEdgeBroken n b ≡ false → any tooSlow (edges b) ≡ false
 unfolding tooSlow
-open-quick n b closed h = any-none tooSlow (openEdges b closed) (λ e m. le-ltb maxSeconds (e .seconds) (sound.open-fine n b closed h e m .at-most))
+all-quick n b h = any-none tooSlow (edges b) (λ e m. le-ltb maxSeconds (e .seconds) (sound.each-fine n b h e m .at-most))
 
-pub plain-slow : (b closed : Bytes) (n : ℕ) → someEdgeBroken n b ≡ false → any tooSlow (leftUnder b closed []) ≡ false
-plain-slow b closed n h = rw (edges-as-were b closed) (open-quick n b (words16 closed) h)
+pub plain-slow : (b : Bytes) (n : ℕ) → someEdgeBroken n b ≡ false → any tooSlow (leftUnder b []) ≡ false
+plain-slow b n h = rw (edges-as-were b) (all-quick n b h)

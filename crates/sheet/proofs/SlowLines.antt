@@ -8,8 +8,8 @@ use mathlib.Core.List.{List, List·Memᴰ, List·Memᴰ·head, Memᴰ·append-ri
 use lib.Dec.{ltb}
 use borrow.Author.Tests.{ltb-true, leb-false, lt-ltb, le-ltb}
 use Rattle.model.specs.Lists.{any, upTo}
-use Rattle.model.specs.Bytes.{Bytes, words16}
-use Rattle.model.specs.Network.{Edge, edge, edgeCount, isOpen, maxSeconds, someEdgeBroken}
+use Rattle.model.specs.Bytes.{Bytes}
+use Rattle.model.specs.Network.{Edge, edge, edgeCount, maxSeconds, someEdgeBroken}
 use Rattle.theory.specs.Tests.{both, and, same-test}
 use Rattle.theory.specs.Members.{→map, →upTo, any→, →any, none-any}
 use Rattle.theory.specs.Sound as sound
@@ -35,44 +35,39 @@ unfolding effectIn overBy
 over-delayed x s e h p = rw (lt-ltb x 4294967296 h, p)
 
 -- ---- the ways out of the check of a line
-module _ (effect : ℕ → Effect) (b : Bytes) (closed : List ℕ) (l : Line) (i x : ℕ) (p : i ≡ l .edge) (q : effectIn x ≡ effectOf l) where
-  pub not-over : overBy (effectIn x) (edge b i) ≡ false → false ≡ lineSlow effect b closed l
+module _ (effect : ℕ → Effect) (b : Bytes) (l : Line) (i x : ℕ) (p : i ≡ l .edge) (q : effectIn x ≡ effectOf l) where
+  pub not-over : overBy (effectIn x) (edge b i) ≡ false → false ≡ lineSlow effect b l
   unfolding lineSlow
   not-over h = rw (← q, ← p, h)
 
-  pub not-open : overBy (effectIn x) (edge b i) ≡ true → isOpen closed i ≡ false → false ≡ lineSlow effect b closed l
+  pub by-held : (y : ℕ) → overBy (effectIn x) (edge b i) ≡ true → effectIn y ≡ effect i
+      → overBy (effectIn y) (edge b i) ≡ lineSlow effect b l
   unfolding lineSlow
-  not-open h o = rw (← q, ← p, h, o)
+  by-held y h e = rw (← q, ← p, h, e)
 
-  pub by-held : (y : ℕ) → overBy (effectIn x) (edge b i) ≡ true → isOpen closed i ≡ true → effectIn y ≡ effect i
-      → overBy (effectIn y) (edge b i) ≡ lineSlow effect b closed l
-  unfolding lineSlow
-  by-held y h o e = rw (← q, ← p, h, o, e)
-
--- ---- an open edge that what holds for it takes over the limit
-pub record SlowEdge (effect : ℕ → Effect) (b : Bytes) (closed : List ℕ) : Type 0 where
+-- ---- an edge that what holds for it takes over the limit
+pub record SlowEdge (effect : ℕ → Effect) (b : Bytes) : Type 0 where
   pub i : ℕ
   pub below : i < edgeCount b
-  pub unclosed : isOpen closed i ≡ true
   pub added : ℕ
   pub delays : effect i ≡ delayed added
   pub over : maxSeconds < edge b i .seconds + added
 
-module _ (effect : ℕ → Effect) (b : Bytes) (closed : List ℕ) where
-  pub slow→ : any tooSlow (edgesUnder effect b closed) ≡ true → SlowEdge effect b closed
+module _ (effect : ℕ → Effect) (b : Bytes) where
+  pub slow→ : any tooSlow (edgesUnder effect b) ≡ true → SlowEdge effect b
   unfolding tooSlow leftOf
   slow→ h =
-      let (e, m, s) = any→ tooSlow (edgesUnder effect b closed) h in
-      let (i, l, o, k) = under→ effect b closed m in
+      let (e, m, s) = any→ tooSlow (edgesUnder effect b) h in
+      let (i, l, k) = under→ effect b m in
       let (n, p, q) = left→ (effect i) (edge b i) k in
       let z : maxSeconds < e .seconds = ltb-true maxSeconds (e .seconds) s in
-      record { i = i; below = l; unclosed = o; added = n; delays = p; over = omega (arith, z, ap (λ (e : Edge). e .seconds) q) }
+      record { i = i; below = l; added = n; delays = p; over = omega (arith, z, ap (λ (e : Edge). e .seconds) q) }
 
-  pub →slow : SlowEdge effect b closed → any tooSlow (edgesUnder effect b closed) ≡ true
+  pub →slow : SlowEdge effect b → any tooSlow (edgesUnder effect b) ≡ true
   unfolding tooSlow leftOf
   →slow z =
-      let m = →under effect b closed (z .below) (z .unclosed) (→left (edge b (z .i)) (z .delays) refl) in
-      →any tooSlow (edgesUnder effect b closed) m (lt-ltb maxSeconds (edge b (z .i) .seconds + z .added) (z .over))
+      let m = →under effect b (z .below) (→left (edge b (z .i)) (z .delays) refl) in
+      →any tooSlow (edgesUnder effect b) m (lt-ltb maxSeconds (edge b (z .i) .seconds + z .added) (z .over))
 
 over→ : (x : Effect) (e : Edge) → overBy x e ≡ true → (n : ℕ) × (x ≡ delayed n) × (maxSeconds < e .seconds + n)
 unfolding overBy
@@ -88,8 +83,8 @@ added-in shut = 0
 added-in (delayed n) = n
 
 -- Its last line makes it so: no edge is over the limit by itself.
-pub slow-last : (b : Bytes) (closed : List ℕ) (ls : List Line) → Quick b → (z : SlowEdge (holds ls) b closed) → (l : Line) × Last ls (z .i) l
-slow-last b closed ls at-most z = step (which (z .i) ls)
+pub slow-last : (b : Bytes) (ls : List Line) → Quick b → (z : SlowEdge (holds ls) b) → (l : Line) × Last ls (z .i) l
+slow-last b ls at-most z = step (which (z .i) ls)
   where
     step : ((l : Line) × Last ls (z .i) l) ⊎ ((k : Line) → List·Memᴰ k ls → k .edge ≡ z .i → ⊥) → (l : Line) × Last ls (z .i) l
     step (inl r) = r
@@ -97,39 +92,38 @@ slow-last b closed ls at-most z = step (which (z .i) ls)
         let e : 0 ≡ z .added = unfold added-in in ap added-in (sym (none-holds h) ∙ z .delays) in
         absurd (omega (arith, z .over, at-most (z .i) (z .below)))
 
-module _ (b : Bytes) (closed : List ℕ) (ls : List Line) (at-most : Quick b) (named : any (namesNone (edgeCount b)) ls ≡ false) where
-  to : SlowEdge (holds ls) b closed → any (lineSlow (holds ls) b closed) ls ≡ true
+module _ (b : Bytes) (ls : List Line) (at-most : Quick b) (named : any (namesNone (edgeCount b)) ls ≡ false) where
+  to : SlowEdge (holds ls) b → any (lineSlow (holds ls) b) ls ≡ true
   unfolding lineSlow
   to z =
-      let (l, r) = slow-last b closed ls at-most z in
+      let (l, r) = slow-last b ls at-most z in
       let s : overBy (holds ls (z .i)) (edge b (z .i)) ≡ true = →over (edge b (z .i)) (z .delays) (z .over) in
       let m : List·Memᴰ l ls = subst (List·Memᴰ l) (sym (r .all)) (Memᴰ·append-right (r .before) (List·Memᴰ·head refl)) in
-      →any (lineSlow (holds ls) b closed) ls m
-      (subst (λ (i : ℕ). (overBy (effectOf l) (edge b i) && (isOpen closed i && overBy (holds ls i) (edge b i))) ≡ true) (sym (r .named))
-      (and (→over (edge b (z .i)) (sym (last-holds (left-open (z .delays)) r) ∙ z .delays) (z .over)) (and (z .unclosed) s)))
+      →any (lineSlow (holds ls) b) ls m
+      (subst (λ (i : ℕ). (overBy (effectOf l) (edge b i) && overBy (holds ls i) (edge b i)) ≡ true) (sym (r .named))
+      (and (→over (edge b (z .i)) (sym (last-holds (left-open (z .delays)) r) ∙ z .delays) (z .over)) s))
 
   line-named : {l : Line} → List·Memᴰ l ls → l .edge < edgeCount b
   unfolding namesNone
   line-named {l} m = leb-false (edgeCount b) (l .edge) (none-any (namesNone (edgeCount b)) ls named m)
 
-  back : any (lineSlow (holds ls) b closed) ls ≡ true → SlowEdge (holds ls) b closed
+  back : any (lineSlow (holds ls) b) ls ≡ true → SlowEdge (holds ls) b
   unfolding lineSlow
   back h =
-      let (l, m, s) = any→ (lineSlow (holds ls) b closed) ls h in
+      let (l, m, s) = any→ (lineSlow (holds ls) b) ls h in
       let t = both {b = overBy (effectOf l) (edge b (l .edge))} s in
-      let u = both {b = isOpen closed (l .edge)} (t .1) in
-      let (n, p, q) = over→ (holds ls (l .edge)) (edge b (l .edge)) (u .1) in
-      record { i = l .edge; below = line-named m; unclosed = u .0; added = n; delays = p; over = q }
+      let (n, p, q) = over→ (holds ls (l .edge)) (edge b (l .edge)) (t .1) in
+      record { i = l .edge; below = line-named m; added = n; delays = p; over = q }
 
-  slow-by-lines : any tooSlow (edgesUnder (holds ls) b closed) ≡ any (lineSlow (holds ls) b closed) ls
-  slow-by-lines = same-test (λ h. to (slow→ (holds ls) b closed h)) (λ h. →slow (holds ls) b closed (back h))
+  slow-by-lines : any tooSlow (edgesUnder (holds ls) b) ≡ any (lineSlow (holds ls) b) ls
+  slow-by-lines = same-test (λ h. to (slow→ (holds ls) b h)) (λ h. →slow (holds ls) b (back h))
 
 -- ---- over bodies
-module _ (b closed lines : Bytes) (at-most : Quick b) (named : any (namesNone (edgeCount b)) (linesIn lines) ≡ false) where
-  pub slow-lines : any tooSlow (leftUnder b closed lines) ≡ any (lineSlow (holds (linesIn lines)) b (words16 closed)) (linesIn lines)
+module _ (b lines : Bytes) (at-most : Quick b) (named : any (namesNone (edgeCount b)) (linesIn lines) ≡ false) where
+  pub slow-lines : any tooSlow (leftUnder b lines) ≡ any (lineSlow (holds (linesIn lines)) b) (linesIn lines)
   unfolding leftUnder
-  slow-lines = slow-by-lines b (words16 closed) (linesIn lines) at-most named
+  slow-lines = slow-by-lines b (linesIn lines) at-most named
 
   pub names-edge : (k : ℕ) → k < lineCount lines → line lines k .edge < edgeCount b
   unfolding linesIn
-  names-edge k h = line-named b (words16 closed) (linesIn lines) at-most named (→map (line lines) (upTo (lineCount lines)) (→upTo (lineCount lines) k h))
+  names-edge k h = line-named b (linesIn lines) at-most named (→map (line lines) (upTo (lineCount lines)) (→upTo (lineCount lines) k h))

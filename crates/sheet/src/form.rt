@@ -15,16 +15,16 @@ use contents::OFFSET_AT;
 use contents::SIZE_AT;
 use contents::contents_broken;
 
-const EDITION: u32 = 1;
+pub const EDITION: u32 = 1;
 
-const ENTRIES: usize = 1;
+pub const ENTRIES: usize = 1;
 
-const KIND: u32 = 8;
+pub const KIND: u32 = 8;
 
 // Where its one entry stands, and behind it its body.
-const ENTRY: usize = 2;
+pub const ENTRY: usize = 2;
 
-const HEAD: usize = 11;
+pub const HEAD: usize = 11;
 
 // The form of all but the lines.
 fn form_broken(sheet: &[u8]) -> bool

@@ -16,7 +16,7 @@ pub const CLOSED: u32 = 1;
 
 pub const DELAYED: u32 = 2;
 
-const EDGE_AT: usize = 1;
+pub const EDGE_AT: usize = 1;
 
 pub const ADDED_AT: usize = 3;
 

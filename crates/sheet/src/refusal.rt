@@ -1,8 +1,6 @@
 // Rules 18 to 20, in checking order.
 ghost use mathlib.Core.Path.{_≡_};
-ghost use mathlib.Core.Bool.{false};
 ghost use Rattle.model.specs.Rules.{firstBroken};
-ghost use Rattle.model.specs.Network.{edgeCount, numbersBroken};
 ghost use Rattle.sheet.specs.BodyRules.{bodySheetRules};
 ghost use Rattle.sheet.specs.Slow.{Quick};
 use crate::form::line_body;
@@ -11,10 +9,10 @@ use crate::names::names_broken;
 use crate::slow::slow_broken;
 use codec::records::EDGE_SIZE;
 
-// For edges and closed edges that keep rules 6 and 7.
-pub fn sheet_refusal(edges: &[u8], closed: &[u8], sheet: &[u8]) -> u32
-    requires { ⌜ Quick (now edges) × (numbersBroken (edgeCount (now edges)) (now closed) ≡ false) ⌝ }
-    ensures { λ r. ⌜ r ≡ firstBroken (bodySheetRules (now (edges .entry)) (now (closed .entry)) (now (sheet .entry))) ⌝ }
+// For edges that keep rule 6.
+pub fn sheet_refusal(edges: &[u8], sheet: &[u8]) -> u32
+    requires { ⌜ Quick (now edges) ⌝ }
+    ensures { λ r. ⌜ r ≡ firstBroken (bodySheetRules (now (edges .entry)) (now (sheet .entry))) ⌝ }
 {
     if sheet_broken(sheet) {
         return 18;
@@ -23,7 +21,7 @@ pub fn sheet_refusal(edges: &[u8], closed: &[u8], sheet: &[u8]) -> u32
     if names_broken(edges.len() / EDGE_SIZE, lines) {
         return 19;
     }
-    if slow_broken(edges, closed, lines) {
+    if slow_broken(edges, lines) {
         return 20;
     }
     0

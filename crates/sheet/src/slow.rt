@@ -4,8 +4,7 @@ ghost use mathlib.Core.Path.{_≡_};
 ghost use mathlib.Core.Bool.{false};
 ghost use Prim.Native.Nat.{_<_};
 ghost use Rattle.model.specs.Lists.{any};
-ghost use Rattle.model.specs.Bytes.{words16};
-ghost use Rattle.model.specs.Network.{edge, edgeCount, numbersBroken};
+ghost use Rattle.model.specs.Network.{edge, edgeCount};
 ghost use Rattle.sheet.specs.Sheet.{line, lineCount, linesIn, holds, namesNone};
 ghost use Rattle.sheet.specs.Under.{tooSlow};
 ghost use Rattle.sheet.specs.ArcsUnder.{leftUnder};
@@ -16,9 +15,7 @@ use crate::lines::SHUT;
 use crate::lines::effect_on;
 use crate::lines::line_edge;
 use crate::lines::line_effect;
-use codec::records::EDGE_SIZE;
 use codec::records::edge_seconds;
-use index::open::is_open;
 
 const MAX_SECONDS: u64 = 100000;
 
@@ -34,31 +31,28 @@ fn over(edges: &[u8], i: usize, x: u64) -> bool
 }
 
 // Whether the edge of line k is too slow, as far as this line tells.
-fn line_slow(edges: &[u8], closed: &[u8], lines: &[u8], k: usize) -> bool
-    requires { ⌜ (numbersBroken (edgeCount (now edges)) (now closed) ≡ false) × (k < lineCount (now lines)) ⌝ }
-    requires { ⌜ line (now lines) k .edge < edgeCount (now edges) ⌝ }
-    ensures { λ r. ⌜ r ≡ lineSlow (holds (linesIn (now (lines .entry)))) (now (edges .entry)) (words16 (now (closed .entry))) (line (now (lines .entry)) k) ⌝ }
+fn line_slow(edges: &[u8], lines: &[u8], k: usize) -> bool
+    requires { ⌜ (k < lineCount (now lines)) × (line (now lines) k .edge < edgeCount (now edges)) ⌝ }
+    ensures { λ r. ⌜ r ≡ lineSlow (holds (linesIn (now (lines .entry)))) (now (edges .entry)) (line (now (lines .entry)) k) ⌝ }
 {
     let i = line_edge(lines, k);
     let x = line_effect(lines, k);
     if over(edges, i, x) {
-        if is_open(closed, edges.len() / EDGE_SIZE, i) {
-            let held = effect_on(lines, i);
-            return over(edges, i, held);
-        }
+        let held = effect_on(lines, i);
+        return over(edges, i, held);
     }
     false
 }
 
-pub fn slow_broken(edges: &[u8], closed: &[u8], lines: &[u8]) -> bool
-    requires { ⌜ Quick (now edges) × (numbersBroken (edgeCount (now edges)) (now closed) ≡ false) ⌝ }
+pub fn slow_broken(edges: &[u8], lines: &[u8]) -> bool
+    requires { ⌜ Quick (now edges) ⌝ }
     requires { ⌜ any (namesNone (edgeCount (now edges))) (linesIn (now lines)) ≡ false ⌝ }
-    ensures { λ r. ⌜ r ≡ any tooSlow (leftUnder (now (edges .entry)) (now (closed .entry)) (now (lines .entry))) ⌝ }
+    ensures { λ r. ⌜ r ≡ any tooSlow (leftUnder (now (edges .entry)) (now (lines .entry))) ⌝ }
 {
     let m = lines.len() / LINE_SIZE;
     let mut k = 0;
     while k < m {
-        if line_slow(edges, closed, lines, k) {
+        if line_slow(edges, lines, k) {
             return true;
         }
         k += 1;

@@ -1,17 +1,15 @@
 -- The network as a sheet leaves it: what is kept of the file's network. Assumes nothing.
 use Prim.Native.Nat.{ℕ, _≤_, _<_}
 use native.Mathlib.Omega.{arith}
-use mathlib.Core.Path.{_≡_, refl, sym, _∙_}
+use mathlib.Core.Path.{_≡_, refl}
 use mathlib.Core.Logic.{_↔_}
-use mathlib.Core.Bool.{true, true≢false}
-use mathlib.Core.List.{List, List·Memᴰ, List·Memᴰ·head, List·Memᴰ·tail}
+use mathlib.Core.List.{List·Memᴰ, List·Memᴰ·head, List·Memᴰ·tail}
 use Rattle.model.specs.Lists.{concatMap}
-use Rattle.model.specs.Bytes.{Bytes, words16}
-use Rattle.model.specs.Contents.{edgeBody, closedBody}
+use Rattle.model.specs.Bytes.{Bytes}
+use Rattle.model.specs.Contents.{edgeBody}
 use Rattle.model.specs.Walk.{Arc}
-use Rattle.model.specs.Network.{Edge, Network, network, edge, isOpen, order, arcsOf, arcs}
-use Rattle.theory.specs.Tests.{refuted}
-use Rattle.theory.specs.Members.{→concatMap, member→, →member}
+use Rattle.model.specs.Network.{Edge, Network, network, edge, order, arcsOf, arcs}
+use Rattle.theory.specs.Members.{→concatMap}
 use Rattle.theory.specs.Passed.{Sound}
 use Rattle.theory.specs.Sound.{arc-of, ends, positive}
 use Rattle.theory.specs.NetWays.{Sane}
@@ -21,42 +19,30 @@ use Rattle.sheet.proofs.Ground.{left→, →left, Comes, under→, →under, le
 use Rattle.sheet_demands.specs.SheetOutcomes.{Left}
 use Rattle.sheet_demands.specs.Slower.{Was, Slower}
 
--- ---- an edge that is left is a road that was open, with the same ends and as many seconds more as its effect adds
-pub open→ : (closed : List ℕ) (i : ℕ) → isOpen closed i ≡ true → List·Memᴰ i closed → ⊥
-unfolding isOpen
-open→ closed i h m = true≢false (sym h ∙ rw (→member i closed m))
-
-pub →open : (closed : List ℕ) (i : ℕ) → (List·Memᴰ i closed → ⊥) → isOpen closed i ≡ true
-unfolding isOpen
-→open closed i h = rw (refuted (λ e. h (member→ i closed e)))
-
+-- ---- an edge that is left is a road of the file, with the same ends and as many seconds more as its effect adds
 module _ (effect : ℕ → Effect) (f : Bytes) where
   abbrev b : Bytes
   b = edgeBody f
-
-  abbrev closed : List ℕ
-  closed = words16 (closedBody f)
 
   pub left-just : {e : Edge} → List·Memᴰ e (networkUnder effect f .edges) ↔ Left effect f e
   unfolding networkUnder leftOf
   left-just {e} = (there, back)
     where
-      there : List·Memᴰ e (edgesUnder effect b closed) → Left effect f e
+      there : List·Memᴰ e (edgesUnder effect b) → Left effect f e
       there m =
-          let (i, h, o, k) = under→ effect b closed m in
+          let (i, h, k) = under→ effect b m in
           let (n, p, q) = left→ (effect i) (edge b i) (unfold leftOf in k) in
-          record { i = i; is-road = h; is-open = open→ closed i o; added = n; holds = p; is = q }
+          record { i = i; is-road = h; added = n; holds = p; is = q }
 
-      back : Left effect f e → List·Memᴰ e (edgesUnder effect b closed)
-      back l =
-          →under effect b closed (l .is-road) (→open closed (l .i) (l .is-open)) (unfold leftOf in →left (edge b (l .i)) (l .holds) (l .is))
+      back : Left effect f e → List·Memᴰ e (edgesUnder effect b)
+      back l = →under effect b (l .is-road) (unfold leftOf in →left (edge b (l .i)) (l .holds) (l .is))
 
   abbrev net : Network
   net = networkUnder effect f
 
   was : {e : Edge} → List·Memᴰ e (net .edges) → Comes (network f .edges) e
   unfolding networkUnder network
-  was m = left-comes effect b closed m
+  was m = left-comes effect b m
 
   pub was-there : {e : Edge} → List·Memᴰ e (net .edges)
       → (old : Edge) × List·Memᴰ old (network f .edges) × (old .first ≡ e .first) × (old .second ≡ e .second) × (old .seconds ≤ e .seconds)
@@ -105,4 +91,4 @@ module _ (effect : ℕ → Effect) (f : Bytes) where
 -- ---- a sheet that does nothing leaves the network as it is
 pub nothing-changed : (effect : ℕ → Effect) → ((i : ℕ) → effect i ≡ delayed 0) → (o : Bytes) → networkUnder effect o ≡ network o
 unfolding networkUnder network
-nothing-changed effect h o = rw (as-were effect h (edgeBody o) (words16 (closedBody o)))
+nothing-changed effect h o = rw (as-were effect h (edgeBody o))

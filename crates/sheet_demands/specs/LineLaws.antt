@@ -5,17 +5,17 @@ use mathlib.Core.Logic.{_↔_}
 use mathlib.Core.Bool.{true, false}
 use mathlib.Core.List.{List}
 use Rattle.model.specs.Lists.{any}
-use Rattle.model.specs.Bytes.{Bytes, words16}
-use Rattle.model.specs.Contents.{nodeBody, edgeBody, closedBody}
+use Rattle.model.specs.Bytes.{Bytes}
+use Rattle.model.specs.Contents.{nodeBody, edgeBody}
 use Rattle.model.specs.Network.{network, nodeCount}
 use Rattle.theory.specs.Passed.{Sound}
 use Rattle.sheet.specs.Sheet.{Line, lineCount, linesIn, lineBody, holds, effects, namesBroken}
 use Rattle.sheet.specs.Under.{networkUnder, slowBroken}
 use Rattle.sheet.proofs.Lasts.{last-holds, left-open, no-lines, none-held}
-use Rattle.sheet.proofs.Ground.{open-quick}
+use Rattle.sheet.proofs.Ground.{all-quick}
 use Rattle.sheet.proofs.SlowLines.{quick, SlowEdge, slow→, →slow, slow-last}
 use Rattle.sheet_demands.specs.SheetOutcomes.{Slowed}
-use Rattle.sheet_demands.specs.Changed.{open→, →open, nothing-changed}
+use Rattle.sheet_demands.specs.Changed.{nothing-changed}
 
 -- ---- rule 20
 module _ (o sheet : Bytes) (sound : Sound o) where
@@ -23,16 +23,15 @@ module _ (o sheet : Bytes) (sound : Sound o) where
   lines = linesIn (lineBody sheet)
 
   abbrev SlowOne : Type 0
-  SlowOne = SlowEdge (holds lines) (edgeBody o) (words16 (closedBody o))
+  SlowOne = SlowEdge (holds lines) (edgeBody o)
 
   -- What takes an edge over the limit is the last line about it, and none closes it.
   there : SlowOne → Slowed o sheet
   there z =
-      let (k, l) = slow-last (edgeBody o) (words16 (closedBody o)) lines (quick (nodeCount (nodeBody o)) (edgeBody o) (sound .some-edge)) z in
+      let (k, l) = slow-last (edgeBody o) lines (quick (nodeCount (nodeBody o)) (edgeBody o) (sound .some-edge)) z in
       record {
         i = z .i;
         is-road = z .below;
-        is-open = open→ (words16 (closedBody o)) (z .i) (z .unclosed);
         unclosed = left-open (z .delays);
         line = k;
         last = l;
@@ -45,7 +44,6 @@ module _ (o sheet : Bytes) (sound : Sound o) where
   back z = record {
     i = z .i;
     below = z .is-road;
-    unclosed = →open (words16 (closedBody o)) (z .i) (z .is-open);
     added = z .added;
     delays = last-holds (z .unclosed) (z .last) ∙ z .delays;
     over = z .over;
@@ -54,7 +52,7 @@ module _ (o sheet : Bytes) (sound : Sound o) where
   pub slow-just : (slowBroken (effects sheet) o ≡ true) ↔ Slowed o sheet
   unfolding slowBroken networkUnder effects
   slow-just =
-      (λ h. there (slow→ (holds lines) (edgeBody o) (words16 (closedBody o)) h), λ z. →slow (holds lines) (edgeBody o) (words16 (closedBody o)) (back z))
+      (λ h. there (slow→ (holds lines) (edgeBody o) h), λ z. →slow (holds lines) (edgeBody o) (back z))
 
 -- ---- a sheet without lines
 module _ (sheet : Bytes) (empty : lineCount (lineBody sheet) ≡ 0) where
@@ -69,4 +67,4 @@ module _ (sheet : Bytes) (empty : lineCount (lineBody sheet) ≡ 0) where
   pub empty-slow : (o : Bytes) → Sound o → slowBroken (effects sheet) o ≡ false
   unfolding slowBroken network
   empty-slow o sound =
-      rw (empty-network o) (open-quick (nodeCount (nodeBody o)) (edgeBody o) (words16 (closedBody o)) (sound .some-edge))
+      rw (empty-network o) (all-quick (nodeCount (nodeBody o)) (edgeBody o) (sound .some-edge))

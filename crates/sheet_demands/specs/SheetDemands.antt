@@ -43,7 +43,7 @@ use Rattle.sheet_demands.specs.FormerLaws as former
 
 -- "18 .., 19 .., 20 .., all directly after 12 in that order."
 pub under-order : (o sheet : Bytes) (s t words room : ℕ) → map (λ r. r .number) (wayUnderRules o sheet s t words room)
-    ≡ 1 ∷ 2 ∷ 3 ∷ 4 ∷ 5 ∷ 6 ∷ 7 ∷ 8 ∷ 9 ∷ 10 ∷ 11 ∷ 12 ∷ 18 ∷ 19 ∷ 20 ∷ 14 ∷ 15 ∷ []
+    ≡ 1 ∷ 2 ∷ 3 ∷ 4 ∷ 5 ∷ 6 ∷ 7 ∷ 21 ∷ 8 ∷ 9 ∷ 10 ∷ 11 ∷ 12 ∷ 18 ∷ 19 ∷ 20 ∷ 14 ∷ 15 ∷ []
 unfolding wayUnderRules timeUnderRules pairUnderRules sheetRules pairRules shapeRules networkRules
 under-order o sheet s t words room = refl
 
@@ -72,8 +72,7 @@ last-holds = lasts.last-holds
 pub none-holds : {ls : List Line} {i : ℕ} → ((k : Line) → List·Memᴰ k ls → k .edge ≡ i → ⊥) → holds ls i ≡ delayed 0
 none-holds = lasts.none-holds
 
--- "A road closed in body 3 is closed under every sheet": each edge that is left is a road open in body 3 that the sheet does not close, with the same
--- ends and its seconds and those added; and each such road is left.
+-- Each edge that is left is a road of the file that the sheet does not close, with the same ends and its seconds and those added; and each such road is left.
 pub road-left : (f sheet : Bytes) {e : Edge} → List·Memᴰ e (networkUnder (effects sheet) f .edges) ↔ Left (effects sheet) f e
 road-left f sheet = changed.left-just (effects sheet) f
 

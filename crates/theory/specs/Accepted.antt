@@ -13,7 +13,7 @@ use Rattle.model.specs.Bytes.{Bytes, word16, bytes16, numberSize}
 use Rattle.model.specs.Contents.{nodeBody, edgeBody, closedBody, oracleEdition, entryAt}
 use Rattle.model.specs.Network.{network, order, distance, nodeSize, edgeSize, maxNodes, maxEdges}
 use Rattle.model.specs.Grid.{gridOver, gridBroken, maxGrid, division, divisionBytes, divisionSize}
-use Rattle.model.specs.Oracle.{oracle, tableBytes, listBytes, accessBytes, starts, valueSize, startSize, listSize}
+use Rattle.model.specs.Oracle.{oracle, oracleOver, tableBytes, listBytes, accessBytes, starts, valueSize, startSize, listSize}
 use Rattle.model.specs.declared.Division.{Division}
 use Rattle.theory.specs.RangeLaws.{length-range}
 use Rattle.theory.specs.ReadLaws.{length-numbers, length-table, length-list, length-starts}
@@ -110,19 +110,25 @@ module _ (f : Bytes) (dv : Division) (sound : Sound f) (keeps : gridBroken (dv .
           let h : r .0 < order (network f) = omega (arith, range→ 0 (length (lists-of f dv)) (r .0) (r .1), count-lists f dv) in
           rw (r .2) (list-most (r .0) (getD (lists-of f dv) (r .0) []) (rw (list-of f dv (r .0) h) (omega (arith, few-access f dv (r .0), few f sound))))
 
-  oracle-size : length (oracle f dv) < 4294967296
-  unfolding oracle entryAt divisionBytes bytes16
-  oracle-size =
+  -- With any bodies 2 and 3 of no more bytes than they may have.
+  pub over-size : (b2 b3 : Bytes) → length b2 ≤ edgeSize * maxEdges → length b3 ≤ numberSize * maxEdges
+      → length (oracleOver (network f) (nodeBody f) b2 b3 dv) < 4294967296
+  unfolding oracleOver entryAt divisionBytes bytes16
+  over-size b2 b3 h2 h3 =
       let net = network f in
       let d = distance net in
       let t = transit-of f dv in
       let access = accessBytes d t (lists-of f dv) in
       let table = tableBytes d t in
-      let whole = length-file oracleEdition (nodeBody f ∷ edgeBody f ∷ closedBody f ∷ divisionBytes dv ∷ concatMap bytes16 t ∷ access ∷ table ∷ []) in
-      let seven : length (concat (nodeBody f ∷ edgeBody f ∷ closedBody f ∷ divisionBytes dv ∷ concatMap bytes16 t ∷ access ∷ table ∷ [])) ≤ mostBytes =
-      seven-most (nodeBody f) (edgeBody f) (closedBody f) (divisionBytes dv) (concatMap bytes16 t) access table (node-bytes f sound .2)
-      (edge-bytes f sound .1) (closed-bytes f sound) (omega arith) transit-bytes access-size table-size in
+      let whole = length-file oracleEdition (nodeBody f ∷ b2 ∷ b3 ∷ divisionBytes dv ∷ concatMap bytes16 t ∷ access ∷ table ∷ []) in
+      let seven : length (concat (nodeBody f ∷ b2 ∷ b3 ∷ divisionBytes dv ∷ concatMap bytes16 t ∷ access ∷ table ∷ [])) ≤ mostBytes =
+      seven-most (nodeBody f) b2 b3 (divisionBytes dv) (concatMap bytes16 t) access table (node-bytes f sound .2) h2 h3 (omega arith) transit-bytes
+      access-size table-size in
       omega arith
+
+  oracle-size : length (oracle f dv) < 4294967296
+  unfolding oracle
+  oracle-size = over-size (edgeBody f) (closedBody f) (edge-bytes f sound .1) (closed-bytes f sound)
 
   reads : division (divisionBytes dv) ≡ dv
   unfolding division divisionBytes word16 bytes16

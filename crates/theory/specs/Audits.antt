@@ -7,13 +7,12 @@ use mathlib.Core.Bool.{true, not, true≢false, cond, Bool, false}
 use mathlib.Core.List.{List, [], _∷_, _++_}
 use lib.ListN.{length, getD, length-append}
 use borrow.Author.Tests.{le-ltb, eq-eqb, eqb-true}
-use Rattle.model.specs.Lists.{equal, concatMap, concat}
-use Rattle.model.specs.Bytes.{Bytes, bytes16}
-use Rattle.model.specs.Contents.{file, oracleEdition, nodeBody, edgeBody, closedBody, gridBody, networkEdition, body, entryAt}
-use Rattle.model.specs.Network.{Network, network, order, distance}
-use Rattle.model.specs.Grid.{gridOver, gridBroken, division, divisionSize, divisionBytes}
-use Rattle.model.specs.Access.{accessLists, transitNodes}
-use Rattle.model.specs.Oracle.{oracle, accessBytes, tableBytes, gridBodyBroken}
+use Rattle.model.specs.Lists.{equal, concat}
+use Rattle.model.specs.Bytes.{Bytes}
+use Rattle.model.specs.Contents.{file, nodeBody, edgeBody, closedBody, gridBody, networkEdition, body, entryAt}
+use Rattle.model.specs.Network.{network}
+use Rattle.model.specs.Grid.{gridBroken, division, divisionSize}
+use Rattle.model.specs.Oracle.{oracleOver, oracle, gridBodyBroken}
 use Rattle.model.specs.Rules.{firstBroken, shapeRules, auditRules, workTooSmall, wordsNeeded, differsFromBuilt, accepted, wellShaped}
 use Rattle.model.specs.Calls.{auditRefusal}
 use Rattle.model.specs.declared.Division.{Division}
@@ -49,16 +48,8 @@ pub rule16 : (o : Bytes) → (differsFromBuilt o ≡ false) ↔ (o ≡ oracle o 
 unfolding differsFromBuilt
 rule16 o = (λ h. equal→ o (oracle o (division (gridBody o))) (not-false h), λ e. ap (λ (m : Bytes). not (equal o m)) (sym e) ∙ ap not (equal-self o))
 
--- The oracle as a function of what it goes by.
-from : Network → Bytes → Bytes → Bytes → Division → Bytes
-from net a b c dv =
-    let lists = accessLists net (gridOver dv (net .nodes)) in
-    let transit = transitNodes (order net) lists in
-    let d = distance net in
-    file oracleEdition (a ∷ b ∷ c ∷ divisionBytes dv ∷ concatMap bytes16 transit ∷ accessBytes d transit lists ∷ tableBytes d transit ∷ [])
-
-oracle-from : (f : Bytes) (dv : Division) → oracle f dv ≡ from (network f) (nodeBody f) (edgeBody f) (closedBody f) dv
-unfolding oracle from
+oracle-from : (f : Bytes) (dv : Division) → oracle f dv ≡ oracleOver (network f) (nodeBody f) (edgeBody f) (closedBody f) dv
+unfolding oracle
 oracle-from f dv = refl
 
 module _ (f : Bytes) (dv : Division) (ok : accepted f dv ≡ true) where
@@ -106,7 +97,7 @@ module _ (o : Bytes) (shaped : wellShaped o ≡ true) where
 
   network-in : network (networkIn o) ≡ network o
   unfolding network
-  network-in = rw (body-in 0 (omega arith), body-in 1 (omega arith), body-in 2 (omega arith))
+  network-in = rw (body-in 0 (omega arith), body-in 1 (omega arith))
 
   pub accepted-in : accepted (networkIn o) dv ≡ true
   accepted-in = passed-all (networkIn o) dv (record {
@@ -119,6 +110,7 @@ module _ (o : Bytes) (shaped : wellShaped o ≡ true) where
       some-edge = rw (body-in 0 (omega arith), body-in 1 (omega arith)) (p .sound .some-edge);
       closed = rw (body-in 1 (omega arith), body-in 2 (omega arith)) (p .sound .closed);
     };
+    plain = rw (body-in 2 (omega arith)) (p .plain);
     grid = unfold gridBodyBroken in or-false (not (eqb (length (gridBody o)) divisionSize)) (gridBroken (dv .g)) (p .grid) .1;
   })
 

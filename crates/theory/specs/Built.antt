@@ -112,7 +112,7 @@ module _ (f : Bytes) (dv : Division) (good : Good f dv) where
 
   pub same-network : network o ≡ network f
   unfolding network
-  same-network = rw (bodies-of 0 (omega arith), bodies-of 1 (omega arith), bodies-of 2 (omega arith))
+  same-network = rw (bodies-of 0 (omega arith), bodies-of 1 (omega arith))
 
   pub same-division : division (gridBody o) ≡ dv
   same-division = ap division (bodies-of 3 (omega arith)) ∙ good .reads

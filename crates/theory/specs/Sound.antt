@@ -1,10 +1,10 @@
--- What rules 3 to 7 give of nodes, open edges and arcs. Assumes nothing.
+-- What rules 3 to 7 give of nodes, edges and arcs. Assumes nothing.
 use Prim.Native.Nat.{ℕ, _+_, _*_, _/_, _%_, _≤_, _<_}
 use native.Mathlib.Omega.{arith}
 use mathlib.Core.Path.{_≡_, refl, _∙_, subst, sym}
 use mathlib.Core.Logic.{_⊎_, inl, inr}
 use mathlib.Core.Bool.{true, false, not, _||_}
-use mathlib.Core.List.{List, [], _∷_, map, List·Memᴰ, List·Memᴰ·cases-cons, List·Memᴰ·eq-of-singleton}
+use mathlib.Core.List.{List, [], _∷_, List·Memᴰ, List·Memᴰ·cases-cons, List·Memᴰ·eq-of-singleton}
 use lib.ListN.{length, length-map}
 use lib.Dec.{eqb, ltb, leb}
 use borrow.Author.Tests.{leb-false, ltb-false, ltb-true, eqb-true, eqb-false}
@@ -15,13 +15,13 @@ use Rattle.model.specs.Walk.{Arc, Mem}
 use Rattle.theory.specs.Walks.{Costs, Within, Positive}
 use Rattle.model.specs.Distance.{Distance, unreachable, finite}
 use Rattle.theory.specs.Exact.{dist-bound}
-use Rattle.model.specs.Network.{Edge, Network, network, nodes, edges, edge, openEdges, order, nodeCount, edgeCount, arcs, arcsOf, distance}
+use Rattle.model.specs.Network.{Edge, Network, network, nodes, edges, edge, order, nodeCount, edgeCount, arcs, arcsOf, distance}
 use Rattle.model.specs.Network.{nodesBroken, edgeBroken}
 use Rattle.model.specs.Network.{someEdgeBroken, edgesBroken, numbersBroken, maxNodes, maxEdges, maxSeconds, minSeconds, nodeSize, edgeSize}
 use Rattle.theory.specs.RangeLaws.{length-range}
 use Rattle.theory.specs.ReadLaws.{Small}
 use Rattle.theory.specs.Tests.{both}
-use Rattle.theory.specs.Members.{none-any, filter→, map→, →map, →upTo, concatMap→}
+use Rattle.theory.specs.Members.{none-any, →map, →upTo, concatMap→}
 use Rattle.theory.specs.Passed.{or-false, not-false, Sound}
 
 -- ---- a rising list of numbers below m has at most m
@@ -77,13 +77,9 @@ module _ (n : ℕ) (b : Bytes) (ok : someEdgeBroken n b ≡ false) where
   unfolding someEdgeBroken edges
   edge-fine i l = kept-fine n (edge b i) (none-any (edgeBroken n) (edges b) ok (→map (edge b) (upTo (edgeCount b)) (→upTo (edgeCount b) i l)))
 
--- Each open edge is one of the edges.
-pub open-fine : (n : ℕ) (b : Bytes) (closed : List ℕ) → someEdgeBroken n b ≡ false → (e : Edge) → List·Memᴰ e (openEdges b closed) → Fine n e
-unfolding openEdges someEdgeBroken edges
-open-fine n b closed ok e m =
-    let r = map→ (edge b) _ m in
-    let i = filter→ _ (upTo (edgeCount b)) (r .1) in
-    kept-fine n e (none-any (edgeBroken n) (map (edge b) (upTo (edgeCount b))) ok (rw (r .2) (→map (edge b) (upTo (edgeCount b)) (i .0))))
+  pub each-fine : (e : Edge) → List·Memᴰ e (edges b) → Fine n e
+  unfolding someEdgeBroken
+  each-fine e m = kept-fine n e (none-any (edgeBroken n) (edges b) ok m)
 
 -- ---- arcs
 -- What holds of each edge's ends and seconds, in either order of the ends, holds of each arc.
@@ -130,7 +126,7 @@ module _ (f : Bytes) (ok : Sound f) where
 
   fine : (e : Edge) → List·Memᴰ e (network f .edges) → Fine (order (network f)) e
   unfolding network
-  fine e m = rw (count-nodes f) (open-fine n (edgeBody f) (words16 (closedBody f)) (ok .some-edge) e m)
+  fine e m = rw (count-nodes f) (each-fine n (edgeBody f) (ok .some-edge) e m)
 
   pub ends : (e : Edge) → List·Memᴰ e (network f .edges) → (e .first < order (network f)) × (e .second < order (network f))
   ends e m = (fine e m .first-in, fine e m .second-in)

@@ -15,7 +15,7 @@ use Rattle.model.specs.Contents.{accessBody, tableBody}
 use Rattle.model.specs.Distance.{Distance, unreachable, finite}
 use Rattle.theory.specs.Exact.{dist-bound}
 use Rattle.model.specs.Network.{network, order, arcs, distance, nodeCount, edgeCount, nodesBroken, coordinatesBroken, edgesBroken, someEdgeBroken}
-use Rattle.model.specs.Network.{numbersBroken}
+use Rattle.model.specs.Network.{numbersBroken, closedListed}
 use Rattle.model.specs.Grid.{divisionBytes}
 use Rattle.model.specs.Access.{accessNodes, transitNodes}
 use Rattle.model.specs.Oracle.{indexes, cellBroken, oracle, value, valueBroken, valueBytes, valueSize, startSize, accessBytes, tableBytes, transitCount}
@@ -118,6 +118,9 @@ module _ (f : Bytes) (dv : Division) (ok : Passed f dv) where
 
   rule7 : numbersBroken (edgeCount (edgeBody o)) (closedBody o) ≡ false
   rule7 = rw (bodies-of f dv fine 1 (omega arith), bodies-of f dv fine 2 (omega arith)) (ok .sound .closed)
+
+  rule21 : closedListed (closedBody o) ≡ false
+  rule21 = ap closedListed (bodies-of f dv fine 2 (omega arith)) ∙ ok .plain
 
   rule8 : gridBodyBroken (gridBody o) ≡ false
   unfolding gridBodyBroken
@@ -271,6 +274,7 @@ module _ (f : Bytes) (dv : Division) (ok : Passed f dv) where
     contents = rule1;
     bodies = rule2;
     sound = record { nodes-rule = rule3; coordinates = rule4; edges-rule = rule5; some-edge = rule6; closed = rule7 };
+    plain = rule21;
     grid = rule8;
     transit = rule9;
     access = rule10;

@@ -76,11 +76,6 @@ fn seconds(net: Network, r: u32) -> u32 {
     sum(random(net.seed, sum(500, r), net.seconds), 1)
 }
 
-// One road in eight.
-fn is_closed(net: Network, r: u32) -> bool {
-    random(net.seed, sum(600, r), 8) == 0
-}
-
 // ---- files
 
 fn place_at(i: u32) -> usize {
@@ -109,15 +104,15 @@ fn put_entry(b: &mut [u8], here: usize, kind: u32, offset: u32, length: u32) {
     write32(b, plus(here, 5), length);
 }
 
-// The contents of a network of so many places, roads and closed roads; answers the file's size.
-fn put_head(b: &mut [u8], n: u32, roads: u32, closed: u32) -> usize {
+// The contents of a network of so many places and roads; answers the file's size.
+fn put_head(b: &mut [u8], n: u32, roads: u32) -> usize {
     let end = 29 + n % 64 * 8;
     let next = end + roads % 64 * 8;
     write16(b, 0, 769);
     put_entry(b, 2, 1, 29, n % 64 * 8);
     put_entry(b, 11, 2, end, roads % 64 * 8);
-    put_entry(b, 20, 3, next, closed % 64 * 2);
-    (next + closed % 64 * 2) as usize
+    put_entry(b, 20, 3, next, 0);
+    next as usize
 }
 
 fn put_random(b: &mut [u8], net: Network, i: u32) {
@@ -131,34 +126,22 @@ fn put_places(b: &mut [u8], net: Network) {
     }
 }
 
-// Road r, and its number among the closed ones; answers how many are closed then.
-fn put_one(b: &mut [u8], net: Network, r: u32, closed: u32) -> u32 {
+fn put_one(b: &mut [u8], net: Network, r: u32) {
     let x = seconds(net, r);
     put_road(b, road_at(net.n, r), first(net, r), second(net, r), x);
-    if is_closed(net, r) {
-        write16(
-            b,
-            plus(road_at(net.n, net.roads), (closed % 64 * 2) as usize),
-            r,
-        );
-        return sum(closed, 1);
-    }
-    closed
 }
 
-fn put_roads(b: &mut [u8], net: Network, end: u32) -> u32 {
-    let mut closed = 0;
+fn put_roads(b: &mut [u8], net: Network, end: u32) {
     for i in 0..end {
-        closed = put_one(b, net, i, closed);
+        put_one(b, net, i);
     }
-    closed
 }
 
 // Writes a network at the front of b; answers its size.
 pub fn put_network(b: &mut [u8], net: Network) -> usize {
     put_places(b, net);
-    let closed = put_roads(b, net, net.roads);
-    put_head(b, net.n, net.roads, closed)
+    put_roads(b, net, net.roads);
+    put_head(b, net.n, net.roads)
 }
 
 // ---- another search
@@ -187,7 +170,7 @@ fn lower(d: &mut [u32], s: u32, t: u32, x: u32) {
 
 // Road r in both directions, for the times from s.
 fn relax(d: &mut [u32], net: Network, s: u32, r: u32) {
-    if (net.roads <= r) | is_closed(net, r) {
+    if net.roads <= r {
         return;
     }
     let u = first(net, r);
@@ -210,7 +193,7 @@ fn leg_with(net: Network, u: u32, v: u32, r: u32, so_far: u32) -> u32 {
     let b = second(net, r);
     let x = seconds(net, r);
     let joins = ((a == u) & (b == v)) | ((a == v) & (b == u));
-    if joins & !is_closed(net, r) & (x < so_far) {
+    if joins & (x < so_far) {
         return x;
     }
     so_far

@@ -7,7 +7,7 @@ use mathlib.Core.List.{List, [], _∷_, List·Memᴰ}
 use lib.ListN.{length}
 use Rattle.model.specs.Lists.{any}
 use Rattle.model.specs.Bytes.{Bytes}
-use Rattle.model.specs.Contents.{nodeBody, edgeBody, closedBody}
+use Rattle.model.specs.Contents.{nodeBody, edgeBody}
 use Rattle.model.specs.Distance.{dist}
 use Rattle.model.specs.Network.{Edge, Network, network, maxNodes, maxSeconds, nodeCount, order, arcs, distance, someEdgeBroken}
 use Rattle.model.specs.Oracle.{coded, decoded}
@@ -47,10 +47,10 @@ module _ (o lines : Bytes) (shaped : Shaped o) where
   net = netUnder lines o
 
   abbrev old : List Arc
-  old = arcsUnder (edgeBody o) (closedBody o) []
+  old = arcsUnder (edgeBody o) []
 
   abbrev new : List Arc
-  new = arcsUnder (edgeBody o) (closedBody o) lines
+  new = arcsUnder (edgeBody o) lines
 
   new-arcs : arcs net ≡ new
   unfolding arcs networkUnder arcsUnder leftUnder
@@ -66,19 +66,19 @@ module _ (o lines : Bytes) (shaped : Shaped o) where
     rule-six = shaped .sound .some-edge
 
     within : Within (order net) (arcs net)
-    within = rw (new-order, new-arcs) (arcs-within (edgeBody o) (closedBody o) lines n rule-six quick)
+    within = rw (new-order, new-arcs) (arcs-within (edgeBody o) lines n rule-six quick)
 
     inside : (e : Edge) → List·Memᴰ e (net .edges) → (e .first < order net) × (e .second < order net)
     unfolding networkUnder
     inside e m =
-        let f = left-fine (edgeBody o) (closedBody o) lines n rule-six quick e (unfold leftUnder in m) in
+        let f = left-fine (edgeBody o) lines n rule-six quick e (unfold leftUnder in m) in
         (omega (arith, f .first-in, new-order), omega (arith, f .second-in, new-order))
 
     costs : Costs maxSeconds (arcs net)
-    costs = rw new-arcs (arcs-cost (edgeBody o) (closedBody o) lines n rule-six quick)
+    costs = rw new-arcs (arcs-cost (edgeBody o) lines n rule-six quick)
 
     positive : Positive (arcs net)
-    positive = rw new-arcs (arcs-positive (edgeBody o) (closedBody o) lines n rule-six quick)
+    positive = rw new-arcs (arcs-positive (edgeBody o) lines n rule-six quick)
 
     few : order net ≤ maxNodes
     few = omega (arith, new-order, node-bytes o (shaped .sound) .0)
@@ -102,7 +102,7 @@ module _ (o lines : Bytes) (shaped : Shaped o) where
     way-is s t h = way-over net new n under-searched t h s
 
     pub way-under-itself : (s : ℕ) → s < n → way net s s ≡ s ∷ []
-    way-under-itself s h = sym (way-is s s h) ∙ way-itself new n (arcs-within (edgeBody o) (closedBody o) lines n rule-six quick) s h
+    way-under-itself s h = sym (way-is s s h) ∙ way-itself new n (arcs-within (edgeBody o) lines n rule-six quick) s h
 
   -- ---- what was without the lines
   own : Searched (network o) old n
@@ -124,12 +124,12 @@ module _ (o lines : Bytes) (shaped : Shaped o) where
   old-itself s h w = sym (way-over (network o) old n own s h s) ∙ way-itself old n w s h
 
 -- ---- the lines are noted in the words
-pub noted-edges : (edges closed lines : Bytes) (n : ℕ) (w w′ : List ℕ) → 2 ≤ n → IndexedEdges edges closed n w → any tooSlow (leftUnder edges closed lines) ≡
+pub noted-edges : (edges lines : Bytes) (n : ℕ) (w w′ : List ℕ) → 2 ≤ n → IndexedEdges edges n w → any tooSlow (leftUnder edges lines) ≡
     false
-    → SpannedIn lines n w′ → OnlyIn (spansAt n) (spanCount n) w w′ → EdgesUnder edges closed lines n w′
-noted-edges edges closed lines n w w′ two r quick k o =
+    → SpannedIn lines n w′ → OnlyIn (spansAt n) (spanCount n) w w′ → EdgesUnder edges lines n w′
+noted-edges edges lines n w w′ two r quick k o =
     let e : spansAt n + spanCount n ≡ indexAt n = omega arith in
-    record { roads = roads-kept edges closed n w w′ (subst (λ (i : ℕ). KeptFrom i w w′) e (o .back)) r; spanned = k; quick = quick }
+    record { roads = roads-kept edges n w w′ (subst (λ (i : ℕ). KeptFrom i w w′) e (o .back)) r; spanned = k; quick = quick }
 
 pub noted-then : (n : ℕ) (w mid w′ : List ℕ) → length mid ≡ length w → OnlyIn (spansAt n) (spanCount n) w mid → KeptFrom (gridAt n) mid w′ → NotedThen n w w′
 noted-then n w mid w′ l o k = record { mid = mid; size = l; noted = o; later = k }
@@ -143,16 +143,16 @@ noted-stays o w w′ h two l k =
 
 -- ---- the same for the bodies and the number of nodes as the code has them
 pub judged-over : (o lines : Bytes) {w : List ℕ} (opened : Opened o w) (s t : ℕ) → s < nodeCount (nodeBody o) → t < nodeCount (nodeBody o) → (s ≡ t → ⊥)
-    → (eb cb : Bytes) (m : ℕ) → eb ≡ edgeBody o → cb ≡ closedBody o → m ≡ nodeCount (nodeBody o) → (w′ : List ℕ) (r : Bool) → length w′ ≡ length w
-    → r ≡ stillDriven (distanceIn (distanceWords (arcsUnder eb cb []) m t)) (arcsUnder eb cb lines) (wayOver (arcsUnder eb cb []) m s t)
-    → time m w′ s ≡ coded (dist (arcsUnder eb cb []) m t s) → EdgesUnder eb cb lines m w′ → NotedThen m w w′ → Judged o lines s t w w′ r
-judged-over o lines {w} opened s t hs ht ne eb cb m p q e w′ r l d k g z =
+    → (eb : Bytes) (m : ℕ) → eb ≡ edgeBody o → m ≡ nodeCount (nodeBody o) → (w′ : List ℕ) (r : Bool) → length w′ ≡ length w
+    → r ≡ stillDriven (distanceIn (distanceWords (arcsUnder eb []) m t)) (arcsUnder eb lines) (wayOver (arcsUnder eb []) m s t)
+    → time m w′ s ≡ coded (dist (arcsUnder eb []) m t s) → EdgesUnder eb lines m w′ → NotedThen m w w′ → Judged o lines s t w w′ r
+judged-over o lines {w} opened s t hs ht ne eb m p e w′ r l d k g z =
     let shaped = all-shaped o (opened .shape) in
     let ne′ : ¬ (s ≡ t) = ne in
     record {
-      driven = rw (p, q, e) at d ∙ old-driven o lines shaped s t ht;
-      old = rw (p, q, e) at k ∙ old-time o lines shaped s t hs ht;
-      edges = rw (p, q, e) at g;
+      driven = rw (p, e) at d ∙ old-driven o lines shaped s t ht;
+      old = rw (p, e) at k ∙ old-time o lines shaped s t hs ht;
+      edges = rw (p, e) at g;
       stays = noted-stays o w w′ opened (omega arith) l (rw e at z);
     }
 
@@ -165,4 +165,4 @@ pub own-itself : (o : Bytes) → Shaped o → (s : ℕ) → s < nodeCount (nodeB
 own-itself o shaped s h =
     let n = nodeCount (nodeBody o) in
     let e = shaped .sound .some-edge in
-    old-itself o [] shaped s h (arcs-within (edgeBody o) (closedBody o) [] n e (plain-slow (edgeBody o) (closedBody o) n e))
+    old-itself o [] shaped s h (arcs-within (edgeBody o) [] n e (plain-slow (edgeBody o) n e))

@@ -6,7 +6,7 @@ use mathlib.Core.List.{List}
 use lib.ListN.{length}
 use Rattle.model.specs.Lists.{any}
 use Rattle.model.specs.Bytes.{Bytes}
-use Rattle.model.specs.Contents.{nodeBody, edgeBody, closedBody}
+use Rattle.model.specs.Contents.{nodeBody, edgeBody}
 use Rattle.model.specs.Network.{Network, network, nodeCount, arcs, distance}
 use Rattle.model.specs.Oracle.{coded}
 use Rattle.model.specs.Query.{way}
@@ -25,7 +25,7 @@ netUnder lines o = networkUnder (holds (linesIn lines)) o
 
 -- The lines keep rule 20 over the oracle's edges.
 abbrev pub QuickLines : Bytes → Bytes → Type 0
-QuickLines o lines = any tooSlow (leftUnder (edgeBody o) (closedBody o) lines) ≡ false
+QuickLines o lines = any tooSlow (leftUnder (edgeBody o) lines) ≡ false
 
 -- From w to w′ the spans are filled, and then words before the grid change.
 pub record NotedThen (n : ℕ) (w w′ : List ℕ) : Type 0 where
@@ -38,5 +38,5 @@ pub record NotedThen (n : ℕ) (w w′ : List ℕ) : Type 0 where
 pub record Judged (o lines : Bytes) (s t : ℕ) (w w′ : List ℕ) (r : Bool) : Type 0 where
   pub driven : r ≡ stillDriven (λ v. distance (network o) v t) (arcs (netUnder lines o)) (way (network o) s t)
   pub old : time (nodeCount (nodeBody o)) w′ s ≡ coded (distance (network o) s t)
-  pub edges : EdgesUnder (edgeBody o) (closedBody o) lines (nodeCount (nodeBody o)) w′
+  pub edges : EdgesUnder (edgeBody o) lines (nodeCount (nodeBody o)) w′
   pub stays : Stays o w w′

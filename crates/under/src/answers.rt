@@ -5,7 +5,7 @@ ghost use mathlib.Core.Bool.{false};
 ghost use mathlib.Core.List.{[]};
 ghost use Prim.Native.Nat.{_<_, _≤_};
 ghost use Rattle.model.specs.Lists.{any};
-ghost use Rattle.model.specs.Contents.{nodeBody, edgeBody, closedBody};
+ghost use Rattle.model.specs.Contents.{nodeBody, edgeBody};
 ghost use Rattle.model.specs.Distance.{dist};
 ghost use Rattle.model.specs.Network.{network, maxNodes, nodeCount, distance};
 ghost use Rattle.model.specs.Oracle.{coded};
@@ -29,7 +29,6 @@ use opened::answers;
 use opened::local::search_seconds;
 use opened::local::search_to;
 use opened::opening::opened_kind;
-use reader::oracle::CLOSED;
 use reader::oracle::EDGES;
 use reader::oracle::node_count;
 use reader::oracle::oracle_body;
@@ -41,25 +40,24 @@ use words::times::time_of;
 // Whether the old way from s to t can still be driven, by a search from t over the edges as they are, that ends at s. The lines are noted before.
 fn old_way_driven(
     edges: &[u8],
-    closed: &[u8],
     lines: &[u8],
     n: usize,
     s: usize,
     t: usize,
     work: &mut [u32],
 ) -> bool
-    requires { ⌜ (n ≤ maxNodes) × (s < n) × (t < n) × Enough n (now work) × IndexedEdges (now edges) (now closed) n (now work) × (2 ≤ n) ⌝ }
-    requires { ⌜ any tooSlow (leftUnder (now edges) (now closed) (now lines)) ≡ false ⌝ }
-    ensures driven { λ r. ⌜ r ≡ stillDriven (distanceIn (distanceWords (arcsUnder (now (edges .entry)) (now (closed .entry)) []) n t))
-        (arcsUnder (now (edges .entry)) (now (closed .entry)) (now (lines .entry)))
-        (wayOver (arcsUnder (now (edges .entry)) (now (closed .entry)) []) n s t) ⌝ }
-    ensures old { λ _. ⌜ time n (now (work .exit)) s ≡ coded (dist (arcsUnder (now (edges .entry)) (now (closed .entry)) []) n t s) ⌝ }
-    ensures edges { λ _. ⌜ EdgesUnder (now (edges .entry)) (now (closed .entry)) (now (lines .entry)) n (now (work .exit)) ⌝ }
+    requires { ⌜ (n ≤ maxNodes) × (s < n) × (t < n) × Enough n (now work) × IndexedEdges (now edges) n (now work) × (2 ≤ n) ⌝ }
+    requires { ⌜ any tooSlow (leftUnder (now edges) (now lines)) ≡ false ⌝ }
+    ensures driven { λ r. ⌜ r ≡ stillDriven (distanceIn (distanceWords (arcsUnder (now (edges .entry)) []) n t))
+        (arcsUnder (now (edges .entry)) (now (lines .entry)))
+        (wayOver (arcsUnder (now (edges .entry)) []) n s t) ⌝ }
+    ensures old { λ _. ⌜ time n (now (work .exit)) s ≡ coded (dist (arcsUnder (now (edges .entry)) []) n t s) ⌝ }
+    ensures edges { λ _. ⌜ EdgesUnder (now (edges .entry)) (now (lines .entry)) n (now (work .exit)) ⌝ }
     ensures others { λ _. ⌜ NotedThen n (now (work .entry)) (now (work .exit)) ⌝ }
 {
     note_lines(lines, n, work);
-    search_to(edges, closed, &edges[..0], n, t, s, work);
-    still_driven(edges, closed, lines, n, work, s)
+    search_to(edges, &edges[..0], n, t, s, work);
+    still_driven(edges, lines, n, work, s)
 }
 
 // The same over the oracle.
@@ -68,15 +66,7 @@ fn judge(o: &[u8], lines: &[u8], s: usize, t: usize, work: &mut [u32]) -> bool
     requires { ⌜ QuickLines (now o) (now lines) ⌝ }
     ensures { λ r. ⌜ Judged (now (o .entry)) (now (lines .entry)) s t (now (work .entry)) (now (work .exit)) r ⌝ }
 {
-    old_way_driven(
-        oracle_body(o, EDGES),
-        oracle_body(o, CLOSED),
-        lines,
-        node_count(o),
-        s,
-        t,
-        work,
-    )
+    old_way_driven(oracle_body(o, EDGES), lines, node_count(o), s, t, work)
 }
 
 // The answer without the sheet. A local one takes the time of s from the search toward t: edges run both ways.
@@ -109,19 +99,11 @@ fn is_none(a: Answer) -> bool
 // The answer of a search over the edges as the lines leave them: "marked local with 0 pairs".
 fn searched(o: &[u8], lines: &[u8], s: usize, t: usize, work: &mut [u32]) -> Answer
     requires { ⌜ Opened (now o) (now work) × (s < nodeCount (nodeBody (now o))) × (t < nodeCount (nodeBody (now o))) × (s ≡ t → ⊥) ⌝ }
-    requires { ⌜ EdgesUnder (edgeBody (now o)) (closedBody (now o)) (now lines) (nodeCount (nodeBody (now o))) (now work) ⌝ }
+    requires { ⌜ EdgesUnder (edgeBody (now o)) (now lines) (nodeCount (nodeBody (now o))) (now work) ⌝ }
     ensures answer { λ r. ⌜ r ≡ localAnswer (netUnder (now (lines .entry)) (now (o .entry))) s t ⌝ }
     ensures others { λ _. ⌜ KeptFrom (gridAt (nodeCount (nodeBody (now (o .entry))))) (now (work .entry)) (now (work .exit)) ⌝ }
 {
-    let seconds = search_seconds(
-        oracle_body(o, EDGES),
-        oracle_body(o, CLOSED),
-        lines,
-        node_count(o),
-        s,
-        t,
-        work,
-    );
+    let seconds = search_seconds(oracle_body(o, EDGES), lines, node_count(o), s, t, work);
     answer_of(Kind::Local, 0, seconds)
 }
 

@@ -7,7 +7,6 @@ use checks::refusals::named_pair_refusal;
 use checks::refusals::number_if;
 use checks::refusals::pair_refusal;
 use checks::room::work_too_small;
-use reader::oracle::CLOSED;
 use reader::oracle::EDGES;
 use reader::oracle::oracle_body;
 use sheet::refusal::sheet_refusal;
@@ -17,7 +16,7 @@ fn sheet_rule(o: &[u8], sheet: &[u8]) -> u32
     requires { ⌜ wellShaped (now o) ≡ true ⌝ }
     ensures { λ r. ⌜ r ≡ firstBroken (sheetRules (now (o .entry)) (now (sheet .entry))) ⌝ }
 {
-    sheet_refusal(oracle_body(o, EDGES), oracle_body(o, CLOSED), sheet)
+    sheet_refusal(oracle_body(o, EDGES), sheet)
 }
 
 // Rules 12 and 18 to 20, over an oracle that keeps 1 to 11.

@@ -17,7 +17,6 @@ ghost use Rattle.under.specs.Judged.{QuickLines, NotedThen};
 use model::Route;
 use opened::ways::write_way_itself;
 use opened::ways::write_way_to;
-use reader::oracle::CLOSED;
 use reader::oracle::EDGES;
 use reader::oracle::node_count;
 use reader::oracle::oracle_body;
@@ -26,7 +25,6 @@ use sheet::spans::note_lines;
 // Notes the lines, and writes the way from s to t at the front of the output.
 fn noted_way(
     edges: &[u8],
-    closed: &[u8],
     lines: &[u8],
     n: usize,
     s: usize,
@@ -34,14 +32,14 @@ fn noted_way(
     work: &mut [u32],
     out: &mut [u8],
 ) -> Route
-    requires { ⌜ (n ≤ maxNodes) × (s < n) × (t < n) × Enough n (now work) × IndexedEdges (now edges) (now closed) n (now work) × (2 ≤ n) ⌝ }
-    requires { ⌜ any tooSlow (leftUnder (now edges) (now closed) (now lines)) ≡ false ⌝ }
-    ensures given { λ r. ⌜ NodesGiven (wayOver (arcsUnder (now (edges .entry)) (now (closed .entry)) (now (lines .entry))) n s t) (now (out .entry)) r
+    requires { ⌜ (n ≤ maxNodes) × (s < n) × (t < n) × Enough n (now work) × IndexedEdges (now edges) n (now work) × (2 ≤ n) ⌝ }
+    requires { ⌜ any tooSlow (leftUnder (now edges) (now lines)) ≡ false ⌝ }
+    ensures given { λ r. ⌜ NodesGiven (wayOver (arcsUnder (now (edges .entry)) (now (lines .entry))) n s t) (now (out .entry)) r
         (now (out .exit)) ⌝ }
     ensures others { λ _. ⌜ NotedThen n (now (work .entry)) (now (work .exit)) ⌝ }
 {
     note_lines(lines, n, work);
-    write_way_to(edges, closed, lines, n, s, t, work, out)
+    write_way_to(edges, lines, n, s, t, work, out)
 }
 
 // The way, where no rule before 15 is broken. From a node to itself nothing is noted.
@@ -61,14 +59,5 @@ pub fn way_under_of(
     if s == t {
         return write_way_itself(s, out);
     }
-    noted_way(
-        oracle_body(o, EDGES),
-        oracle_body(o, CLOSED),
-        lines,
-        node_count(o),
-        s,
-        t,
-        work,
-        out,
-    )
+    noted_way(oracle_body(o, EDGES), lines, node_count(o), s, t, work, out)
 }

@@ -10,7 +10,7 @@ use Rattle.model.specs.Oracle.{oracle, noWalk}
 use Rattle.model.specs.Query.{timeWord}
 use Rattle.model.specs.Rules.{rule, firstBroken}
 use Rattle.model.specs.Calls.{outputAfter, sizeAfter}
-use Rattle.model.specs.Trials.{line, fork, usual, Trial, _⇒_, holds}
+use Rattle.model.specs.Trials.{line, fork, forkWithout4, usual, Trial, _⇒_, holds}
 use Rattle.model.specs.Compute.{computed}
 use Rattle.checks.specs.RuleLists.{namedRules}
 use Rattle.wages.specs.Wages
@@ -46,14 +46,14 @@ pub trials : List Trial
 trials =
     let lineOracle = oracle line (usual 6) in
     let forkOracle = oracle (fork []) (usual 6) in
-    let closedOracle = oracle (fork (4 ∷ [])) (usual 6) in
+    let withoutOracle = oracle forkWithout4 (usual 6) in
     -- Line: 0 to 2 is far, 1 to 0 local, and one place twice takes 0; nothing is touched past the sheet.
     (wages lineOracle (named (0 ∷ 2 ∷ 1 ∷ 0 ∷ 2 ∷ 2 ∷ [])) 26
     ⇒ 0 ∷ 24 ∷ 16 ∷ 0 ∷ 0 ∷ 0 ∷ 7 ∷ 0 ∷ 0 ∷ 0 ∷ 0 ∷ 0 ∷ 0 ∷ 0 ∷ 0 ∷ 0 ∷ 0 ∷ 0 ∷ 23 ∷ 0 ∷ 0 ∷ 0 ∷ 0 ∷ 0 ∷ 0 ∷ 0 ∷ 7 ∷ 7 ∷ []) ∷
     -- Fork: 0 to 4 is far; a leg entered again counts again.
     (wages forkOracle (named (0 ∷ 4 ∷ 1 ∷ 2 ∷ 0 ∷ 4 ∷ [])) 24 ⇒ sheet 24 (11 ∷ 10 ∷ 11 ∷ []) 0 32 0) ∷
-    -- Fork with road 4 closed: no walk to place 4, by the table (0) and by the roads (3). Marked legs do not count in the total.
-    (wages closedOracle (named (0 ∷ 4 ∷ 0 ∷ 3 ∷ 3 ∷ 4 ∷ [])) 26 ⇒ sheet 24 (noWalk ∷ 10 ∷ noWalk ∷ []) 2 10 2) ∷
+    -- Fork with road 4 left out: no walk to place 4, by the table (0) and by the roads (3). Marked legs do not count in the total.
+    (wages withoutOracle (named (0 ∷ 4 ∷ 0 ∷ 3 ∷ 3 ∷ 4 ∷ [])) 26 ⇒ sheet 24 (noWalk ∷ 10 ∷ noWalk ∷ []) 2 10 2) ∷
     -- No legs: twelve zeros.
     (wages lineOracle [] 13 ⇒ 0 ∷ 12 ∷ (replicate 12 0 ++ (7 ∷ []))) ∷
     -- A part of a leg that names no place: 17, for 12 does not look at it. A whole leg that names none and a part: 12.
@@ -73,5 +73,5 @@ trials =
 pub trials-hold : all holds trials ≡ true
 unfolding trials holds _⇒_ named call wages seventeen sheet refused namedRules total bytes64 timeWord sizeAfter Wages.leg Wages.legCount Wages.legs
     Wages.legNodes Wages.legsBroken Wages.legsRules Wages.openRules Wages.legTime Wages.legTimes Wages.isMarked Wages.isTime Wages.marked Wages.totalOf
-    Wages.timesBytes Wages.wagesBytes Wages.wagesRules Wages.wagesRefusal line fork computed
+    Wages.timesBytes Wages.wagesBytes Wages.wagesRules Wages.wagesRefusal line fork forkWithout4 computed
 trials-hold = refl

@@ -36,7 +36,7 @@ pub wages-rules : (o b : Bytes) (words room : ℕ) → wagesRules o b words room
 wages-rules = laws.wages-rules
 
 pub wages-order : (o b : Bytes) (words room : ℕ) → map (λ r. r .number) (wagesRules o b words room)
-    ≡ 1 ∷ 2 ∷ 3 ∷ 4 ∷ 5 ∷ 6 ∷ 7 ∷ 8 ∷ 9 ∷ 10 ∷ 11 ∷ 12 ∷ 17 ∷ 14 ∷ 15 ∷ []
+    ≡ 1 ∷ 2 ∷ 3 ∷ 4 ∷ 5 ∷ 6 ∷ 7 ∷ 21 ∷ 8 ∷ 9 ∷ 10 ∷ 11 ∷ 12 ∷ 17 ∷ 14 ∷ 15 ∷ []
 wages-order = laws.wages-order
 
 -- "12 looks at whole legs only": it is broken just where a whole leg has an end that is no node.

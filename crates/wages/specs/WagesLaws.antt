@@ -43,7 +43,7 @@ use Rattle.wages.specs.Written.{Words, time-at, marked-at, total-at}
 
 -- ---- the rules
 pub wages-order : (o b : Bytes) (words room : ℕ) → map (λ r. r .number) (wagesRules o b words room)
-    ≡ 1 ∷ 2 ∷ 3 ∷ 4 ∷ 5 ∷ 6 ∷ 7 ∷ 8 ∷ 9 ∷ 10 ∷ 11 ∷ 12 ∷ 17 ∷ 14 ∷ 15 ∷ []
+    ≡ 1 ∷ 2 ∷ 3 ∷ 4 ∷ 5 ∷ 6 ∷ 7 ∷ 21 ∷ 8 ∷ 9 ∷ 10 ∷ 11 ∷ 12 ∷ 17 ∷ 14 ∷ 15 ∷ []
 unfolding wagesRules openRules legsRules namedRules shapeRules networkRules
 wages-order o b words room = refl
 

@@ -112,8 +112,5 @@ pub fn wages_of(o: &[u8], legs: &[u8], work: &mut [u32], out: &mut [u8]) -> Outp
         return Output { rule: 15, size: 0 };
     }
     write_wages(o, legs, work, out);
-    Output {
-        rule: 0,
-        size: size as u32,
-    }
+    Output { rule: 0, size }
 }

@@ -67,19 +67,19 @@ module _ (d : ℕ → Distance) (u : ℕ) where
       step false k = rw (eq-eqb u u refl, h, k)
 
   -- ---- the arcs out of u, as a walk passes them: r is the lowest over those passed
-  pub record Lowered (edges closed lines : Bytes) (n : ℕ) (w : List ℕ) (best : ℕ) (a : ArcAt) (r : ℕ) : Type 0 where
+  pub record Lowered (edges lines : Bytes) (n : ℕ) (w : List ℕ) (best : ℕ) (a : ArcAt) (r : ℕ) : Type 0 where
     pub done : List Arc
-    pub passes : PassedArcs edges closed lines n w u done a
+    pub passes : PassedArcs edges lines n w u done a
     pub low : r ≡ leastOf best (nexts d done u)
 
-  module _ (edges closed lines : Bytes) (n : ℕ) (w : List ℕ) (best : ℕ) (a : ArcAt) where
-    pub lowered-first : PassedArcs edges closed lines n w u [] a → Lowered edges closed lines n w best a best
+  module _ (edges lines : Bytes) (n : ℕ) (w : List ℕ) (best : ℕ) (a : ArcAt) where
+    pub lowered-first : PassedArcs edges lines n w u [] a → Lowered edges lines n w best a best
     lowered-first p = record { done = []; passes = p; low = unfold nexts filter leastOf in refl }
 
-    module _ (r : ℕ) (l : Lowered edges closed lines n w best a r) where
+    module _ (r : ℕ) (l : Lowered edges lines n w best a r) where
       pub lowered-next : (left r′ : ℕ) (a′ : ArcAt) → d u ≡ finite left → r′ ≡ cond (agree (plus (finite (a .cost)) (d (a .to))) (finite left)) (min r (a .to))
-          r → SteppedArc edges closed lines n w u a a′
-          → Lowered edges closed lines n w best a′ r′
+          r → SteppedArc edges lines n w u a a′
+          → Lowered edges lines n w best a′ r′
       lowered-next left r′ a′ h e s = record {
         done = l .done ++ arcHere u a ∷ [];
         passes = s .passes (l .done) (l .passes);
@@ -88,10 +88,10 @@ module _ (d : ℕ → Distance) (u : ℕ) where
       }
 
       -- Only the set of arcs matters, and of those only the ones that leave u.
-      pub lowered-last : n ≤ a .to → r ≡ leastOf best (nexts d (arcsUnder edges closed lines) u)
+      pub lowered-last : n ≤ a .to → r ≡ leastOf best (nexts d (arcsUnder edges lines) u)
       unfolding leaving leaves
       lowered-last h =
-          let all : List Arc = arcsUnder edges closed lines in
+          let all : List Arc = arcsUnder edges lines in
           l .low ∙ least-same best (nexts d (l .done) u) (nexts d all u)
           (λ x m. nexts-part (l .done) all (λ y k e. filter→ (leaves u) all (l .passes .all h y .0 k) .0) x m)
           (λ x m. nexts-part all (l .done) (λ y k e. l .passes .all h y .1 (→filter (leaves u) all k e)) x m)

@@ -25,71 +25,55 @@ use codec::records::NO_WALK;
 use words::times::time_of;
 
 // Whether some arc that the sheet leaves leads from u to v in just the time by which v is nearer. A parallel road may serve.
-fn drives(
-    edges: &[u8],
-    closed: &[u8],
-    lines: &[u8],
-    n: usize,
-    work: &[u32],
-    u: usize,
-    v: usize,
-    left: u32,
-) -> bool
+fn drives(edges: &[u8], lines: &[u8], n: usize, work: &[u32], u: usize, v: usize, left: u32) -> bool
     requires { ⌜ (distanceIn (timesIn n (now work)) u ≡ finite left) × (n ≤ maxNodes) × Enough n (now work) × (v < n) ⌝ }
-    requires { ⌜ EdgesUnder (now edges) (now closed) (now lines) n (now work) ⌝ }
+    requires { ⌜ EdgesUnder (now edges) (now lines) n (now work) ⌝ }
     ensures { λ r. ⌜ r ≡ member v (nexts (distanceIn (timesIn n (now (work .entry))))
-        (arcsUnder (now (edges .entry)) (now (closed .entry)) (now (lines .entry))) u) ⌝ }
+        (arcsUnder (now (edges .entry)) (now (lines .entry))) u) ⌝ }
 {
-    let c = first_edge(edges, closed, n, work, u);
-    let mut a = arc_under(edges, closed, lines, n, work, u, c);
+    let c = first_edge(edges, n, work, u);
+    let mut a = arc_under(edges, lines, n, work, u, c);
     while a.to < n {
         if lower(work, n, a.to, a.cost, left, n) == v {
             return true;
         }
-        a = next_under(edges, closed, lines, n, work, u, a);
+        a = next_under(edges, lines, n, work, u, a);
     }
     false
 }
 
 // The next node after u on the old way, where that step can still be driven; the number of nodes where the way ends at u, and one more where it cannot.
-fn next_driven(edges: &[u8], closed: &[u8], lines: &[u8], n: usize, work: &[u32], u: usize) -> usize
+fn next_driven(edges: &[u8], lines: &[u8], n: usize, work: &[u32], u: usize) -> usize
     requires { ⌜ (u < n) × (n ≤ maxNodes) × Enough n (now work) × (getD (timesIn n (now work)) u 0 ≡ noWalk → ⊥) ⌝ }
-    requires { ⌜ EdgesUnder (now edges) (now closed) (now lines) n (now work) ⌝ }
-    ensures { λ r. ⌜ NextDriven (distanceIn (timesIn n (now (work .entry)))) (arcsUnder (now (edges .entry)) (now (closed .entry)) [])
-        (arcsUnder (now (edges .entry)) (now (closed .entry)) (now (lines .entry))) n u (getD (timesIn n (now (work .entry))) u 0) r ⌝ }
+    requires { ⌜ EdgesUnder (now edges) (now lines) n (now work) ⌝ }
+    ensures { λ r. ⌜ NextDriven (distanceIn (timesIn n (now (work .entry)))) (arcsUnder (now (edges .entry)) [])
+        (arcsUnder (now (edges .entry)) (now (lines .entry))) n u (getD (timesIn n (now (work .entry))) u 0) r ⌝ }
 {
     let left = time_of(work, n, u);
-    let v = next_node(edges, closed, &edges[..0], n, work, u, left);
+    let v = next_node(edges, &edges[..0], n, work, u, left);
     if v == n {
         return n;
     }
-    if drives(edges, closed, lines, n, work, u, v, left) {
+    if drives(edges, lines, n, work, u, v, left) {
         return v;
     }
     n + 1
 }
 
 // Whether there is an old way from s, and its every step can still be driven.
-pub fn still_driven(
-    edges: &[u8],
-    closed: &[u8],
-    lines: &[u8],
-    n: usize,
-    work: &[u32],
-    s: usize,
-) -> bool
+pub fn still_driven(edges: &[u8], lines: &[u8], n: usize, work: &[u32], s: usize) -> bool
     requires { ⌜ (s < n) × (n ≤ maxNodes) × Enough n (now work) ⌝ }
-    requires { ⌜ EdgesUnder (now edges) (now closed) (now lines) n (now work) ⌝ }
+    requires { ⌜ EdgesUnder (now edges) (now lines) n (now work) ⌝ }
     ensures { λ r. ⌜ r ≡ stillDriven (distanceIn (timesIn n (now (work .entry))))
-        (arcsUnder (now (edges .entry)) (now (closed .entry)) (now (lines .entry)))
-        (nodesIn (now (edges .entry)) (now (closed .entry)) [] n (now (work .entry)) s) ⌝ }
+        (arcsUnder (now (edges .entry)) (now (lines .entry)))
+        (nodesIn (now (edges .entry)) [] n (now (work .entry)) s) ⌝ }
 {
     if time_of(work, n, s) == NO_WALK {
         return false;
     }
     let mut u = s;
     while u < n {
-        u = next_driven(edges, closed, lines, n, work, u);
+        u = next_driven(edges, lines, n, work, u);
     }
     u == n
 }

@@ -39,26 +39,18 @@ pub fn lower(work: &[u32], n: usize, v: usize, cost: u64, left: u32, best: usize
 }
 
 // The lowest of the next nodes of u, over the edges as the lines of a sheet leave them, or the number of nodes where there is none.
-pub fn next_node(
-    edges: &[u8],
-    closed: &[u8],
-    lines: &[u8],
-    n: usize,
-    work: &[u32],
-    u: usize,
-    left: u32,
-) -> usize
+pub fn next_node(edges: &[u8], lines: &[u8], n: usize, work: &[u32], u: usize, left: u32) -> usize
     requires { ⌜ (distanceIn (timesIn n (now work)) u ≡ finite left) × (n ≤ maxNodes) × Enough n (now work) ⌝ }
-    requires { ⌜ EdgesUnder (now edges) (now closed) (now lines) n (now work) ⌝ }
+    requires { ⌜ EdgesUnder (now edges) (now lines) n (now work) ⌝ }
     ensures { λ r. ⌜ r ≡ leastOf n (nexts (distanceIn (timesIn n (now (work .entry))))
-        (arcsUnder (now (edges .entry)) (now (closed .entry)) (now (lines .entry))) u) ⌝ }
+        (arcsUnder (now (edges .entry)) (now (lines .entry))) u) ⌝ }
 {
     let mut r = n;
-    let c = first_edge(edges, closed, n, work, u);
-    let mut a = arc_under(edges, closed, lines, n, work, u, c);
+    let c = first_edge(edges, n, work, u);
+    let mut a = arc_under(edges, lines, n, work, u, c);
     while a.to < n {
         r = lower(work, n, a.to, a.cost, left, r);
-        a = next_under(edges, closed, lines, n, work, u, a);
+        a = next_under(edges, lines, n, work, u, a);
     }
     r
 }

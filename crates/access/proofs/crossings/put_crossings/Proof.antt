@@ -14,31 +14,31 @@ use Rattle.words.proofs.Stays.{only-then}
 use Rattle.index.proofs.Laid.{roads-only}
 
 abbrev Inv-loop : tie.InvT-loop
-Inv-loop nodes edges closed square n k work₀ v₀ work v = (length work ≡ length work₀)
-    × Put nodes edges closed square (Inside nodes edges closed square v) n k work₀ work
+Inv-loop nodes edges square n k work₀ v₀ work v = (length work ≡ length work₀)
+    × Put nodes edges square (Inside nodes edges square v) n k work₀ work
 
 abbrev μ-loop : tie.MeasureT-loop
-μ-loop nodes edges closed square n k work₀ v₀ work v = n - v
+μ-loop nodes edges square n k work₀ v₀ work v = n - v
 
 clear-requires : tie.Need-clear-requires Inv-loop μ-loop
-clear-requires c κs = let p = c .before .before .before .before .before .pre .0 in omega (arith, p .2, p .3, p .4)
+clear-requires c κs = let p = c .before .before .before .before .pre .0 in omega (arith, p .2, p .3, p .4)
 
 loop-holds : tie.Need-loop-holds Inv-loop μ-loop
-loop-holds c = (refl, inside-first _ _ _ _ _ _ _)
+loop-holds c = (refl, inside-first _ _ _ _ _ _)
 
 has-requires : tie.Need-has-requires Inv-loop μ-loop
 unfolding nodeCount
-has-requires c κs = omega (arith, c .before .before .before .before .before .before .before .before .before .before .pre .0 .0)
+has-requires c κs = omega (arith, c .before .before .before .before .before .before .before .before .before .pre .0 .0)
 
 put-crossings-at-requires : tie.Need-put-crossings-at-requires Inv-loop μ-loop
 put-crossings-at-requires c κs =
-    let s = c .before .before .before .before .before .before .before .before .before .before .before .before .before in
+    let s = c .before .before .before .before .before .before .before .before .before .before .before .before in
     let a = s .args in
     let p = s .pre in
     let l = c .before .before .before .before .loop in
     let cleared = c .before .before .before .before .before .before .before .clear in (
       (p .0 .0, p .0 .1, omega (arith, l .inv .0, cleared .kept .0, p .0 .2), search needs, p .0 .4),
-      roads-only (a .edges .now) (a .closed .now) (a .n) (a .work .now) (l .work) _ _ (p .0 .4)
+      roads-only (a .edges .now) (a .n) (a .work .now) (l .work) _ _ (p .0 .4)
           (only-then _ _ (a .work .now) _ (l .work) (cleared .ensures .1) (l .inv .1 .others)) (p .1),
     )
 
@@ -51,10 +51,10 @@ loop-less c = search needs
 loop-again : tie.Need-loop-again Inv-loop μ-loop
 loop-again c =
     let l = c .before .before .before .loop in (
-      ⊎-elim (λ w. ap length (w .5) ∙ (w .2 .kept .1 .1 .1 .1 .1 .1 .1 .0 ∙ l .inv .0)) (λ w. ap length (w .1) ∙ l .inv .0) (c .if1 .came),
+      ⊎-elim (λ w. ap length (w .5) ∙ (w .2 .kept .1 .1 .1 .1 .1 .1 .0 ∙ l .inv .0)) (λ w. ap length (w .1) ∙ l .inv .0) (c .if1 .came),
       ⊎-elim
-          (λ w. rw (w .5) (inside-next _ _ _ _ _ _ _ (l .v) (l .work) (l .inv .1) _ (w .2 .ensures)))
-          (λ w. rw (w .1) (outside-next _ _ _ _ _ _ _ (l .v) (l .work) (l .inv .1) (sym (w .0 .left) ∙ c .before .has .ensures)))
+          (λ w. rw (w .5) (inside-next _ _ _ _ _ _ (l .v) (l .work) (l .inv .1) _ (w .2 .ensures)))
+          (λ w. rw (w .1) (outside-next _ _ _ _ _ _ (l .v) (l .work) (l .inv .1) (sym (w .0 .left) ∙ c .before .has .ensures)))
           (c .if1 .came),
     )
 
@@ -63,7 +63,7 @@ same-length c = search needs
 
 returns : tie.Need-returns Inv-loop μ-loop
 returns c =
-    let s = c .before .before .before .before .before .before .before .before .before .before in
+    let s = c .before .before .before .before .before .before .before .before .before in
     let a = s .args in
     let p = s .pre .0 in
     let l = c .before .loop in

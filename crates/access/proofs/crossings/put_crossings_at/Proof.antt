@@ -10,34 +10,34 @@ use Rattle.access.proofs.crossings.put_crossings_at.Tie as tie
 use Rattle.arcs.specs.Cursor.{rank}
 
 abbrev Inv-loop : tie.InvT-loop
-Inv-loop nodes edges closed square v n k work₀ m c₀ work c = (m ≡ edgeCount edges) × (length work ≡ length work₀)
-    × Walked nodes edges closed square n k v work₀ c work
+Inv-loop nodes edges square v n k work₀ m c₀ work c = (m ≡ edgeCount edges) × (length work ≡ length work₀)
+    × Walked nodes edges square n k v work₀ c work
 
 abbrev μ-loop : tie.MeasureT-loop
-μ-loop nodes edges closed square v n k work₀ m c₀ work c = rank edges c
+μ-loop nodes edges square v n k work₀ m c₀ work c = rank edges c
 
 first-edge-requires : tie.Need-first-edge-requires Inv-loop μ-loop
 first-edge-requires c κs = search needs
 
 loop-holds : tie.Need-loop-holds Inv-loop μ-loop
 unfolding edgeCount
-loop-holds c = (refl, refl, walked-first _ _ _ _ _ _ _ _ _ (c .first-edge .ensures))
+loop-holds c = (refl, refl, walked-first _ _ _ _ _ _ _ _ (c .first-edge .ensures))
 
 put-crossing-requires : tie.Need-put-crossing-requires Inv-loop μ-loop
 put-crossing-requires c κs =
-    let p = c .before .before .before .before .before .before .before .before .before .before .pre in
+    let p = c .before .before .before .before .before .before .before .before .before .pre in
     let l = c .before .before .before .loop in
     (p .0 .0, p .1 .ends, omega (arith, l .inv .0), omega (arith, l .inv .1, p .0 .2, p .0 .3, p .0 .4))
 
 next-edge-requires : tie.Need-next-edge-requires Inv-loop μ-loop
 next-edge-requires c κs =
     let l = c .before .before .before .before .before .before .before .loop in
-    let p = c .before .before .before .before .before .before .before .before .before .before .before .before .before .before .pre in
+    let p = c .before .before .before .before .before .before .before .before .before .before .before .before .before .pre in
     let o = c .before .before .before .put-crossing .ensures .1 in (
       (search needs, search needs, search needs),
       (
-        walked-roads _ _ _ _ _ _ _ _ _ (l .work) (l .inv .2) (p .0 .4) _ o (p .1),
-        (walked-valid _ _ _ _ _ _ _ _ _ (l .work) (l .inv .2) (p .0 .4) _ o, omega (arith, l .inv .0)),
+        walked-roads _ _ _ _ _ _ _ _ (l .work) (l .inv .2) (p .0 .4) _ o (p .1),
+        (walked-valid _ _ _ _ _ _ _ _ (l .work) (l .inv .2) (p .0 .4) _ o, omega (arith, l .inv .0)),
       ),
     )
 
@@ -48,10 +48,10 @@ loop-again : tie.Need-loop-again Inv-loop μ-loop
 loop-again c =
     let put-crossing = c .before .before .before .before .put-crossing in
     let l = c .before .before .before .before .before .before .before .before .loop in
-    let p = c .before .before .before .before .before .before .before .before .before .before .before .before .before .before .before .pre in (
+    let p = c .before .before .before .before .before .before .before .before .before .before .before .before .before .before .pre in (
       l .inv .0,
       search needs,
-      walked-next _ _ _ _ _ _ _ _ _ (l .work) (l .inv .2) (p .0 .4) _ (put-crossing .ensures .1) (p .1 .ends)
+      walked-next _ _ _ _ _ _ _ _ (l .work) (l .inv .2) (p .0 .4) _ (put-crossing .ensures .1) (p .1 .ends)
           (omega (arith, l .inv .0)) (put-crossing .ensures .0) _ (c .next-edge .ensures),
     )
 
@@ -59,7 +59,7 @@ same-length : tie.Need-same-length Inv-loop μ-loop
 same-length c = search needs
 
 returns : tie.Need-returns Inv-loop μ-loop
-returns c = walked-last _ _ _ _ _ _ _ _ _ _ (c .before .before .loop .inv .2) (omega (arith, c .before .before .loop .inv .0))
+returns c = walked-last _ _ _ _ _ _ _ _ _ (c .before .before .loop .inv .2) (omega (arith, c .before .before .loop .inv .0))
 
 pub put-crossings-at-spec : {M : Type 1} → statement M
 put-crossings-at-spec =

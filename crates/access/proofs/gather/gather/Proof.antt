@@ -9,10 +9,10 @@ use Rattle.access.proofs.gather.gather.Tie as tie
 use Rattle.index.proofs.Laid.{roads-only}
 
 abbrev Inv-loop : tie.InvT-loop
-Inv-loop edges closed n work₀ left p₀ work p = Gathering (arcsIn edges closed) n work₀ p work
+Inv-loop edges n work₀ left p₀ work p = Gathering (arcsIn edges) n work₀ p work
 
 abbrev μ-loop : tie.MeasureT-loop
-μ-loop edges closed n work₀ left p₀ work p = n - p
+μ-loop edges n work₀ left p₀ work p = n - p
 
 clear-requires : tie.Need-clear-requires Inv-loop μ-loop
 clear-requires c κs = search needs
@@ -25,7 +25,7 @@ loop-holds c = first _ _ _ (c .before .before .before .before .clear .ensures .0
 
 gather-from-requires : tie.Need-gather-from-requires Inv-loop μ-loop
 gather-from-requires c κs =
-    let s = c .before .before .before .before .before .before .before .before .before .before .before .before in
+    let s = c .before .before .before .before .before .before .before .before .before .before .before in
     let clear = c .before .before .before .before .before .before .before .clear in
     let a = s .args in
     let l = c .before .before .loop in (
@@ -36,8 +36,8 @@ gather-from-requires c κs =
         wanted-left _ _ _ (l .p) (l .work) (l .inv) _ (c .before .before .before .count .ensures),
         alone-gathering _ _ _ (l .p) (l .work) (l .inv) (a .work .now) (clear .ensures .1) (s .pre .0 .3),
       ),
-      roads-gathering _ _ _ (l .p) (l .work) (l .inv) (a .edges .now) (a .closed .now)
-          (roads-only (a .edges .now) (a .closed .now) (a .n) (a .work .now) _ _ _ (omega arith) (clear .ensures .1) (s .pre .1)),
+      roads-gathering _ _ _ (l .p) (l .work) (l .inv) (a .edges .now)
+          (roads-only (a .edges .now) (a .n) (a .work .now) _ _ _ (omega arith) (clear .ensures .1) (s .pre .1)),
     )
 
 add-p : tie.Need-add-p Inv-loop μ-loop
@@ -56,7 +56,7 @@ same-length c = search needs
 
 returns : tie.Need-returns Inv-loop μ-loop
 returns c =
-    let a = c .before .before .before .before .before .before .before .before .before .before .before .args in
+    let a = c .before .before .before .before .before .before .before .before .before .before .args in
     let l = c .before .loop in
     last _ _ _ (l .p) (l .work) (l .inv) (search needs) (a .work .now) (c .before .before .before .before .before .before .clear .ensures .1)
 

@@ -11,7 +11,7 @@ has-requires c κs = search needs
 
 toward-requires : tie.Need-toward-requires
 toward-requires c κs =
-    let p = c .before .before .before .before .before .before .before .pre in
+    let p = c .before .before .before .before .before .before .pre in
     let two = p .0 .4 _ (→member _ _ _ (p .0 .1) (sym (c .before .before .has .ensures) ∙ c .before .if1 .taken)) in
     ((search needs, search needs, search needs, search needs, two), search needs)
 
@@ -24,7 +24,7 @@ same-length c = search needs
 returns : tie.Need-returns
 returns c =
     let toward = c .before .before .before .before .before .before .toward in
-    let a = c .before .before .before .before .before .before .before .before .before .before .before .before .before .before .args in
+    let a = c .before .before .before .before .before .before .before .before .before .before .before .before .before .args in
     from-start _ (a .n) (a .p) (a .work .now) (search needs) (sym (c .before .before .before .before .before .before .before .before .if1 .taken) ∙
     c .before .before .before .before .before .before .before .before .before .has .ensures) _ _ (toward .ensures .1) (toward .ensures .0)
     (c .before .before .unite .ensures .0) (c .before .before .unite .ensures .1)

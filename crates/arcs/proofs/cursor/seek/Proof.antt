@@ -1,47 +1,71 @@
--- `cursor::seek` meets its contract: no open edge is left behind from block to block.
+-- `cursor::seek` meets its contract: no edge is left behind from block to block.
+use native.Mathlib.Omega.{arith}
+use mathlib.Core.Path.{subst, sym, ap}
 use Rattle.model.specs.Network.{edgeCount}
 use Rattle.arcs.proofs.cursor.seek.Statement.{statement}
 use Rattle.arcs.proofs.cursor.seek.Tie as tie
-use Rattle.arcs.proofs.Seek.{since-self, since-then, sought-none, sought-found}
+use Rattle.arcs.proofs.Seek.{size-small, block-on, onward-self, onward-then, sought-none, sought-found}
 use Rattle.arcs.specs.Cursor.{rank}
-use Rattle.arcs.specs.Seeking.{Since}
+use Rattle.arcs.specs.Seeking.{Onward}
+use Rattle.arcs.specs.declared.cursor.Cursor.{Cursor}
 
 abbrev Inv-loop : tie.InvT-loop
-Inv-loop edges closed n work u s₀ s = Since edges closed n work u s₀ s
+Inv-loop edges n work u m b₀ b = Onward edges n work u b₀ b
 
 abbrev μ-loop : tie.MeasureT-loop
-μ-loop edges closed n work u s₀ s = rank edges s
-
-within-block-requires : tie.Need-within-block-requires Inv-loop μ-loop
-within-block-requires c κs =
-    let p = c .before .before .before .pre in
-    (p .1 .0 .rising, p .1 .1)
+μ-loop edges n work u m b₀ b = rank edges b
 
 loop-holds : tie.Need-loop-holds Inv-loop μ-loop
-loop-holds c = since-self _ _ _ _ _ _ _ (c .within-block .ensures)
+loop-holds c = onward-self _ _ _ _ _ (c .before .before .pre .1 .1)
+
+within-block-requires : tie.Need-within-block-requires Inv-loop μ-loop
+within-block-requires c κs = c .loop .inv .seeking
 
 returns : tie.Need-returns Inv-loop μ-loop
-unfolding edgeCount
 returns c =
-    sought-none _ _ _ _ _ (c .before .before .before .before .before .before .before .before .before .pre .0 .2) _ _
-    (since-then _ _ _ _ _ _ _ _ (c .before .before .before .before .before .within-block .ensures) (c .before .before .before .before .loop .inv))
-    (c .before .before .if1 .taken) (c .if2 .taken)
-
-in-next-block-requires : tie.Need-in-next-block-requires Inv-loop μ-loop
-in-next-block-requires c κs =
-    let p = c .before .before .before .before .before .before .before .before .before .pre in
-    (p .0, (p .1 .0, (c .before .before .before .before .loop .inv .seeking, c .before .before .if1 .taken, c .if2 .left)))
-
-loop-less : tie.Need-loop-less Inv-loop μ-loop
-loop-less c = c .in-next-block .ensures .1
-
-loop-again : tie.Need-loop-again Inv-loop μ-loop
-loop-again c = since-then _ _ _ _ _ _ _ _ (c .before .before .before .before .before .loop .inv) (c .in-next-block .ensures .0)
+    let t = onward-then _ _ _ _ _ _ _ (c .before .before .before .loop .inv) (c .before .before .within-block .ensures) in
+    sought-found _ _ _ _ (c .before .before .before .before .before .before .pre .0 .2) _ _ t (c .if1 .taken)
 
 returns-2 : tie.Need-returns-2 Inv-loop μ-loop
+unfolding edgeCount
 returns-2 c =
-    sought-found _ _ _ _ _ (c .before .before .before .before .before .before .before .pre .0 .2) _ _
-    (since-then _ _ _ _ _ _ _ _ (c .before .before .before .within-block .ensures) (c .before .before .loop .inv)) (c .if1 .left)
+    let t = onward-then _ _ _ _ _ _ _ (c .before .before .before .before .before .loop .inv) (c .before .before .before .before .within-block .ensures) in
+    sought-none _ _ _ _ (c .before .before .before .before .before .before .before .before .pre .0 .2) _ _ t (c .before .before .if1 .left)
+    (c .if2 .taken)
+
+block-at-requires : tie.Need-block-at-requires Inv-loop μ-loop
+block-at-requires c κs =
+    let p = c .before .before .before .before .before .before .before .before .pre in
+    let s = c .before .before .before .before .within-block .ensures .seeking in
+    (p .0 .0, p .0 .1, s .link (c .if2 .left), size-small _ _ _ _ (p .1 .0) (p .0 .2) _ s)
+
+loop-less : tie.Need-loop-less Inv-loop μ-loop
+unfolding edgeCount
+loop-less c =
+    let a = c .before .before .before .before .before .before .before .before .before .args in
+    let p = c .before .before .before .before .before .before .before .before .before .pre in
+    let t = c .before .before .before .before .before .within-block .ensures in
+    let stopped = c .before .before .before .if1 .left in
+    let more = c .before .if2 .left in
+    omega (
+      arith,
+      ap (rank (a .edges .now)) (c .block-at .ensures),
+      block-on (a .edges .now) (a .n) (a .work .now) (a .u) (p .1 .0) (p .0 .2) _ (t .seeking) stopped more _ t .1,
+      t .less,
+    )
+
+loop-again : tie.Need-loop-again Inv-loop μ-loop
+unfolding edgeCount
+loop-again c =
+    let a = c .before .before .before .before .before .before .before .before .before .args in
+    let p = c .before .before .before .before .before .before .before .before .before .pre in
+    let reached = c .before .before .before .before .before .before .loop .inv in
+    let t = onward-then _ _ _ _ _ _ _ reached (c .before .before .before .before .before .within-block .ensures) in
+    let stopped = c .before .before .before .if1 .left in
+    let more = c .before .if2 .left in
+    let is = c .block-at .ensures in
+    subst (λ (z : Cursor). Onward (a .edges .now) (a .n) (a .work .now) (a .u) (a .c) z) (sym is)
+    (block-on (a .edges .now) (a .n) (a .work .now) (a .u) (p .1 .0) (p .0 .2) _ (t .seeking) stopped more _ t .0)
 
 pub seek-spec : {M : Type 1} → statement M
 seek-spec =
@@ -49,10 +73,10 @@ seek-spec =
     (tie.spec
     Inv-loop
     μ-loop
-    within-block-requires
     loop-holds
+    within-block-requires
     returns
-    in-next-block-requires
+    returns-2
+    block-at-requires
     loop-less
-    loop-again
-    returns-2)
+    loop-again)

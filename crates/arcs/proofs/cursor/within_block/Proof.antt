@@ -4,13 +4,13 @@ use Rattle.arcs.proofs.cursor.within_block.Statement.{statement}
 use Rattle.arcs.proofs.cursor.within_block.Tie as tie
 use Rattle.arcs.proofs.Seek.{since-within}
 
-first-open-requires : tie.Need-first-open-requires
-first-open-requires c κs = search needs
+first-incident-requires : tie.Need-first-incident-requires
+first-incident-requires c κs = search needs
 
 returns : tie.Need-returns
 returns c =
-    let s = c .before .before .before .before in
-    since-within _ _ _ _ _ (s .args .c) _ (s .pre .1) (c .first-open .ensures)
+    let s = c .before .before .before in
+    since-within _ _ _ _ (s .args .c) _ (s .pre) (c .first-incident .ensures)
 
 pub within-block-spec : {M : Type 1} → statement M
-within-block-spec = tie.close (tie.spec first-open-requires returns)
+within-block-spec = tie.close (tie.spec first-incident-requires returns)

@@ -6,14 +6,14 @@ use Rattle.arcs.proofs.leaving.arc_under.Tie as tie
 use Rattle.arcs.proofs.Passes.{no-bytes, first-arc-here}
 
 arc-at-requires : tie.Need-arc-at-requires
-arc-at-requires c κs = let p = c .before .before .before .before .before .pre in (p .1 .0 .roads .ends, λ l. p .1 .1 .here l .end)
+arc-at-requires c κs = let p = c .before .before .before .before .pre in (p .1 .0 .roads .ends, λ l. p .1 .1 .here l .end)
 
 returns : tie.Need-returns
 returns c =
-    let p = c .before .before .before .before .before .before .pre in
+    let p = c .before .before .before .before .before .pre in
     let e = c .arc-at .ensures in
-    rw (no-bytes (c .before .before .before .before .before .before .args .lines .now) (c .before .if1 .taken))
-    (first-arc-here _ _ _ _ _ _ _ _ (e .0) (p .1 .1) (λ z. omega (arith, z, e .1)))
+    rw (no-bytes (c .before .before .before .before .before .args .lines .now) (c .before .if1 .taken))
+    (first-arc-here _ _ _ _ _ _ _ (e .0) (p .1 .1) (λ z. omega (arith, z, e .1)))
 
 first-left-requires : tie.Need-first-left-requires
 first-left-requires c κs = search needs

@@ -5,11 +5,11 @@ use Rattle.arcs.proofs.leaving.next_under.Tie as tie
 use Rattle.arcs.proofs.Passes.{no-bytes}
 
 next-arc-requires : tie.Need-next-arc-requires
-next-arc-requires c κs = let p = c .before .before .before .before .before .pre in
-    (p .0, (p .1 .0 .roads, (rw (no-bytes (c .before .before .before .before .before .args .lines .now) (c .if1 .taken)) at (p .1 .1 .0), p .1 .1 .1)))
+next-arc-requires c κs = let p = c .before .before .before .before .pre in
+    (p .0, (p .1 .0 .roads, (rw (no-bytes (c .before .before .before .before .args .lines .now) (c .if1 .taken)) at (p .1 .1 .0), p .1 .1 .1)))
 
 returns : tie.Need-returns
-returns c = rw (no-bytes (c .before .before .before .before .before .before .args .lines .now) (c .before .if1 .taken)) (c .next-arc .ensures)
+returns c = rw (no-bytes (c .before .before .before .before .before .args .lines .now) (c .before .if1 .taken)) (c .next-arc .ensures)
 
 left-after-requires : tie.Need-left-after-requires
 left-after-requires c κs = search needs

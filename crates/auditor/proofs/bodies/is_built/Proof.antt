@@ -27,20 +27,16 @@ body-requires-4 c κs = c .before .before .before .oracle-contents .ensures _ (o
 body-requires-5 : tie.Need-body-requires-5
 body-requires-5 c κs = c .before .before .before .before .oracle-contents .ensures _ (omega arith)
 
-body-requires-6 : tie.Need-body-requires-6
-body-requires-6 c κs = c .before .before .before .before .before .oracle-contents .ensures _ (omega arith)
-
 same-bodies-requires : tie.Need-same-bodies-requires
 same-bodies-requires c κs =
-    let s = c .before .before .before .before .before .before .before .before .before .before .before in
+    let s = c .before .before .before .before .before .before .before .before .before .before in
     let a = s .args in
     let p = s .pre in
-    let grid = c .before .before .before .before .before .before .before .before .grid-of in
-    let body = c .before .before .before .before .before .before .body in
-    let body2 = c .before .before .before .before .before .body2 in
-    let body3 = c .before .before .before .before .body3 in
-    let body5 = c .before .before .body5 in
-    bodies-asked (a .o .now) (p .0) (grid .result) (grid .ensures) _ _ _ (body .ensures) (body2 .ensures) (body3 .ensures) _ (body5 .ensures) (a .n) _ (p .1)
+    let grid = c .before .before .before .before .before .before .before .grid-of in
+    let body = c .before .before .before .before .before .body in
+    let body2 = c .before .before .before .before .body2 in
+    let body4 = c .before .before .body4 in
+    bodies-asked (a .o .now) (p .0) (grid .result) (grid .ensures) _ _ (body .ensures) (body2 .ensures) _ (body4 .ensures) (a .n) _ (p .1)
     (p .2)
 
 same-length : tie.Need-same-length
@@ -48,23 +44,22 @@ same-length c = search needs
 
 returns : tie.Need-returns
 returns c =
-    let s = c .before .before .before .before .before .before .before .before .before .before .before .before .before .before in
+    let s = c .before .before .before .before .before .before .before .before .before .before .before .before .before in
     let a = s .args in
     let p = s .pre in
-    let shared-slice-known = c .before .before .before .before .before .before .before .before .before .before .before .before .before .shared-slice-known in
-    let grid = c .before .before .before .before .before .before .before .before .before .before .before .grid-of in
-    let body = c .before .before .before .before .before .before .before .before .before .body in
-    let body2 = c .before .before .before .before .before .before .before .before .body2 in
-    let body3 = c .before .before .before .before .before .before .before .body3 in
-    let body4 = c .before .before .before .before .before .before .body4 in
-    let body5 = c .before .before .before .before .before .body5 in
-    let body6 = c .before .before .before .before .body6 in
+    let shared-slice-known = c .before .before .before .before .before .before .before .before .before .before .before .before .shared-slice-known in
+    let grid = c .before .before .before .before .before .before .before .before .before .before .grid-of in
+    let body = c .before .before .before .before .before .before .before .before .body in
+    let body2 = c .before .before .before .before .before .before .before .body2 in
+    let body3 = c .before .before .before .before .before .before .body3 in
+    let body4 = c .before .before .before .before .before .body4 in
+    let body5 = c .before .before .before .before .body5 in
     let same-bodies = c .before .before .same-bodies in
     let bytes = shared-slice-known .given in
     let same = same-bodies .ensures in
     let of-grid = bodies-told (a .o .now) (p .0) (grid .result) (grid .ensures) in
-    let told = of-grid _ _ _ (body .ensures) (body2 .ensures) (body3 .ensures) _ (body5 .ensures) (λ i. omega (arith, bytes i)) _ _ (body4 .ensures)
-    (body6 .ensures) in
+    let told = of-grid _ _ (body .ensures) (body2 .ensures) _ (body4 .ensures) (λ i. omega (arith, bytes i)) _ _ (body3 .ensures)
+    (body5 .ensures) in
     (same .0 ∙ told, same .1)
 
 pub is-built-spec : {M : Type 1} → statement M
@@ -78,7 +73,6 @@ is-built-spec =
     body-requires-3
     body-requires-4
     body-requires-5
-    body-requires-6
     same-bodies-requires
     same-length
     returns)

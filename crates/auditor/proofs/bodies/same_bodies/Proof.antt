@@ -12,12 +12,12 @@ use Rattle.auditor.proofs.bodies.same_bodies.Statement.{statement}
 use Rattle.auditor.proofs.bodies.same_bodies.Tie as tie
 
 build-index-requires : tie.Need-build-index-requires
-build-index-requires c κs = let p = c .before .before .before .before .before .before .before .before .pre in
-    ((p .2, p .3), (rw (p .1) (p .0 .edges-rule), p .0 .closed-rule))
+build-index-requires c κs = let p = c .before .before .before .before .before .before .before .pre in
+    ((p .2, p .3), rw (p .1) (p .0 .edges-rule))
 
 mark-transit-requires : tie.Need-mark-transit-requires
 mark-transit-requires c κs =
-    let p = c .before .before .before .before .before .before .before .before .before .before .before .before .pre in
+    let p = c .before .before .before .before .before .before .before .before .before .before .before .pre in
     ((p .0, p .1, p .2, omega arith, p .5), c .before .before .before .build-index .ensures .0)
 
 same-transit-requires : tie.Need-same-transit-requires
@@ -28,21 +28,20 @@ same-length c = search needs
 
 returns : tie.Need-returns
 returns c =
-    let s = c .before .before .before .before .before .before .before .before .before .before .before .before .before .before .before .before .before .before in
+    let s = c .before .before .before .before .before .before .before .before .before .before .before .before .before .before .before .before .before in
     let p = s .pre in
     let mark-transit = c .before .before .before .before .before .mark-transit in
     let build-index = c .before .before .before .before .before .before .before .before .before .build-index in
     let a = s .args in (
-      first-differs (a .nodes .now) (a .edges .now) (a .closed .now) (a .grid) (a .n) (p .1) (a .transit .now) (a .access .now) (a .table .now) _
+      first-differs (a .nodes .now) (a .edges .now) (a .grid) (a .n) (p .1) (a .transit .now) (a .access .now) (a .table .now) _
           (mark-transit .ensures .0) (sym (c .before .same-transit .ensures) ∙ not-true _ (c .if1 .taken)),
-      rest-marked (a .edges .now) (a .closed .now) (a .n) (p .5) (a .work .now) _ _ (build-index .ensures .0) (build-index .ensures .1 .1)
+      rest-marked (a .edges .now) (a .n) (p .5) (a .work .now) _ _ (build-index .ensures .0) (build-index .ensures .1 .1)
           (mark-transit .ensures .1 .1),
     )
 
 same-lists-requires : tie.Need-same-lists-requires
 same-lists-requires c κs =
-    let s = c .before .before .before .before .before .before .before .before .before .before .before .before .before .before .before .before .before .before
-    .before in
+    let s = c .before .before .before .before .before .before .before .before .before .before .before .before .before .before .before .before .before .before in
     let mark-transit = c .before .before .before .before .before .before .mark-transit in
     let build-index = c .before .before .before .before .before .before .before .before .before .before .build-index in
     let a = s .args in
@@ -50,7 +49,7 @@ same-lists-requires c κs =
       (p .0, p .1, p .2, omega arith, p .4),
       (
         mark-transit .ensures .0,
-        roads-marked (a .edges .now) (a .closed .now) (a .n) (p .5) (a .work .now) _ _ (build-index .ensures .0) (build-index .ensures .1 .1)
+        roads-marked (a .edges .now) (a .n) (p .5) (a .work .now) _ _ (build-index .ensures .0) (build-index .ensures .1 .1)
             (mark-transit .ensures .1 .1),
       ),
     )
@@ -60,25 +59,25 @@ same-length-2 c = search needs
 
 returns-2 : tie.Need-returns-2
 returns-2 c =
-    let s = c .before .before .before .before .before .before .before .before .before .before .before .before .before .before .before .before .before .before
+    let s = c .before .before .before .before .before .before .before .before .before .before .before .before .before .before .before .before .before
     .before .before .before .before .before in
     let p = s .pre in
     let mark-transit = c .before .before .before .before .before .before .before .before .before .before .mark-transit in
     let same-lists = c .before .before .before .same-lists in
     let build-index = c .before .before .before .before .before .before .before .before .before .before .before .before .before .before .build-index in
     let a = s .args in
-    let first = first-same (a .nodes .now) (a .edges .now) (a .closed .now) (a .grid) (a .n) (p .1) (a .transit .now) (a .access .now) (a .table .now) _
+    let first = first-same (a .nodes .now) (a .edges .now) (a .grid) (a .n) (p .1) (a .transit .now) (a .access .now) (a .table .now) _
     (mark-transit .ensures .0) (sym (c .before .before .before .before .before .before .same-transit .ensures) ∙ not-false _
     (c .before .before .before .before .before .if1 .left)) in (
-      second-differs (a .nodes .now) (a .edges .now) (a .closed .now) (a .grid) (a .n) (p .1) (a .transit .now) (a .access .now) (a .table .now) _
+      second-differs (a .nodes .now) (a .edges .now) (a .grid) (a .n) (p .1) (a .transit .now) (a .access .now) (a .table .now) _
           (mark-transit .ensures .0) first (sym (same-lists .ensures .0) ∙ not-true _ (c .if2 .taken)),
-      rest-passed (a .edges .now) (a .closed .now) (a .n) (p .5) (a .work .now) _ _ (build-index .ensures .0) (build-index .ensures .1 .1)
+      rest-passed (a .edges .now) (a .n) (p .5) (a .work .now) _ _ (build-index .ensures .0) (build-index .ensures .1 .1)
           (mark-transit .ensures .1 .1) _ (same-lists .ensures .1),
     )
 
 mul-size : tie.Need-mul-size
 mul-size c =
-    let s = c .before .before .before .before .before .before .before .before .before .before .before .before .before .before .before .before .before .before
+    let s = c .before .before .before .before .before .before .before .before .before .before .before .before .before .before .before .before .before
     .before .before .before .before .before in
     let a = s .args in
     omega (
@@ -90,9 +89,9 @@ mul-size c =
 
 same-table-requires : tie.Need-same-table-requires
 same-table-requires c κs =
-    let a = c .before .before .before .before .before .before .before .before .before .before .before .before .before .before .before .before .before .before
+    let a = c .before .before .before .before .before .before .before .before .before .before .before .before .before .before .before .before .before
     .before .before .before .before .before .before .args in
-    let p = c .before .before .before .before .before .before .before .before .before .before .before .before .before .before .before .before .before .before
+    let p = c .before .before .before .before .before .before .before .before .before .before .before .before .before .before .before .before .before
     .before .before .before .before .before .before .pre in
     let build-index = c .before .before .before .before .before .before .before .before .before .before .before .before .before .before .before .build-index in
     let mark-transit = c .before .before .before .before .before .before .before .before .before .before .before .mark-transit in
@@ -105,9 +104,9 @@ same-table-requires c κs =
             not-false _ (c .before .before .before .before .before .before .if1 .left)) _ same,
       ),
       (
-        roads-passed (a .edges .now) (a .closed .now) (a .n) (p .5) (a .work .now) _ _ (build-index .ensures .0) (build-index .ensures .1 .1)
+        roads-passed (a .edges .now) (a .n) (p .5) (a .work .now) _ _ (build-index .ensures .0) (build-index .ensures .1 .1)
             (mark-transit .ensures .1 .1) _ (same-lists .ensures .1),
-        transit-alone (a .nodes .now) (a .edges .now) (a .closed .now) (a .grid) (a .n) (p .1) (p .0) transit _
+        transit-alone (a .nodes .now) (a .edges .now) (a .grid) (a .n) (p .1) (p .0) transit _
             (same ∙ mark-transit .ensures .0),
       ),
     )
@@ -117,7 +116,7 @@ same-length-3 c = search needs
 
 returns-3 : tie.Need-returns-3
 returns-3 c =
-    let s = c .before .before .before .before .before .before .before .before .before .before .before .before .before .before .before .before .before .before
+    let s = c .before .before .before .before .before .before .before .before .before .before .before .before .before .before .before .before .before
     .before .before .before .before .before .before .before .before .before in
     let p = s .pre in
     let mark-transit = c .before .before .before .before .before .before .before .before .before .before .before .before .before .before .mark-transit in
@@ -126,13 +125,13 @@ returns-3 c =
     c .before .before .before .before .before .before .before .before .before .before .before .before .before .before .before .before .before .before
     .build-index in
     let a = s .args in
-    let first = first-same (a .nodes .now) (a .edges .now) (a .closed .now) (a .grid) (a .n) (p .1) (a .transit .now) (a .access .now) (a .table .now) _
+    let first = first-same (a .nodes .now) (a .edges .now) (a .grid) (a .n) (p .1) (a .transit .now) (a .access .now) (a .table .now) _
     (mark-transit .ensures .0) (sym (c .before .before .before .before .before .before .before .before .before .before .same-transit .ensures) ∙ not-false _
     (c .before .before .before .before .before .before .before .before .before .if1 .left)) in (
-      third-tells (a .nodes .now) (a .edges .now) (a .closed .now) (a .grid) (a .n) (p .1) (a .transit .now) (a .access .now) (a .table .now) _
+      third-tells (a .nodes .now) (a .edges .now) (a .grid) (a .n) (p .1) (a .transit .now) (a .access .now) (a .table .now) _
           (transit-kept (a .n) _ _ (same-lists .ensures .1) ∙ mark-transit .ensures .0) first
           (sym (same-lists .ensures .0) ∙ not-false _ (c .before .before .before .before .if2 .left)) _ (c .before .before .same-table .ensures .0),
-      rest-last (a .edges .now) (a .closed .now) (a .n) (p .5) (a .work .now) _ _ (build-index .ensures .0) (build-index .ensures .1 .1)
+      rest-last (a .edges .now) (a .n) (p .5) (a .work .now) _ _ (build-index .ensures .0) (build-index .ensures .1 .1)
           (mark-transit .ensures .1 .1) _ (same-lists .ensures .1) _ (c .before .before .same-table .ensures .1),
     )
 

@@ -8,7 +8,7 @@ use Rattle.passes.proofs.Seeking.{among-later}
 
 search-own-requires : tie.Need-search-own-requires
 search-own-requires c κs =
-    let p = c .before .before .before .before .before .pre in
+    let p = c .before .before .before .before .pre in
     (search needs, search needs, search needs, p .0 .5, p .1)
 
 list-part-requires : tie.Need-list-part-requires
@@ -16,7 +16,7 @@ list-part-requires c κs = search needs
 
 is-list-requires : tie.Need-is-list-requires
 is-list-requires c κs =
-    let s = c .before .before .before .before .before .before .before .before .before .before in
+    let s = c .before .before .before .before .before .before .before .before .before in
     let a = s .args in
     (search needs, search needs, among-later (a .n) (a .work .now) _ (c .before .before .before .before .search-own .ensures .1) (s .pre .0 .3), search needs)
 

@@ -14,21 +14,21 @@ use Rattle.auditor.proofs.lists.same_in_cell.Statement.{statement}
 use Rattle.auditor.proofs.lists.same_in_cell.Tie as tie
 
 abbrev Inv-loop : tie.InvT-loop
-Inv-loop nodes edges closed grid access n u left work₀ square v₀ work v =
-    KeptSets n work₀ work × (all (sameBeside nodes edges closed grid access u) (upTo n) ≡ all (sameBeside nodes edges closed grid access u) (rest v n))
+Inv-loop nodes edges grid access n u left work₀ square v₀ work v =
+    KeptSets n work₀ work × (all (sameBeside nodes edges grid access u) (upTo n) ≡ all (sameBeside nodes edges grid access u) (rest v n))
 
 abbrev μ-loop : tie.MeasureT-loop
-μ-loop nodes edges closed grid access n u left work₀ square v₀ work v = n - v
+μ-loop nodes edges grid access n u left work₀ square v₀ work v = n - v
 
 cell-square-requires : tie.Need-cell-square-requires Inv-loop μ-loop
-cell-square-requires c κs = let p = c .before .before .before .before .before .pre .0 in (p .0 .over, rw (← p .1) (p .3))
+cell-square-requires c κs = let p = c .before .before .before .before .pre .0 in (p .0 .over, rw (← p .1) (p .3))
 
 loop-holds : tie.Need-loop-holds Inv-loop μ-loop
 loop-holds c = (kept-same _ _, left-all _ _)
 
 same-beside-requires : tie.Need-same-beside-requires Inv-loop μ-loop
 same-beside-requires c κs =
-    let s = c .before .before .before .before .before .before .before .before .before in
+    let s = c .before .before .before .before .before .before .before .before in
     let a = s .args in
     let p = s .pre in
     let l = c .before .before .loop in (
@@ -49,7 +49,7 @@ same-beside-requires c κs =
         ),
         (
           sought-later (a .n) (a .left) (a .work .now) (p .1 .1 .0) (l .work) (l .inv .0 .behind),
-          roads-behind (a .n) (a .work .now) (l .work) (l .inv .0 .behind) (a .edges .now) (a .closed .now) (p .1 .1 .1),
+          roads-behind (a .n) (a .work .now) (l .work) (l .inv .0 .behind) (a .edges .now) (p .1 .1 .1),
         ),
       ),
     )

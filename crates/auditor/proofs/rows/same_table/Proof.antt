@@ -12,17 +12,17 @@ use Rattle.auditor.proofs.rows.same_table.Statement.{statement}
 use Rattle.auditor.proofs.rows.same_table.Tie as tie
 
 abbrev Inv-loop : tie.InvT-loop
-Inv-loop edges closed n size table work₀ at₀ v₀ work at v = RowsLeft (arcsIn edges closed) n table work₀ v at work
+Inv-loop edges n size table work₀ at₀ v₀ work at v = RowsLeft (arcsIn edges) n table work₀ v at work
 
 abbrev μ-loop : tie.MeasureT-loop
-μ-loop edges closed n size table work₀ at₀ v₀ work at v = n - v
+μ-loop edges n size table work₀ at₀ v₀ work at v = n - v
 
 loop-holds : tie.Need-loop-holds Inv-loop μ-loop
 loop-holds c = rows-first _ _ _ _
 
 same-from-requires : tie.Need-same-from-requires Inv-loop μ-loop
 same-from-requires c κs =
-    let s = c .before .before .before .before .before .before .before in
+    let s = c .before .before .before .before .before .before in
     let p = s .pre in
     let a = s .args in
     let l = c .before .before .loop in (
@@ -34,7 +34,7 @@ same-from-requires c κs =
         l .inv .left .within,
       ),
       (
-        roads-behind (a .n) (a .work .now) (l .work) (l .inv .kept .behind) (a .edges .now) (a .closed .now) (p .1 .0),
+        roads-behind (a .n) (a .work .now) (l .work) (l .inv .kept .behind) (a .edges .now) (p .1 .0),
         alone-later (a .n) transit (a .work .now) (l .work) (omega arith) (l .inv .kept .behind) (p .1 .1),
       ),
     )

@@ -63,8 +63,8 @@ want-end-requires c κs =
 
 add-left : tie.Need-add-left Inv-loop μ-loop
 add-left c =
-    let a = c .before .before .before .before .before .before .before .before .before .before .before .before .before .before .before .before .before .before
-    .before .args in
+    let a = c .before .before .before .before .before .before .before .before .before .before .before .before .before .before .before .before .before
+    .before .before .args in
     let l = c .before .before .before .before .before .before .loop in
     omega (arith, c .before .before .want-end .ensures .0 (a .ends .now) (l .j) (l .left) refl (l .inv .2) .fits)
 
@@ -76,8 +76,8 @@ loop-less c = search needs
 
 loop-again : tie.Need-loop-again Inv-loop μ-loop
 loop-again c =
-    let a = c .before .before .before .before .before .before .before .before .before .before .before .before .before .before .before .before .before .before
-    .before .args in
+    let a = c .before .before .before .before .before .before .before .before .before .before .before .before .before .before .before .before .before
+    .before .before .args in
     let l = c .before .before .before .before .before .before .loop in
     let w = c .before .before .want-end .ensures in
     (omega arith, opened-kept _ _ _ (l .inv .1) (search needs) (w .1), w .0 (a .ends .now) (l .j) (l .left) refl (l .inv .2), search needs, w .1 ∙ l .inv .4)

@@ -7,14 +7,14 @@ use Rattle.bodies.proofs.listing.list_beside.Statement.{statement}
 use Rattle.bodies.proofs.listing.list_beside.Tie as tie
 
 beside-requires : tie.Need-beside-requires
-beside-requires c κs = omega (arith, c .before .before .before .before .before .pre .0 .0 .count)
+beside-requires c κs = omega (arith, c .before .before .before .before .pre .0 .0 .count)
 
 put-list-requires : tie.Need-put-list-requires
 put-list-requires c κs =
-    let s = c .before .before .before .before .before .before .before .before .before in
+    let s = c .before .before .before .before .before .before .before .before in
     let p = s .pre in
     let a = s .args in
-    list-room (a .nodes .now) (a .edges .now) (a .closed .now) (a .grid) (a .n) (a .work .now) (p .0 .0) (a .u) (a .v) (p .0 .1) (p .0 .2) (p .1 .0 .0)
+    list-room (a .nodes .now) (a .edges .now) (a .grid) (a .n) (a .work .now) (p .0 .0) (a .u) (a .v) (p .0 .1) (p .0 .2) (p .1 .0 .0)
     (a .body .now) (p .1 .1) (sym (c .before .before .before .beside .ensures _ _ (p .0 .3)) ∙ c .before .before .if1 .taken) (a .left) (p .1 .0 .1)
 
 same-length : tie.Need-same-length
@@ -25,11 +25,11 @@ same-length-2 c = search needs
 
 returns : tie.Need-returns
 returns c =
-    let s = c .before .before .before .before .before .before .before .before .before .before .before .before .before .before in
+    let s = c .before .before .before .before .before .before .before .before .before .before .before .before .before in
     let p = s .pre in
     let put-list = c .before .before .before .before .put-list in
     let a = s .args in (
-      list-done (a .nodes .now) (a .edges .now) (a .closed .now) (a .grid) (a .n) (a .work .now) (p .0 .0) (a .u) (a .v) (p .0 .1) (p .0 .2) (p .1 .0 .0)
+      list-done (a .nodes .now) (a .edges .now) (a .grid) (a .n) (a .work .now) (p .0 .0) (a .u) (a .v) (p .0 .1) (p .0 .2) (p .1 .0 .0)
           (a .body .now) (p .1 .1) (sym (c .before .before .before .before .before .before .before .before .beside .ensures _ _ (p .0 .3)) ∙
           c .before .before .before .before .before .before .before .if1 .taken) _ (put-list .ensures .0),
       put-list .ensures .1,
@@ -37,10 +37,10 @@ returns c =
 
 returns-2 : tie.Need-returns-2
 returns-2 c =
-    let s = c .before .before .before .before .before .before .before in
+    let s = c .before .before .before .before .before .before in
     let p = s .pre in
     let a = s .args in (
-      list-other (a .nodes .now) (a .edges .now) (a .closed .now) (a .grid) (a .n) (a .work .now) (p .0 .0) (a .u) (a .v) (p .0 .1) (p .0 .2) (p .1 .0 .0)
+      list-other (a .nodes .now) (a .edges .now) (a .grid) (a .n) (a .work .now) (p .0 .0) (a .u) (a .v) (p .0 .1) (p .0 .2) (p .1 .0 .0)
           (a .body .now) (p .1 .1) (sym (c .before .beside .ensures _ _ (p .0 .3)) ∙ c .if1 .left),
       refl,
     )

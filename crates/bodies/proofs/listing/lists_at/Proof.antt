@@ -22,9 +22,9 @@ returns c = search needs
 
 returns-2 : tie.Need-returns-2
 returns-2 c =
-    let s = c .before .before .before .before .before .before .before in
+    let s = c .before .before .before .before .before .before in
     let a = s .args in (
-      listed-later (a .nodes .now) (a .edges .now) (a .closed .now) (a .grid) (a .n) (a .body .now) (a .u)
+      listed-later (a .nodes .now) (a .edges .now) (a .grid) (a .n) (a .body .now) (a .u)
           (sym (c .before .first-of-cell .ensures) ∙ c .if1 .left) (s .pre .2),
       refl,
     )

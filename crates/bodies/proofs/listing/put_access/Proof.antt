@@ -7,23 +7,23 @@ use Rattle.bodies.proofs.listing.put_access.Tie as tie
 
 put-starts-requires : tie.Need-put-starts-requires
 put-starts-requires c κs =
-    let s = c .before .before .before .before .before .before .before in
+    let s = c .before .before .before .before .before .before in
     let p = s .pre in
     let a = s .args in (
       p .0 .0 .words,
-      starts-fit (a .nodes .now) (a .edges .now) (a .closed .now) (a .grid) (a .n) (a .work .now) (p .0 .0) (p .0 .1) (a .body .now) (p .1 .0),
-      counted-all (a .nodes .now) (a .edges .now) (a .closed .now) (a .grid) (a .n) (a .work .now) (p .0 .0) (p .0 .1),
+      starts-fit (a .nodes .now) (a .edges .now) (a .grid) (a .n) (a .work .now) (p .0 .0) (p .0 .1) (a .body .now) (p .1 .0),
+      counted-all (a .nodes .now) (a .edges .now) (a .grid) (a .n) (a .work .now) (p .0 .0) (p .0 .1),
       p .0 .0 .some,
     )
 
 put-lists-requires : tie.Need-put-lists-requires
 put-lists-requires c κs =
-    let s = c .before .before .before .before .before .before .before .before .before .before .before .before in
+    let s = c .before .before .before .before .before .before .before .before .before .before .before in
     let p = s .pre in
     let a = s .args in (
       p .0 .0,
-      listed-first (a .nodes .now) (a .edges .now) (a .closed .now) (a .grid) (a .n) _
-          (begun-first (a .nodes .now) (a .edges .now) (a .closed .now) (a .grid) (a .n) (a .work .now) (p .0 .0) (p .0 .1) (a .body .now) (p .1 .0) _
+      listed-first (a .nodes .now) (a .edges .now) (a .grid) (a .n) _
+          (begun-first (a .nodes .now) (a .edges .now) (a .grid) (a .n) (a .work .now) (p .0 .0) (p .0 .1) (a .body .now) (p .1 .0) _
           (c .before .before .before .before .put-starts .ensures) (p .1 .1)),
     )
 

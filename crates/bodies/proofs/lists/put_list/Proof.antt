@@ -11,19 +11,19 @@ use Rattle.bodies.proofs.lists.put_list.Tie as tie
 
 search-own-requires : tie.Need-search-own-requires
 search-own-requires c κs =
-    let p = c .before .before .before .before .before .pre in
+    let p = c .before .before .before .before .pre in
     (search needs, search needs, search needs, p .0 .4, p .1 .0)
 
 list-size-requires : tie.Need-list-size-requires
 list-size-requires c κs =
-    let s = c .before .before .before .before .before .before .before .before in
+    let s = c .before .before .before .before .before .before .before in
     let p = s .pre in
     let a = s .args in
     omega (arith, p .0 .0, members-few (a .n) 4 (a .work .now), p .0 .4 .count)
 
 put-own-requires : tie.Need-put-own-requires
 put-own-requires c κs =
-    let s = c .before .before .before .before .before .before .before .before .before .before .before in
+    let s = c .before .before .before .before .before .before .before .before .before .before in
     let p = s .pre in
     let a = s .args in
     let e = c .before .before .before .before .before .search-own .ensures .1 in (
@@ -45,7 +45,7 @@ same-length-2 c = search needs
 
 returns : tie.Need-returns
 returns c =
-    let a = c .before .before .before .before .before .before .before .before .before .before .before .before .before .before .args in
+    let a = c .before .before .before .before .before .before .before .before .before .before .before .before .before .args in
     let s = c .before .before .before .before .before .before .before .before .search-own .ensures in
     (c .before .before .put-own .ensures ∙ ap (λ (l : Bytes). splice (listStart (a .body .now) (a .v)) l (a .body .now)) (s .0), s .1)
 

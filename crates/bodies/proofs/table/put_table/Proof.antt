@@ -18,23 +18,23 @@ use Rattle.index.proofs.Laid.{roads-from}
 use Rattle.words.proofs.Windows.{region-later}
 
 abbrev Inv-loop : tie.InvT-loop
-Inv-loop edges closed n t work₀ out₀ at₀ v₀ work out at v =
+Inv-loop edges n t work₀ out₀ at₀ v₀ work out at v =
     (length work ≡ length work₀) × (length out ≡ length out₀) × (KeptFrom (searchWords n) work₀ work) × Written
-    (concatMap (rows edges closed n work₀) (membersIn n transit work₀)) at out (membersFrom (rows edges closed n work₀) (region n transit work₀) n v)
+    (concatMap (rows edges n work₀) (membersIn n transit work₀)) at out (membersFrom (rows edges n work₀) (region n transit work₀) n v)
 
 abbrev μ-loop : tie.MeasureT-loop
-μ-loop edges closed n t work₀ out₀ at₀ v₀ work out at v = n - v
+μ-loop edges n t work₀ out₀ at₀ v₀ work out at v = n - v
 
 loop-holds : tie.Need-loop-holds Inv-loop μ-loop
 loop-holds c =
-    let s = c .before .before .before .before in
+    let s = c .before .before .before in
     let p = s .pre in
     let a = s .args in
-    (refl, refl, refl, rows-start (a .edges .now) (a .closed .now) (a .n) (a .work .now) (a .t) (a .out .now) (p .1 .1 .0) (p .1 .1 .1))
+    (refl, refl, refl, rows-start (a .edges .now) (a .n) (a .work .now) (a .t) (a .out .now) (p .1 .1 .0) (p .1 .1 .1))
 
 put-row-requires : tie.Need-put-row-requires Inv-loop μ-loop
 put-row-requires c κs =
-    let start = c .before .before .before .before .before .before .before .before in
+    let start = c .before .before .before .before .before .before .before in
     let a = start .args in
     let l = c .before .before .before .loop in
     let p = start .pre in
@@ -42,7 +42,7 @@ put-row-requires c κs =
       search needs,
       (
         (
-          roads-from (a .edges .now) (a .closed .now) (a .n) (a .work .now) (l .work) (searchWords (a .n)) (omega arith) (l .inv .2) (p .1 .0 .0),
+          roads-from (a .edges .now) (a .n) (a .work .now) (l .work) (searchWords (a .n)) (omega arith) (l .inv .2) (p .1 .0 .0),
           alone-later (a .n) transit (a .work .now) (l .work) (omega arith) (l .inv .2) (p .1 .0 .1),
         ),
         (rw s (p .1 .1 .0), rw s (written-fits (members-step _ _ _ _ (c .before .before .loop-test .taken)) (l .inv .3))),
@@ -57,7 +57,7 @@ loop-less c = search needs
 
 loop-again : tie.Need-loop-again Inv-loop μ-loop
 loop-again c =
-    let a = c .before .before .before .before .before .before .before .before .before .before .before .before .before .args in
+    let a = c .before .before .before .before .before .before .before .before .before .before .before .before .args in
     let l = c .before .before .before .before .before .before .before .before .loop in
     let put-row = c .before .before .before .before .put-row in
     let s = region-later (a .n) transit (a .work .now) (l .work) (omega arith) (l .inv .2) in (

@@ -18,29 +18,25 @@ body-requires c κs = c .network-contents .ensures _ (omega arith)
 body-requires-2 : tie.Need-body-requires-2
 body-requires-2 c κs = c .before .network-contents .ensures _ (omega arith)
 
-body-requires-3 : tie.Need-body-requires-3
-body-requires-3 c κs = c .before .before .network-contents .ensures _ (omega arith)
-
 over-requires : tie.Need-over-requires
-over-requires c κs = rw (c .before .before .body .ensures) (c .before .before .before .before .before .before .before .pre .0 .sound .nodes-rule)
+over-requires c κs = rw (c .before .body .ensures) (c .before .before .before .before .before .before .pre .0 .sound .nodes-rule)
 
 node-count-requires : tie.Need-node-count-requires
 node-count-requires c κs =
-    let p = c .before .before .before .before .before .before .before .before .pre in
+    let p = c .before .before .before .before .before .before .before .pre in
     (p .0 .contents, p .0 .bodies)
 
 build-in-requires : tie.Need-build-in-requires
 unfolding wordsNeeded
 build-in-requires c κs =
-    let p = c .before .before .before .before .before .before .before .before .before .before .before .pre in
-    let body = c .before .before .before .before .before .before .body in
-    let body2 = c .before .before .before .before .before .body2 in
-    let body3 = c .before .before .before .before .body3 in
+    let p = c .before .before .before .before .before .before .before .before .before .before .pre in
+    let body = c .before .before .before .before .before .body in
+    let body2 = c .before .before .before .before .body2 in
     let over = c .before .before .before .over in
     let node-count = c .before .before .node-count in
     let n = node-count .ensures in
     let e = body .ensures in (
-      record { passed = p .0; of-nodes = e; of-edges = body2 .ensures; of-closed = body3 .ensures; made = over .ensures; count = n ∙ sym (ap nodeCount e) },
+      record { passed = p .0; of-nodes = e; of-edges = body2 .ensures; made = over .ensures; count = n ∙ sym (ap nodeCount e) },
       omega (arith, n, p .1),
     )
 
@@ -63,7 +59,6 @@ build-of-spec =
     network-contents-requires
     body-requires
     body-requires-2
-    body-requires-3
     over-requires
     node-count-requires
     build-in-requires

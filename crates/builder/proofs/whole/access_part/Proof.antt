@@ -3,7 +3,7 @@ use native.Mathlib.Omega.{arith}
 use mathlib.Core.Path.{_∙_}
 use borrow.Author.Needs.{needs}
 use Rattle.words.proofs.Windows.{part-length}
-use Rattle.builder.proofs.Pieces.{wrote-part}
+use Rattle.emit.proofs.Pieces.{wrote-part}
 use Rattle.builder.proofs.whole.access_part.Statement.{statement}
 use Rattle.builder.proofs.whole.access_part.Tie as tie
 
@@ -21,7 +21,7 @@ part-put-access-end c = search needs
 
 put-access-requires : tie.Need-put-access-requires
 put-access-requires c κs =
-    let s = c .before .before .before .before .before .before .before in
+    let s = c .before .before .before .before .before .before in
     let p = s .pre in
     let a = s .args in
     let l = part-length (a .at) (a .a) (a .out .now) (p .1 .2) in (p .0, (l ∙ p .1 .0, omega (arith, l, p .1 .1)))
@@ -35,8 +35,8 @@ same-length-2 c = search needs
 returns : tie.Need-returns
 returns c =
     let put-access = c .before .before .before .before .put-access in
-    let a = c .before .before .before .before .before .before .before .before .before .before .before .before .args in (
-      wrote-part (a .at) _ (a .out .now) (put-access .last .1 .1 .1 .1 .1 .1 .0) _ (omega arith) (omega arith) (put-access .kept .1 .1 .1 .1 .1 .1 .0)
+    let a = c .before .before .before .before .before .before .before .before .before .before .before .args in (
+      wrote-part (a .at) _ (a .out .now) (put-access .last .1 .1 .1 .1 .1 .0) _ (omega arith) (omega arith) (put-access .kept .1 .1 .1 .1 .1 .0)
           (put-access .ensures .0),
       put-access .ensures .1,
     )

@@ -10,26 +10,26 @@ use Rattle.words.proofs.Stays.{kept-more}
 
 put-transit-requires : tie.Need-put-transit-requires
 put-transit-requires c κs =
-    let s = c .before .before .before .before .before .before .before in
+    let s = c .before .before .before .before .before .before in
     let p = s .pre in
     let a = s .args in
-    transit-room (a .nodes .now) (a .edges .now) (a .closed .now) (a .grid) (a .n) (a .t) (a .a) (a .work .now) (p .0) (a .at) _ (p .1)
+    transit-room (a .nodes .now) (a .edges .now) (a .grid) (a .n) (a .t) (a .a) (a .work .now) (p .0) (a .at) _ (p .1)
 
 access-part-requires : tie.Need-access-part-requires
 access-part-requires c κs =
-    let s = c .before .before .before .before .before .before .before .before .before .before .before .before in
+    let s = c .before .before .before .before .before .before .before .before .before .before .before in
     let p = s .pre in
     let a = s .args in
-    access-room (a .nodes .now) (a .edges .now) (a .closed .now) (a .grid) (a .n) (a .t) (a .a) (a .work .now) (p .0) (a .at) _ (a .out .now) _
+    access-room (a .nodes .now) (a .edges .now) (a .grid) (a .n) (a .t) (a .a) (a .work .now) (p .0) (a .at) _ (a .out .now) _
     (c .before .before .before .before .put-transit .ensures) (p .1) (search needs) (p .2)
 
 table-part-requires : tie.Need-table-part-requires
 table-part-requires c κs =
-    let a = c .before .before .before .before .before .before .before .before .before .before .before .before .before .before .before .before .before .before
+    let a = c .before .before .before .before .before .before .before .before .before .before .before .before .before .before .before .before .before
     .before .args in
-    let p = c .before .before .before .before .before .before .before .before .before .before .before .before .before .before .before .before .before .before
+    let p = c .before .before .before .before .before .before .before .before .before .before .before .before .before .before .before .before .before
     .before .pre in
-    table-room (a .nodes .now) (a .edges .now) (a .closed .now) (a .grid) (a .n) (a .t) (a .a) (a .work .now) (p .0) (a .at) _ (a .out .now) _
+    table-room (a .nodes .now) (a .edges .now) (a .grid) (a .n) (a .t) (a .a) (a .work .now) (p .0) (a .at) _ (a .out .now) _
     (c .before .before .before .before .before .before .before .before .before .before .before .put-transit .ensures) (p .1) _ (search needs)
     (c .before .before .before .before .before .before .access-part .ensures .1) _ _
     (c .before .before .before .before .before .before .access-part .ensures .0) (search needs)
@@ -42,11 +42,11 @@ same-length-2 c = search needs
 
 returns : tie.Need-returns
 returns c =
-    let a = c .before .before .before .before .before .before .before .before .before .before .before .before .before .before .before .before .before .before
+    let a = c .before .before .before .before .before .before .before .before .before .before .before .before .before .before .before .before .before
     .before .before .before .before .before .before .args in
-    let p = c .before .before .before .before .before .before .before .before .before .before .before .before .before .before .before .before .before .before
+    let p = c .before .before .before .before .before .before .before .before .before .before .before .before .before .before .before .before .before
     .before .before .before .before .before .before .pre in (
-      back-written (a .nodes .now) (a .edges .now) (a .closed .now) (a .grid) (a .n) (a .t) (a .a) (a .work .now) (p .0) (a .at) _ (a .out .now) _
+      back-written (a .nodes .now) (a .edges .now) (a .grid) (a .n) (a .t) (a .a) (a .work .now) (p .0) (a .at) _ (a .out .now) _
           (c .before .before .before .before .before .before .before .before .before .before .before .before .before .before .before .before .put-transit
           .ensures) (p .1) _ (search needs)
           (c .before .before .before .before .before .before .before .before .before .before .before .access-part .ensures .1) _ _

@@ -4,7 +4,7 @@ use native.Mathlib.Omega.{arith}
 use borrow.Author.Needs.{needs}
 use Rattle.model.specs.Oracle.{valueSize}
 use Rattle.words.proofs.Windows.{part-length}
-use Rattle.builder.proofs.Pieces.{wrote-part}
+use Rattle.emit.proofs.Pieces.{wrote-part}
 use Rattle.builder.proofs.whole.table_part.Statement.{statement}
 use Rattle.builder.proofs.whole.table_part.Tie as tie
 
@@ -28,7 +28,7 @@ part-put-table-end c = search needs
 
 put-table-requires : tie.Need-put-table-requires
 put-table-requires c κs =
-    let s = c .before .before .before .before .before .before in
+    let s = c .before .before .before .before .before in
     let a = s .args in
     let p = s .pre .0 in
     ((p .0, p .1), (s .pre .1, (p .2, part-length (a .at) (valueSize * a .t * a .t) (a .out .now) (p .3))))
@@ -42,8 +42,8 @@ same-length-2 c = search needs
 returns : tie.Need-returns
 returns c =
     let put-table = c .before .before .before .before .put-table in
-    let a = c .before .before .before .before .before .before .before .before .before .before .before .args in (
-      wrote-part (a .at) _ (a .out .now) (put-table .last .1 .1 .1 .1 .1 .0) _ (omega arith) (omega arith) (put-table .kept .1 .1 .1 .1 .1 .0)
+    let a = c .before .before .before .before .before .before .before .before .before .before .args in (
+      wrote-part (a .at) _ (a .out .now) (put-table .last .1 .1 .1 .1 .0) _ (omega arith) (omega arith) (put-table .kept .1 .1 .1 .1 .0)
           (put-table .ensures .0),
       put-table .ensures .1,
     )

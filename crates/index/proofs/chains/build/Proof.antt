@@ -20,7 +20,7 @@ same-length-2 : tie.Need-same-length-2
 same-length-2 c = search needs
 
 returns-2 : tie.Need-returns-2
-returns-2 c = cleared-index _ _ (c .before .before .clear .ensures) _ _
+returns-2 c = cleared-index _ _ (c .before .before .clear .ensures) _
 
 pub build-spec : {M : Type 1} → statement M
 build-spec =

@@ -9,10 +9,10 @@ use Rattle.index.proofs.chains.build_any.Statement.{statement}
 use Rattle.index.proofs.chains.build_any.Tie as tie
 
 abbrev Inv-loop : tie.InvT-loop
-Inv-loop edges closed ix₀ n s₀ ix s = (0 < s) × (length ix ≡ length ix₀)
+Inv-loop edges ix₀ n s₀ ix s = (0 < s) × (length ix ≡ length ix₀)
 
 abbrev μ-loop : tie.MeasureT-loop
-μ-loop edges closed ix₀ n s₀ ix s = 16385 - s
+μ-loop edges ix₀ n s₀ ix s = 16385 - s
 
 returns : tie.Need-returns Inv-loop μ-loop
 returns c = λ e. absurd (false≢true e)
@@ -23,7 +23,7 @@ loop-holds c = search needs
 build-by-requires : tie.Need-build-by-requires Inv-loop μ-loop
 unfolding edgeCount
 build-by-requires c κs = (
-  c .before .before .before .before .before .before .before .pre .0,
+  c .before .before .before .before .before .before .pre .0,
   (search needs, search needs, search needs, search needs, search needs),
 )
 

@@ -9,8 +9,8 @@ clear-requires c κs = search needs
 
 list-all-requires : tie.Need-list-all-requires
 list-all-requires c κs = (
-  c .before .before .before .before .before .before .before .before .pre .0,
-  ((search needs, search needs, search needs, search needs), cleared-first _ _ _ (c .before .before .before .clear .ensures) _ _),
+  c .before .before .before .before .before .before .before .pre .0,
+  ((search needs, search needs, search needs, search needs), cleared-first _ _ _ (c .before .before .before .clear .ensures) _),
 )
 
 same-length : tie.Need-same-length
@@ -18,7 +18,7 @@ same-length c = search needs
 
 returns : tie.Need-returns
 returns c =
-    λ e. chained-index _ _ _ (c .before .before .before .before .before .before .before .before .before .before .before .args .s) _ (search needs)
+    λ e. chained-index _ _ (c .before .before .before .before .before .before .before .before .before .before .args .s) _ (search needs)
     (c .before .before .list-all .ensures e)
 
 pub build-by-spec : {M : Type 1} → statement M

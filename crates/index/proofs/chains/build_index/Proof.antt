@@ -8,8 +8,8 @@ use Rattle.index.proofs.chains.build_index.Tie as tie
 
 returns : tie.Need-returns
 returns c =
-    let p = c .before .before .before .before .pre in
-    (no-index _ _ _ (p .1 .0) (p .1 .1) _ (p .0 .1) (c .if1 .taken), (refl, refl))
+    let p = c .before .before .before .pre in
+    (no-index _ _ (p .1) _ (p .0 .1) (c .if1 .taken), (refl, refl))
 
 index-at-requires : tie.Need-index-at-requires
 index-at-requires c κs = search needs
@@ -37,11 +37,11 @@ same-length c = search needs
 
 returns-2 : tie.Need-returns-2
 returns-2 c =
-    let s = c .before .before .before .before .before .before .before .before .before in
+    let s = c .before .before .before .before .before .before .before .before in
     let a = s .args in
     let p = s .pre in
-    laid-index (a .edges .now) (a .closed .now) (a .n) (p .1 .0) (p .1 .1) _ (a .work .now) _ (c .before .before .before .before .index-at .ensures)
-    (omega (arith, c .before .before .before .before .before .if1 .left)) (p .0 .1) (c .before .before .build .kept .1 .1 .0)
+    laid-index (a .edges .now) (a .n) (p .1) _ (a .work .now) _ (c .before .before .before .before .index-at .ensures)
+    (omega (arith, c .before .before .before .before .before .if1 .left)) (p .0 .1) (c .before .before .build .kept .1 .0)
     (c .before .before .build .ensures)
 
 pub build-index-spec : {M : Type 1} → statement M

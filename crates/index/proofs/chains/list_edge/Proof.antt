@@ -14,8 +14,7 @@ edge-second-requires c κs = search needs
 list-at-requires : tie.Need-list-at-requires
 list-at-requires c κs = (
   (omega (arith, c .before .before .edge-first .ensures .0), search needs, search needs, search needs, search needs),
-  c .before .before .before .before
-      .before .pre .1 .1,
+  c .before .before .before .before .before .pre .1 .1,
 )
 
 list-at-requires-2 : tie.Need-list-at-requires-2

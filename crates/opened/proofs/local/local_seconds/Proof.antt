@@ -15,9 +15,6 @@ returns c = let a = c .before .before .before .args in
 oracle-body-requires : tie.Need-oracle-body-requires
 oracle-body-requires c κs = search needs
 
-oracle-body-requires-2 : tie.Need-oracle-body-requires-2
-oracle-body-requires-2 c κs = search needs
-
 slice-aggregate-search-seconds : tie.Need-slice-aggregate-search-seconds
 slice-aggregate-search-seconds c = search needs
 
@@ -26,16 +23,16 @@ node-count-requires c κs = search needs
 
 search-seconds-requires : tie.Need-search-seconds-requires
 search-seconds-requires c κs =
-    let p = c .before .before .before .before .before .before .before .before .pre in
-    let k = lent _ _ (p .0) _ _ _ (c .before .before .before .before .oracle-body .ensures) (c .before .before .before .oracle-body2 .ensures)
+    let p = c .before .before .before .before .before .before .before .pre in
+    let k = lent _ _ (p .0) _ _ (c .before .before .before .oracle-body .ensures)
     (c .before .node-count .ensures) in (
       k .few,
       k .below _ (p .1),
       k .below _ (p .2),
       k .room,
-      plain _ _ _ _ (k .roads),
+      plain _ _ _ (k .roads),
       k .below 1
-          (omega (arith, p .1, p .2, c .before .before .before .before .before .if1 .left)),
+          (omega (arith, p .1, p .2, c .before .before .before .before .if1 .left)),
     )
 
 same-length : tie.Need-same-length
@@ -43,13 +40,12 @@ same-length c = search needs
 
 returns-2 : tie.Need-returns-2
 returns-2 c =
-    let a = c .before .before .before .before .before .before .before .before .before .before .before .args in
+    let a = c .before .before .before .before .before .before .before .before .before .before .args in
     let same = distance-in (a .o .now) (a .s) (a .t) in
-    let edges = c .before .before .before .before .before .before .before .oracle-body .ensures in
-    let closed = c .before .before .before .before .before .before .oracle-body2 .ensures in
+    let edges = c .before .before .before .before .before .before .oracle-body .ensures in
     let n = c .before .before .before .before .node-count .ensures in
     let found = c .before .before .search-seconds .ensures in
-    (rw (same, ← edges, ← closed, ← n) (rw (plain-arcs _ _) at (found .0)), rw n at (found .1))
+    (rw (same, ← edges, ← n) (rw (plain-arcs _) at (found .0)), rw n at (found .1))
 
 pub local-seconds-spec : {M : Type 1} → statement M
 local-seconds-spec =
@@ -57,7 +53,6 @@ local-seconds-spec =
     (tie.spec
     returns
     oracle-body-requires
-    oracle-body-requires-2
     slice-aggregate-search-seconds
     node-count-requires
     search-seconds-requires

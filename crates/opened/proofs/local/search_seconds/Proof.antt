@@ -17,10 +17,10 @@ same-length c = search needs
 
 returns : tie.Need-returns
 returns c =
-    let a = c .before .before .before .before .before .before .before .before .before .before .args in
-    let p = c .before .before .before .before .before .before .before .before .before .before .pre in
+    let a = c .before .before .before .before .before .before .before .before .before .args in
+    let p = c .before .before .before .before .before .before .before .before .before .pre in
     let found = c .before .before .before .before .search-to .ensures in
-    (c .time-of .ensures .0 ∙ stopped-word (arcsUnder (a .edges .now) (a .closed .now) (a .lines .now)) (a .n) (a .s) (a .t) _ _ (p .2) (found .0), found .1)
+    (c .time-of .ensures .0 ∙ stopped-word (arcsUnder (a .edges .now) (a .lines .now)) (a .n) (a .s) (a .t) _ _ (p .2) (found .0), found .1)
 
 pub search-seconds-spec : {M : Type 1} → statement M
 search-seconds-spec =

@@ -14,11 +14,11 @@ want-only-requires c κs = search needs
 
 search-wanted-under-requires : tie.Need-search-wanted-under-requires
 search-wanted-under-requires c κs =
-    let a = c .before .before .before .before .before .before .before .before .before .args in
-    let p = c .before .before .before .before .before .before .before .before .before .pre in
+    let a = c .before .before .before .before .before .before .before .before .args in
+    let p = c .before .before .before .before .before .before .before .before .pre in
     let want-only = c .before .before .before .want-only in (
       (p .0, p .1, omega (arith, p .3, want-only .kept .0), rw (want-only .ensures .0) (lacking-one (a .n) (a .t)), p .5),
-      edges-behind _ _ _ _ _ _ (want-only .ensures .1) (p .4),
+      edges-behind _ _ _ _ _ (want-only .ensures .1) (p .4),
     )
 
 same-length : tie.Need-same-length
@@ -26,7 +26,7 @@ same-length c = search needs
 
 returns : tie.Need-returns
 returns c =
-    let a = c .before .before .before .before .before .before .before .before .before .before .before .before .args in
+    let a = c .before .before .before .before .before .before .before .before .before .before .before .args in
     let want-only = c .before .before .before .before .before .before .want-only in
     let search-wanted-under = c .before .before .search-wanted-under in (
       rw (want-only .ensures .0) at (search-wanted-under .ensures .0 .0),

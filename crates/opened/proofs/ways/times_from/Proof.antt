@@ -8,22 +8,16 @@ use Rattle.opened.proofs.ways.times_from.Statement.{statement}
 use Rattle.opened.proofs.ways.times_from.Tie as tie
 use Rattle.words.specs.Regions.{gridAt, searchWords}
 
-oracle-contents-requires : tie.Need-oracle-contents-requires
-oracle-contents-requires c κs = search needs
-
-body-requires : tie.Need-body-requires
-body-requires c κs = c .oracle-contents .ensures _ (omega arith)
-
-body-requires-2 : tie.Need-body-requires-2
-body-requires-2 c κs = c .before .oracle-contents .ensures _ (omega arith)
+oracle-body-requires : tie.Need-oracle-body-requires
+oracle-body-requires c κs = search needs
 
 node-count-requires : tie.Need-node-count-requires
 node-count-requires c κs = search needs
 
 search-front-requires : tie.Need-search-front-requires
 search-front-requires c κs =
-    let p = c .before .before .before .before .before .before .before .pre in
-    let k = lent _ _ (p .0) _ _ _ (c .before .before .before .body .ensures) (c .before .before .body2 .ensures) (c .before .node-count .ensures) in
+    let p = c .before .before .before .before .before .pre in
+    let k = lent _ _ (p .0) _ _ (c .before .before .oracle-body .ensures) (c .before .node-count .ensures) in
     ((k .few, k .below _ (p .1), k .room, k .below 1 (p .2)), k .roads)
 
 same-length : tie.Need-same-length
@@ -32,15 +26,14 @@ same-length c = search needs
 returns : tie.Need-returns
 unfolding wordsNeeded
 returns c =
-    let p = c .before .before .before .before .before .before .before .before .before .before .pre in
-    let body = c .before .before .before .before .before .before .body in
-    let body2 = c .before .before .before .before .before .body2 in
+    let p = c .before .before .before .before .before .before .before .before .pre in
+    let body = c .before .before .before .before .before .oracle-body in
     let node-count = c .before .before .before .before .node-count in
     let front = c .before .before .search-front in
     let e = node-count .ensures in
     let n = node-count .result in
-    let found = rw (e, body .ensures, body2 .ensures) at (front .ensures .0 .0 .times) in (
-      record { times = found; room = omega (arith, p .0 .room, front .kept .1 .1 .1 .1 .0) },
+    let found = rw (e, body .ensures) at (front .ensures .0 .0 .times) in (
+      record { times = found; room = omega (arith, p .0 .room, front .kept .1 .1 .1 .0) },
       rw e at
           (kept-more (searchWords n) (gridAt n) _ _ (omega arith) (front .ensures .1)),
     )
@@ -49,9 +42,7 @@ pub times-from-spec : {M : Type 1} → statement M
 times-from-spec =
     tie.close
     (tie.spec
-    oracle-contents-requires
-    body-requires
-    body-requires-2
+    oracle-body-requires
     node-count-requires
     search-front-requires
     same-length

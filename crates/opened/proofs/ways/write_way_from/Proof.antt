@@ -15,28 +15,28 @@ returns c = given-short _ _ (c .before .whole-way .ensures .0 .0) _ (c .if1 .tak
 
 array-share-prefix-nodes : tie.Need-array-share-prefix-nodes
 array-share-prefix-nodes c = let w = c .before .whole-way in found-room _ _ (w .ensures .0 .0)
-    (c .before .before .before .before .before .before .before .before .args .out .now) _ _ (w .ensures .1)
+    (c .before .before .before .before .before .before .before .args .out .now) _ _ (w .ensures .1)
 
 slice-aggregate-copy : tie.Need-slice-aggregate-copy
-slice-aggregate-copy c = let w = c .before .before .whole-way in sym (length-take-le (w .result) (w .last .1 .1 .1 .1 .1 .1 .0)
-    (found-room _ _ (w .ensures .0 .0) (c .before .before .before .before .before .before .before .before .before .args .out .now) _ _ (w .ensures .1)))
+slice-aggregate-copy c = let w = c .before .before .whole-way in sym (length-take-le (w .result) (w .last .1 .1 .1 .1 .1 .0)
+    (found-room _ _ (w .ensures .0 .0) (c .before .before .before .before .before .before .before .before .args .out .now) _ _ (w .ensures .1)))
 
 slice-relend-prefix-copy : tie.Need-slice-relend-prefix-copy
 slice-relend-prefix-copy c = search needs
 
 slice-aggregate-copy-2 : tie.Need-slice-aggregate-copy-2
 slice-aggregate-copy-2 c = sym (length-take-le (c .before .before .before .whole-way .result)
-    (c .before .before .before .before .before .before .before .before .before .before .args .out .now) (omega (arith, c .before .before .if1 .left)))
+    (c .before .before .before .before .before .before .before .before .before .args .out .now) (omega (arith, c .before .before .if1 .left)))
 
 copy-requires : tie.Need-copy-requires
 copy-requires c κs =
     let w = c .before .before .before .whole-way in
-    length-take-le (w .result) (c .before .before .before .before .before .before .before .before .before .before .args .out .now)
-    (omega (arith, c .before .before .if1 .left)) ∙ sym (length-take-le (w .result) (w .last .1 .1 .1 .1 .1 .1 .0)
-    (found-room _ _ (w .ensures .0 .0) (c .before .before .before .before .before .before .before .before .before .before .args .out .now) _ _ (w .ensures .1)))
+    length-take-le (w .result) (c .before .before .before .before .before .before .before .before .before .args .out .now)
+    (omega (arith, c .before .before .if1 .left)) ∙ sym (length-take-le (w .result) (w .last .1 .1 .1 .1 .1 .0)
+    (found-room _ _ (w .ensures .0 .0) (c .before .before .before .before .before .before .before .before .before .args .out .now) _ _ (w .ensures .1)))
 
-cast-t18 : tie.Need-cast-t18
-cast-t18 c = search needs
+cast-t17 : tie.Need-cast-t17
+cast-t17 c = search needs
 
 same-length : tie.Need-same-length
 same-length c = search needs
@@ -58,6 +58,6 @@ write-way-from-spec =
     slice-relend-prefix-copy
     slice-aggregate-copy-2
     copy-requires
-    cast-t18
+    cast-t17
     same-length
     returns-2)

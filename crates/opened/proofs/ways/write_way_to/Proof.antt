@@ -17,12 +17,12 @@ same-length c = search needs
 
 returns : tie.Need-returns
 returns c =
-    let a = c .before .before .before .before .before .before .before .before .before .before .args in
-    let p = c .before .before .before .before .before .before .before .before .before .before .pre in (
+    let a = c .before .before .before .before .before .before .before .before .before .args in
+    let p = c .before .before .before .before .before .before .before .before .before .pre in (
       rw (
         ← c .before .before .before .before .if1 .taken,
-        way-itself (arcsUnder (a .edges .now) (a .closed .now) (a .lines .now)) (a .n)
-            (arcs-bounded _ _ _ _ _ (p .4) .within) (a .s) (p .1),
+        way-itself (arcsUnder (a .edges .now) (a .lines .now)) (a .n)
+            (arcs-bounded _ _ _ _ (p .4) .within) (a .s) (p .1),
       )
           (c .before .before .write-way-itself .ensures),
       refl,
@@ -33,9 +33,9 @@ search-to-requires c κs = search needs
 
 write-way-from-requires : tie.Need-write-way-from-requires
 write-way-from-requires c κs =
-    let p = c .before .before .before .before .before .before .before .before .before .before .before .before .pre in
+    let p = c .before .before .before .before .before .before .before .before .before .before .before .pre in
     let search-to = c .before .before .before .before .search-to in
-    ((p .1, p .0, omega (arith, p .3, search-to .kept .1 .1 .1 .1 .1 .1 .0)), edges-behind _ _ _ _ _ _ (search-to .ensures .1) (p .4))
+    ((p .1, p .0, omega (arith, p .3, search-to .kept .1 .1 .1 .1 .1 .0)), edges-behind _ _ _ _ _ (search-to .ensures .1) (p .4))
 
 same-length-2 : tie.Need-same-length-2
 same-length-2 c = search needs
@@ -45,10 +45,10 @@ same-length-3 c = search needs
 
 returns-2 : tie.Need-returns-2
 returns-2 c =
-    let p = c .before .before .before .before .before .before .before .before .before .before .before .before .before .before .before .pre in
-    let a = c .before .before .before .before .before .before .before .before .before .before .before .before .before .before .before .args in
+    let p = c .before .before .before .before .before .before .before .before .before .before .before .before .before .before .pre in
+    let a = c .before .before .before .before .before .before .before .before .before .before .before .before .before .before .args in
     let search-to = c .before .before .before .before .before .before .before .search-to in
-    let e = stopped-way (arcsUnder (a .edges .now) (a .closed .now) (a .lines .now)) (a .n) (arcs-bounded _ _ _ _ _ (p .4)) (a .s) (a .t) (p .1) (p .2) _ _
+    let e = stopped-way (arcsUnder (a .edges .now) (a .lines .now)) (a .n) (arcs-bounded _ _ _ _ (p .4)) (a .s) (a .t) (p .1) (p .2) _ _
     (search-to .ensures .0) in
     (rw (← e) (c .before .before .write-way-from .ensures), search-to .ensures .1)
 

@@ -9,7 +9,7 @@ use Rattle.passes.proofs.own.own_wanted.Statement.{statement}
 use Rattle.passes.proofs.own.own_wanted.Tie as tie
 
 own-access-requires : tie.Need-own-access-requires
-own-access-requires c κs = c .before .before .before .before .before .pre
+own-access-requires c κs = c .before .before .before .before .pre
 
 clear-requires : tie.Need-clear-requires
 clear-requires c κs = search needs
@@ -25,13 +25,13 @@ same-length c = search needs
 
 returns : tie.Need-returns
 returns c =
-    let s = c .before .before .before .before .before .before .before .before .before .before .before .before .before .before .before .before .before .before in
+    let s = c .before .before .before .before .before .before .before .before .before .before .before .before .before .before .before .before .before in
     let clear = c .before .before .before .before .before .before .before .before .clear in
     let unite = c .before .before .before .before .unite in
     let own-access = c .before .before .before .before .before .before .before .before .before .before .before .before .own-access in
     let a = s .args in
     let p = s .pre .0 in
-    let two = access-alone (a .nodes .now) (a .edges .now) (a .closed .now) (a .grid) (a .n) (p .1) (p .0) (a .u) own _ (own-access .ensures .0) in
+    let two = access-alone (a .nodes .now) (a .edges .now) (a .grid) (a .n) (p .1) (p .0) (a .u) own _ (own-access .ensures .0) in
     let r = sought-made (a .n) (omega (arith, p .3)) _ _ _ two (clear .ensures .0) (clear .ensures .1) (unite .ensures .0)
     (unite .ensures .1) _ (c .count .ensures) in
     (r .0 ∙ own-access .ensures .0, (r .1, r .2 ∙ own-access .ensures .1))

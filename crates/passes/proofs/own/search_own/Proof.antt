@@ -9,7 +9,7 @@ use Rattle.passes.proofs.own.search_own.Tie as tie
 
 search-wanted-requires : tie.Need-search-wanted-requires
 search-wanted-requires c κs =
-    let p = c .before .before .before .before .before .pre in
+    let p = c .before .before .before .before .pre in
     ((p .0, p .1, search needs, sought-lacking _ _ _ (p .3), sought-two _ _ _ (p .3) (c .before .if1 .taken)), p .4)
 
 same-length : tie.Need-same-length
@@ -17,16 +17,16 @@ same-length c = search needs
 
 returns : tie.Need-returns
 returns c =
-    let a = c .before .before .before .before .before .before .before .before .args in
+    let a = c .before .before .before .before .before .before .before .args in
     let s = c .before .before .search-wanted .ensures in (
-      list-searched (a .n) (a .left) (a .work .now) (c .before .before .before .before .before .before .before .before .pre .3) _ (s .1)
-          (arcsIn (a .edges .now) (a .closed .now)) (a .v) _ (s .0 .0),
+      list-searched (a .n) (a .left) (a .work .now) (c .before .before .before .before .before .before .before .pre .3) _ (s .1)
+          (arcsIn (a .edges .now)) (a .v) _ (s .0 .0),
       s .1,
     )
 
 returns-2 : tie.Need-returns-2
-returns-2 c = let a = c .before .before .before .before .args in (
-  list-of-none (a .n) (a .left) (a .work .now) (c .before .before .before .before .pre .3)
+returns-2 c = let a = c .before .before .before .args in (
+  list-of-none (a .n) (a .left) (a .work .now) (c .before .before .before .pre .3)
       (omega (arith, c .if1 .left)) _ _ _,
   refl,
 )

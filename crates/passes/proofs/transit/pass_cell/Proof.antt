@@ -23,17 +23,17 @@ unite-requires c κs = search needs
 
 put-counts-requires : tie.Need-put-counts-requires
 put-counts-requires c κs =
-    let s = c .before .before .before .before .before .before .before .before .before .before .before .before .before .before .before .before .before in
+    let s = c .before .before .before .before .before .before .before .before .before .before .before .before .before .before .before .before in
     let own-access = c .before .before .before .before .before .before .before .before .before .own-access in
     let a = s .args in
     let p = s .pre .0 in
-    let x = own-access .last .1 .1 .1 .1 .1 .1 .0 in (
+    let x = own-access .last .1 .1 .1 .1 .1 .0 in (
       p .0 .over,
       p .1,
       p .2,
       p .3,
       omega (arith, c .before .before .before .before .before .count .ensures, ones-most (a .n) (drop (regionAt (a .n) own) x)),
-      omega (arith, p .4, own-access .kept .1 .1 .1 .1 .1 .1 .0, c .before .before .before .unite .kept .0),
+      omega (arith, p .4, own-access .kept .1 .1 .1 .1 .1 .0, c .before .before .before .unite .kept .0),
     )
 
 same-length : tie.Need-same-length
@@ -41,21 +41,21 @@ same-length c = search needs
 
 returns : tie.Need-returns
 returns c =
-    let s = c .before .before .before .before .before .before .before .before .before .before .before .before .before .before .before .before .before .before
+    let s = c .before .before .before .before .before .before .before .before .before .before .before .before .before .before .before .before .before
     .before .before in
     let own-access = c .before .before .before .before .before .before .before .before .before .before .before .before .own-access in
     let unite = c .before .before .before .before .before .before .unite in
     let a = s .args in
     let p = s .pre in
-    passed-next (a .nodes .now) (a .edges .now) (a .closed .now) (a .grid) (a .n) (a .u) (p .0 .3) (a .work .now) _ _ _ (p .1 .0) (own-access .ensures .0)
+    passed-next (a .nodes .now) (a .edges .now) (a .grid) (a .n) (a .u) (p .0 .3) (a .work .now) _ _ _ (p .1 .0) (own-access .ensures .0)
     (own-access .ensures .1) (unite .ensures .0) (unite .ensures .1) _ (c .before .before .before .before .before .before .before .before .count .ensures)
     (c .before .before .put-counts .ensures .0) (c .before .before .put-counts .ensures .1)
 
 returns-2 : tie.Need-returns-2
 returns-2 c =
-    let s = c .before .before .before .before .before .before in
+    let s = c .before .before .before .before .before in
     let a = s .args in (
-      passed-later (a .nodes .now) (a .edges .now) (a .closed .now) (a .grid) (a .n) (a .u) (a .work .now) (s .pre .1 .0)
+      passed-later (a .nodes .now) (a .edges .now) (a .grid) (a .n) (a .u) (a .work .now) (s .pre .1 .0)
           (sym (c .if1 .left) ∙ c .before .first-of-cell .ensures),
       refl,
     )

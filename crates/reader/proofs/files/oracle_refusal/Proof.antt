@@ -1,7 +1,7 @@
 use Rattle.reader.proofs.Kept.{kept}
 use Rattle.theory.specs.Sound.{node-bytes}
 use Rattle.theory.specs.Firsts.{first-append}
-use Rattle.theory.specs.Passed.{network-counted}
+use Rattle.theory.specs.Passed.{plain-counted}
 use Rattle.theory.specs.Joined.{whole-contents}
 use Rattle.model.specs.Rules.{shapeRules}
 use Rattle.model.specs.Network.{nodeCount}
@@ -84,7 +84,7 @@ returns c =
       ← c .before .before .body4 .ensures,
       ← c .before .body5 .ensures,
     ) (c .oracle-bodies .ensures) ∙
-    sym (first-append _ _ (network-counted 1 7 (s .args .o .now)) (s .pre))
+    sym (first-append _ _ (plain-counted 1 7 (s .args .o .now)) (s .pre))
 
 pub oracle-refusal-spec : {M : Type 1} → statement M
 oracle-refusal-spec =

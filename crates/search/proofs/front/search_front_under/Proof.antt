@@ -13,37 +13,37 @@ use Rattle.search.proofs.front.search_front_under.Tie as tie
 use Rattle.words.specs.Regions.{frontIn, searchWords}
 
 abbrev Inv-loop : tie.InvT-loop
-Inv-loop edges closed lines n s work₀ k₀ e₀ work k e = (length work ≡ length work₀) × (KeptFrom (searchWords n) work₀ work)
-    × Standing (arcsUnder edges closed lines) n s k e (frontIn n work)
+Inv-loop edges lines n s work₀ k₀ e₀ work k e = (length work ≡ length work₀) × (KeptFrom (searchWords n) work₀ work)
+    × Standing (arcsUnder edges lines) n s k e (frontIn n work)
 
 abbrev μ-loop : tie.MeasureT-loop
-μ-loop edges closed lines n s work₀ k₀ e₀ work k e = e
+μ-loop edges lines n s work₀ k₀ e₀ work k e = e
 
 begin-requires : tie.Need-begin-requires Inv-loop μ-loop
 begin-requires c κs = search needs
 
 loop-holds : tie.Need-loop-holds Inv-loop μ-loop
 loop-holds c =
-    let start = c .before .before .before .before .before .before .before .before in
+    let start = c .before .before .before .before .before .before .before in
     let a = start .args in
     let p = start .pre in
     let r = c .before .before .begin .ensures in
-    (refl, refl, first _ (a .n) (a .s) (p .0 .0) (p .0 .1) (arcs-bounded _ _ _ _ _ (p .1)) _ _ (r .0) (r .1 .0) (r .1 .1 .0))
+    (refl, refl, first _ (a .n) (a .s) (p .0 .0) (p .0 .1) (arcs-bounded _ _ _ _ (p .1)) _ _ (r .0) (r .1 .0) (r .1 .1 .0))
 
 round-requires : tie.Need-round-requires Inv-loop μ-loop
 round-requires c κs =
-    let start = c .before .before .before .before .before .before .before .before .before .before .before in
+    let start = c .before .before .before .before .before .before .before .before .before .before in
     let a = start .args in
     let p = start .pre in
     let l = c .before .before .loop in (
       (
         l .inv .2 .holds,
         omega (arith, c .before .loop-test .taken),
-        standing-first (arcsUnder (a .edges .now) (a .closed .now) (a .lines .now)) (a .n) (a .s) (l .k) (l .e) _
+        standing-first (arcsUnder (a .edges .now) (a .lines .now)) (a .n) (a .s) (l .k) (l .e) _
             (l .inv .2),
       ),
       (
-        edges-kept (a .edges .now) (a .closed .now) (a .lines .now) (a .n) (a .work .now) (l .work)
+        edges-kept (a .edges .now) (a .lines .now) (a .n) (a .work .now) (l .work)
             (l .inv .1 ∙ c .before .before .before .before .before .begin .ensures .1 .1 .1) (p .1),
         search needs,
       ),
@@ -57,13 +57,13 @@ loop-less c = omega (arith, c .before .before .before .before .before .loop .inv
 
 loop-again : tie.Need-loop-again Inv-loop μ-loop
 loop-again c =
-    let start = c .before .before .before .before .before .before .before .before .before .before .before .before .before .before in
+    let start = c .before .before .before .before .before .before .before .before .before .before .before .before .before in
     let a = start .args in
     let p = start .pre in
     let l = c .before .before .before .before .before .loop in (
       search needs,
       c .before .before .round .ensures .1 ∙ l .inv .1,
-      next _ (a .n) (a .s) (p .0 .0) (p .0 .1) (arcs-bounded _ _ _ _ _ (p .1))
+      next _ (a .n) (a .s) (p .0 .0) (p .0 .1) (arcs-bounded _ _ _ _ (p .1))
           (l .k) (l .e) _ (l .inv .2) _ _ (c .before .before .round .ensures .0),
     )
 
@@ -75,12 +75,12 @@ same-length c = search needs
 
 returns : tie.Need-returns Inv-loop μ-loop
 returns c =
-    let start = c .before .before .before .before .before .before .before .before .before .before .before .before .before .before in
+    let start = c .before .before .before .before .before .before .before .before .before .before .before .before .before in
     let a = start .args in
     let p = start .pre in
     let l = c .before .before .before .before .before .loop in
     let o = c .before .before .finish .ensures in (
-      last _ (a .n) (a .s) (p .0 .0) (p .0 .1) (arcs-bounded _ _ _ _ _ (p .1)) (l .k) (l .e) _ (l .inv .2)
+      last _ (a .n) (a .s) (p .0 .0) (p .0 .1) (arcs-bounded _ _ _ _ (p .1)) (l .k) (l .e) _ (l .inv .2)
           (omega (arith, c .before .before .before .before .loop-test .left)) _ (o .0) (o .1 .0),
       o .1 .1 ∙ (l .inv .1 ∙ c .before .before .before .before .before .before .before .before .begin .ensures .1 .1 .1),
     )

@@ -5,15 +5,15 @@ use Rattle.search.proofs.relax.relax.Statement.{statement}
 use Rattle.search.proofs.relax.relax.Tie as tie
 
 relax-plain-requires : tie.Need-relax-plain-requires
-relax-plain-requires c κs = let p = c .before .before .before .before .before .before .pre in
-    (p .0, (rw (no-bytes (c .before .before .before .before .before .before .args .lines .now) (c .before .if1 .taken)) at (p .1 .0), p .1 .1))
+relax-plain-requires c κs = let p = c .before .before .before .before .before .pre in
+    (p .0, (rw (no-bytes (c .before .before .before .before .before .args .lines .now) (c .before .if1 .taken)) at (p .1 .0), p .1 .1))
 
 same-length : tie.Need-same-length
 same-length c = search needs
 
 returns : tie.Need-returns
 returns c = let r = c .before .before .relax-plain .ensures in (
-  rw (no-bytes (c .before .before .before .before .before .before .before .before .before .args .lines .now) (c .before .before .before .before .if1 .taken))
+  rw (no-bytes (c .before .before .before .before .before .before .before .before .args .lines .now) (c .before .before .before .before .if1 .taken))
       (r .0),
   r .1,
 )

@@ -13,10 +13,10 @@ use Rattle.arcs.specs.Leaving.{arcRank}
 use Rattle.arcs.proofs.Passes.{first-arc-here, passes-first}
 
 abbrev Inv-loop : tie.InvT-loop
-Inv-loop edges closed work₀ n k e u d front held₀ a₀ work held a = (length work ≡ length work₀) × RelaxedArcs edges closed [] n e u d work₀ a work held
+Inv-loop edges work₀ n k e u d front held₀ a₀ work held a = (length work ≡ length work₀) × RelaxedArcs edges [] n e u d work₀ a work held
 
 abbrev μ-loop : tie.MeasureT-loop
-μ-loop edges closed work₀ n k e u d front held₀ a₀ work held a = arcRank edges a
+μ-loop edges work₀ n k e u d front held₀ a₀ work held a = arcRank edges a
 
 time-of-requires : tie.Need-time-of-requires Inv-loop μ-loop
 time-of-requires c κs = search needs
@@ -29,33 +29,33 @@ mul-front c = search needs
 
 first-edge-requires : tie.Need-first-edge-requires Inv-loop μ-loop
 first-edge-requires c κs =
-    let p = c .before .before .before .before .before .before .pre in
+    let p = c .before .before .before .before .before .pre in
     ((p .0 .0 .queue .positioned .few, p .1 .1, p .0 .1), p .1 .0 .roads)
 
 arc-at-requires : tie.Need-arc-at-requires Inv-loop μ-loop
-arc-at-requires c κs = (c .before .before .before .before .before .before .before .pre .1 .0 .roads .ends, λ l. c .first-edge .ensures .valid .here l .end)
+arc-at-requires c κs = (c .before .before .before .before .before .before .pre .1 .0 .roads .ends, λ l. c .first-edge .ensures .valid .here l .end)
 
 loop-holds : tie.Need-loop-holds Inv-loop μ-loop
 loop-holds c =
-    let s = c .before .before .before .before .before .before .before .before in
+    let s = c .before .before .before .before .before .before .before in
     let time-of = c .before .before .before .time-of in
     let a = s .args in
     let p = s .pre in (
       refl,
-      passed-first (a .edges .now) (a .closed .now) [] (a .n) (a .e) (a .u) (time-of .result) (a .work .now) (a .k) _ (p .0 .0)
+      passed-first (a .edges .now) [] (a .n) (a .e) (a .u) (time-of .result) (a .work .now) (a .k) _ (p .0 .0)
           (rw (time-read (a .n) (a .u) (a .work .now) (p .0 .1) _ (time-of .ensures .0)) at (p .0 .2)) (p .1 .0)
-          (passes-first _ _ _ _ _ _ _ _ (first-arc-here _ _ _ _ _ _ _ _ (c .arc-at .ensures .0) (c .before .first-edge .ensures .valid)
+          (passes-first _ _ _ _ _ _ _ (first-arc-here _ _ _ _ _ _ _ (c .arc-at .ensures .0) (c .before .first-edge .ensures .valid)
           (λ z. omega (arith, z, c .arc-at .ensures .1))) (c .before .first-edge .ensures)),
     )
 
 slice-relend-prefix-offer-in : tie.Need-slice-relend-prefix-offer-in Inv-loop μ-loop
 slice-relend-prefix-offer-in c =
-    let p = c .before .before .before .before .before .before .before .before .before .before .before .pre in
+    let p = c .before .before .before .before .before .before .before .before .before .before .pre in
     omega (arith, c .before .before .loop .inv .0, p .1 .1)
 
 slice-aggregate-offer-in : tie.Need-slice-aggregate-offer-in Inv-loop μ-loop
 slice-aggregate-offer-in c =
-    let s = c .before .before .before .before .before .before .before .before .before .before .before .before in
+    let s = c .before .before .before .before .before .before .before .before .before .before .before in
     let l = c .before .before .before .loop in
     sym (length-take-le (3 * s .args .n) (l .work) (omega (arith, l .inv .0, s .pre .1 .1)))
 
@@ -71,8 +71,7 @@ offer-in-requires c κs =
 
 next-arc-requires : tie.Need-next-arc-requires Inv-loop μ-loop
 next-arc-requires c κs =
-    let s = c .before .before .before .before .before .before .before .before .before .before
-    .before .before .before .before .before .before .before in
+    let s = c .before .before .before .before .before .before .before .before .before .before .before .before .before .before .before .before in
     let offer-in = c .before .before .before .offer-in in
     let a = s .args in
     let p = s .pre in
@@ -82,10 +81,10 @@ next-arc-requires c κs =
     let d = c .before .before .before .before .before .before .before .before .before .before .before .before .time-of .result in (
       (p .0 .0 .queue .positioned .few, search needs, p .0 .1),
       (
-        turn-edges (a .edges .now) (a .closed .now) [] (a .n) (a .e) (a .u) d (a .work .now) (l .a) (l .held)
+        turn-edges (a .edges .now) [] (a .n) (a .e) (a .u) d (a .work .now) (l .a) (l .held)
             (l .work) ys (l .inv .1) (omega (arith, l .inv .0, p .1 .1)) k .roads,
         (
-          turn-passes (a .edges .now) (a .closed .now) [] (a .n) (a .e) (a .u) d (a .work .now)
+          turn-passes (a .edges .now) [] (a .n) (a .e) (a .u) d (a .work .now)
               (l .a) (l .held) (l .work) ys (l .inv .1) (omega (arith, l .inv .0, p .1 .1)) k .valid,
           c .before .before .before .before .before .before .if1 .taken,
         ),
@@ -97,14 +96,13 @@ loop-less c = c .next-arc .ensures .less
 
 loop-again : tie.Need-loop-again Inv-loop μ-loop
 loop-again c =
-    let s = c .before .before .before .before .before .before .before .before .before .before
-    .before .before .before .before .before .before .before .before in
+    let s = c .before .before .before .before .before .before .before .before .before .before .before .before .before .before .before .before .before in
     let offer-in = c .before .before .before .before .offer-in in
     let a = s .args in
     let l = c .before .before .before .before .before .before .before .before .before .loop in
     let d = c .before .before .before .before .before .before .before .before .before .before .before .before .before .time-of .result in (
       search needs,
-      passed-next (a .edges .now) (a .closed .now) [] (a .n) (a .e) (a .u) d (a .work .now) (l .a) (l .held) (l .work) (offer-in .last .0)
+      passed-next (a .edges .now) [] (a .n) (a .e) (a .u) d (a .work .now) (l .a) (l .held) (l .work) (offer-in .last .0)
           (l .inv .1) (omega (arith, l .inv .0, s .pre .1 .1)) (offer-in .kept .0) _ (offer-in .ensures) _ (c .next-arc .ensures),
     )
 
@@ -113,12 +111,12 @@ same-length c = search needs
 
 returns : tie.Need-returns Inv-loop μ-loop
 returns c =
-    let s = c .before .before .before .before .before .before .before .before .before .before .before in
+    let s = c .before .before .before .before .before .before .before .before .before .before in
     let time-of = c .before .before .before .before .before .before .time-of in
     let a = s .args in
     let l = c .before .before .loop in (
       rw (time-read (a .n) (a .u) (a .work .now) (s .pre .0 .1) _ (time-of .ensures .0))
-          (passed-last (a .edges .now) (a .closed .now) [] (a .n) (a .e) (a .u) (time-of .result) (a .work .now) (l .held) (l .work) (l .a)
+          (passed-last (a .edges .now) [] (a .n) (a .e) (a .u) (time-of .result) (a .work .now) (l .held) (l .work) (l .a)
           (omega (arith, c .if1 .left)) (l .inv .1)),
       l .inv .1 .others,
     )

@@ -27,7 +27,7 @@ sub-relax-2 c = search needs
 
 relax-requires : tie.Need-relax-requires
 relax-requires c κs =
-    let s = c .before .before .before .before .before .before .before .before .before in
+    let s = c .before .before .before .before .before .before .before .before in
     let settle-nearest = c .before .before .before .settle-nearest in
     let a = s .args in
     let p = s .pre in
@@ -40,7 +40,7 @@ relax-requires c κs =
         round-within (a .n) (a .work .now) ys (search needs) k (a .k) (a .e) _ t (p .0 .2),
       ),
       (
-        edges-kept (a .edges .now) (a .closed .now) (a .lines .now) (a .n) (a .work .now) _
+        edges-kept (a .edges .now) (a .lines .now) (a .n) (a .work .now) _
             (others (a .n) (a .work .now) ys (search needs) k) (p .1 .0),
         search needs,
       ),
@@ -52,11 +52,11 @@ same-length c = search needs
 returns : tie.Need-returns
 returns c =
     let settle-nearest = c .before .before .before .before .before .before .settle-nearest in
-    let a = c .before .before .before .before .before .before .before .before .before .before .before .before .args in
+    let a = c .before .before .before .before .before .before .before .before .before .before .before .args in
     let t = settle-nearest .ensures in
     let ys = settle-nearest .last .0 in
     let k = settle-nearest .kept .0 in (
-      round-front (a .n) (a .work .now) ys (search needs) k (a .k) (a .e) _ t (arcsUnder (a .edges .now) (a .closed .now) (a .lines .now)) _ _
+      round-front (a .n) (a .work .now) ys (search needs) k (a .k) (a .e) _ t (arcsUnder (a .edges .now) (a .lines .now)) _ _
           (c .before .before .relax .ensures .0),
       c .before .before .relax .ensures .1 ∙ others (a .n) (a .work .now) ys (search needs) k,
     )

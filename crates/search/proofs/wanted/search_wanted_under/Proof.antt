@@ -16,41 +16,41 @@ use Rattle.search.proofs.wanted.search_wanted_under.Tie as tie
 use Rattle.words.specs.Regions.{frontIn, wantIn, searchWords}
 
 abbrev Inv-loop : tie.InvT-loop
-Inv-loop edges closed lines n s left work₀ k₀ e₀ lacking₀ work k e lacking =
+Inv-loop edges lines n s left work₀ k₀ e₀ lacking₀ work k e lacking =
     (length work ≡ length work₀) × (KeptFrom (searchWords n) work₀ work)
-    × Wanting (arcsUnder edges closed lines) n s k e lacking (wantIn n work₀) (frontIn n work)
+    × Wanting (arcsUnder edges lines) n s k e lacking (wantIn n work₀) (frontIn n work)
 
 abbrev μ-loop : tie.MeasureT-loop
-μ-loop edges closed lines n s left work₀ k₀ e₀ lacking₀ work k e lacking = e
+μ-loop edges lines n s left work₀ k₀ e₀ lacking₀ work k e lacking = e
 
 begin-requires : tie.Need-begin-requires Inv-loop μ-loop
 begin-requires c κs = search needs
 
 loop-holds : tie.Need-loop-holds Inv-loop μ-loop
 loop-holds c =
-    let start = c .before .before .before .before .before .before .before .before in
+    let start = c .before .before .before .before .before .before .before in
     let a = start .args in
     let p = start .pre in
     let r = c .before .before .begin .ensures in (
       refl,
       refl,
-      wanting-begun (arcsUnder (a .edges .now) (a .closed .now) (a .lines .now)) (a .n) (a .s) _ (a .left) (a .work .now) _ (r .1 .1 .1)
-          (first _ (a .n) (a .s) (p .0 .0) (p .0 .1) (arcs-bounded _ _ _ _ _ (p .1)) _ _ (r .0) (r .1 .0) (r .1 .1 .0)) (r .1 .1 .0) (p .0 .3),
+      wanting-begun (arcsUnder (a .edges .now) (a .lines .now)) (a .n) (a .s) _ (a .left) (a .work .now) _ (r .1 .1 .1)
+          (first _ (a .n) (a .s) (p .0 .0) (p .0 .1) (arcs-bounded _ _ _ _ (p .1)) _ _ (r .0) (r .1 .0) (r .1 .1 .0)) (r .1 .1 .0) (p .0 .3),
     )
 
 round-requires : tie.Need-round-requires Inv-loop μ-loop
 round-requires c κs =
-    let start = c .before .before .before .before .before .before .before .before .before .before .before .before in
+    let start = c .before .before .before .before .before .before .before .before .before .before .before in
     let a = start .args in
     let p = start .pre in
     let l = c .before .before .before .loop in (
       (
         l .inv .2 .standing .holds,
         omega (arith, c .before .before .loop-test .taken),
-        standing-first (arcsUnder (a .edges .now) (a .closed .now) (a .lines .now)) (a .n) (a .s) (l .k) (l .e) _ (l .inv .2 .standing),
+        standing-first (arcsUnder (a .edges .now) (a .lines .now)) (a .n) (a .s) (l .k) (l .e) _ (l .inv .2 .standing),
       ),
       (
-        edges-kept (a .edges .now) (a .closed .now) (a .lines .now) (a .n) (a .work .now) (l .work)
+        edges-kept (a .edges .now) (a .lines .now) (a .n) (a .work .now) (l .work)
             (l .inv .1 ∙ c .before .before .before .before .before .before .begin .ensures .1 .1 .1) (p .1),
         search needs,
       ),
@@ -66,7 +66,7 @@ sub-e c = omega (
 
 left-then-requires : tie.Need-left-then-requires Inv-loop μ-loop
 left-then-requires c κs =
-    let start = c .before .before .before .before .before .before .before .before .before .before .before .before .before .before .before .before in
+    let start = c .before .before .before .before .before .before .before .before .before .before .before .before .before .before .before in
     let test = c .before .before .before .before .before .before .loop-test in
     let a = start .args in
     let p = start .pre in
@@ -76,7 +76,7 @@ left-then-requires c κs =
       omega (arith, h .held, h .room, test .taken),
       ltb-true 0 (l .lacking) (c .before .before .before .before .before .if1 .taken),
       search needs,
-      node-inside _ (a .n) (a .s) (p .0 .0) (p .0 .1) (arcs-bounded _ _ _ _ _ (p .1)) (l .k) (l .e) _ _ _ _ (test .taken) (t .1 ∙ l .inv .1)
+      node-inside _ (a .n) (a .s) (p .0 .0) (p .0 .1) (arcs-bounded _ _ _ _ (p .1)) (l .k) (l .e) _ _ _ _ (test .taken) (t .1 ∙ l .inv .1)
           (l .inv .2) _ (t .0),
     )
 
@@ -90,14 +90,14 @@ loop-less c =
 
 loop-again : tie.Need-loop-again Inv-loop μ-loop
 loop-again c =
-    let start = c .before .before .before .before .before .before .before .before .before .before .before .before .before .before .before .before .before in
+    let start = c .before .before .before .before .before .before .before .before .before .before .before .before .before .before .before .before in
     let a = start .args in
     let p = start .pre in
     let l = c .before .before .before .before .before .before .before .before .loop in
     let t = c .before .before .before .before .round .ensures in (
       search needs,
       t .1 ∙ l .inv .1,
-      turn _ (a .n) (a .s) (p .0 .0) (p .0 .1) (arcs-bounded _ _ _ _ _ (p .1)) (l .k) (l .e) _ _ _ _
+      turn _ (a .n) (a .s) (p .0 .0) (p .0 .1) (arcs-bounded _ _ _ _ (p .1)) (l .k) (l .e) _ _ _ _
           (c .before .before .before .before .before .before .before .loop-test .taken) (t .1 ∙ l .inv .1) (l .inv .2) _ (t .0) _ (c .left-then .ensures),
     )
 
@@ -109,13 +109,13 @@ same-length c = search needs
 
 returns : tie.Need-returns Inv-loop μ-loop
 returns c =
-    let start = c .before .before .before .before .before .before .before .before .before .before .before .before .before .before in
+    let start = c .before .before .before .before .before .before .before .before .before .before .before .before .before in
     let a = start .args in
     let p = start .pre in
     let l = c .before .before .before .before .before .loop in
     let o = c .before .before .finish .ensures in
     let b = c .before .before .before .before .before .before .before .before .begin .ensures .1 .1 .1 in (
-      stop-wanted _ (a .n) (a .s) (p .0 .0) (p .0 .1) (arcs-bounded _ _ _ _ _ (p .1)) (l .k) (l .e) _ (a .work .now) _ b _ (l .inv .2)
+      stop-wanted _ (a .n) (a .s) (p .0 .0) (p .0 .1) (arcs-bounded _ _ _ _ (p .1)) (l .k) (l .e) _ (a .work .now) _ b _ (l .inv .2)
           (⊎-elim (λ z. inr (omega (arith, ltb-false 0 (l .lacking) (z .1 .left)))) (λ z. inl (omega (arith, z .left)))
           (c .before .before .before .before .loop-test .came)) _ (o .0) (o .1 .0),
       o .1 .1 ∙ (l .inv .1 ∙ b),

@@ -18,9 +18,9 @@ module _ {b body : Bytes} (edges : Bytes) where
   named : b ≡ body → {r : Bool} → r ≡ any (namesNone (edgeCount edges)) (linesIn b) → {x : Bool} → r ≡ x → any (namesNone (edgeCount edges)) (linesIn body) ≡ x
   named p q h = sym (ap (λ (l : Bytes). any (namesNone (edgeCount edges)) (linesIn l)) p) ∙ (sym q ∙ h)
 
-  slowed : (closed : Bytes) → b ≡ body → {r : Bool} → r ≡ any tooSlow (leftUnder edges closed b) → {x : Bool} → r ≡ x
-      → any tooSlow (leftUnder edges closed body) ≡ x
-  slowed closed p q h = sym (ap (λ (l : Bytes). any tooSlow (leftUnder edges closed l)) p) ∙ (sym q ∙ h)
+  slowed : b ≡ body → {r : Bool} → r ≡ any tooSlow (leftUnder edges b) → {x : Bool} → r ≡ x
+      → any tooSlow (leftUnder edges body) ≡ x
+  slowed p q h = sym (ap (λ (l : Bytes). any tooSlow (leftUnder edges l)) p) ∙ (sym q ∙ h)
 
 sheet-broken-requires : tie.Need-sheet-broken-requires
 sheet-broken-requires c κs = search needs
@@ -38,24 +38,24 @@ returns-2 : tie.Need-returns-2
 unfolding edgeCount
 returns-2 c =
     let sheet-broken = c .before .before .before .before .sheet-broken in
-    let a = c .before .before .before .before .before .before .before .before .args in
+    let a = c .before .before .before .before .before .before .before .args in
     goes 18 _ (sym (sheet-broken .ensures) ∙ c .before .before .before .if1 .left) (stops 19 _ (named (a .edges .now)
     (c .before .before .line-body .ensures) (c .before .names-broken .ensures) (c .if2 .taken)))
 
 slow-broken-requires : tie.Need-slow-broken-requires
 unfolding edgeCount
-slow-broken-requires c κs = (c .before .before .before .before .before .before .before .before .pre, sym (c .before .names-broken .ensures) ∙ c .if2 .left)
+slow-broken-requires c κs = (c .before .before .before .before .before .before .before .pre, sym (c .before .names-broken .ensures) ∙ c .if2 .left)
 
 returns-3 : tie.Need-returns-3
 unfolding edgeCount
 returns-3 c =
     let sheet-broken = c .before .before .before .before .before .before .sheet-broken in
     let if1 = c .before .before .before .before .before .if1 in
-    let a = c .before .before .before .before .before .before .before .before .before .before .args in
+    let a = c .before .before .before .before .before .before .before .before .before .args in
     let line-body = c .before .before .before .before .line-body in
     let names-broken = c .before .before .before .names-broken in
     goes 18 _ (sym (sheet-broken .ensures) ∙ if1 .left) (goes 19 _ (named (a .edges .now) (line-body .ensures) (names-broken .ensures)
-    (c .before .before .if2 .left)) (stops 20 _ (slowed (a .edges .now) (a .closed .now) (line-body .ensures) (c .before .slow-broken .ensures)
+    (c .before .before .if2 .left)) (stops 20 _ (slowed (a .edges .now) (line-body .ensures) (c .before .slow-broken .ensures)
     (c .if3 .taken))))
 
 returns-4 : tie.Need-returns-4
@@ -63,11 +63,11 @@ unfolding edgeCount
 returns-4 c =
     let sheet-broken = c .before .before .before .before .before .before .sheet-broken in
     let if1 = c .before .before .before .before .before .if1 in
-    let a = c .before .before .before .before .before .before .before .before .before .before .args in
+    let a = c .before .before .before .before .before .before .before .before .before .args in
     let line-body = c .before .before .before .before .line-body in
     let names-broken = c .before .before .before .names-broken in
     goes 18 _ (sym (sheet-broken .ensures) ∙ if1 .left) (goes 19 _ (named (a .edges .now) (line-body .ensures) (names-broken .ensures)
-    (c .before .before .if2 .left)) (goes 20 _ (slowed (a .edges .now) (a .closed .now) (line-body .ensures) (c .before .slow-broken .ensures)
+    (c .before .before .if2 .left)) (goes 20 _ (slowed (a .edges .now) (line-body .ensures) (c .before .slow-broken .ensures)
     (c .if3 .left)) none))
 
 pub sheet-refusal-spec : {M : Type 1} → statement M

@@ -5,7 +5,6 @@ use mathlib.Core.List.{map}
 use Rattle.model.specs.Lists.{any}
 use Rattle.theory.specs.RangeLaws.{rest, rest-step, rest-end}
 use Rattle.theory.specs.Scans.{scan-all, scan-found, scan-passed, scan-end}
-use Rattle.model.specs.Bytes.{words16}
 use Rattle.sheet.specs.Sheet.{line, lineCount, linesIn, holds}
 use Rattle.sheet.specs.Under.{tooSlow}
 use Rattle.sheet.specs.ArcsUnder.{leftUnder}
@@ -16,27 +15,27 @@ use Rattle.sheet.proofs.slow.slow_broken.Statement.{statement}
 use Rattle.sheet.proofs.slow.slow_broken.Tie as tie
 
 abbrev Inv-loop : tie.InvT-loop
-Inv-loop edges closed lines m k₀ k =
-    any tooSlow (leftUnder edges closed lines) ≡ any (lineSlow (holds (linesIn lines)) edges (words16 closed)) (map (line lines) (rest k m))
+Inv-loop edges lines m k₀ k =
+    any tooSlow (leftUnder edges lines) ≡ any (lineSlow (holds (linesIn lines)) edges) (map (line lines) (rest k m))
 
 abbrev μ-loop : tie.MeasureT-loop
-μ-loop edges closed lines m k₀ k = m - k
+μ-loop edges lines m k₀ k = m - k
 
 loop-holds : tie.Need-loop-holds Inv-loop μ-loop
 unfolding lineCount
 loop-holds c =
-    let a = c .before .before .before .args in
-    let p = c .before .before .before .pre in
-    slow-lines (a .edges .now) (a .closed .now) (a .lines .now) (p .0 .0) (p .1)
-    ∙ (unfold linesIn in scan-all (lineSlow (holds (linesIn (a .lines .now))) (a .edges .now) (words16 (a .closed .now))) (line (a .lines .now)) _)
+    let a = c .before .before .args in
+    let p = c .before .before .pre in
+    slow-lines (a .edges .now) (a .lines .now) (p .0) (p .1)
+    ∙ (unfold linesIn in scan-all (lineSlow (holds (linesIn (a .lines .now))) (a .edges .now)) (line (a .lines .now)) _)
 
 line-slow-requires : tie.Need-line-slow-requires Inv-loop μ-loop
 unfolding lineCount
 line-slow-requires c κs =
-    let a = c .before .before .before .before .before .args in
-    let p = c .before .before .before .before .before .pre in
+    let a = c .before .before .before .before .args in
+    let p = c .before .before .before .before .pre in
     let h : c .before .loop .k < lineCount (a .lines .now) = c .loop-test .taken in
-    ((p .0 .1, h), names-edge (a .edges .now) (a .closed .now) (a .lines .now) (p .0 .0) (p .1) (c .before .loop .k) h)
+    (h, names-edge (a .edges .now) (a .lines .now) (p .0) (p .1) (c .before .loop .k) h)
 
 returns : tie.Need-returns Inv-loop μ-loop
 returns c =

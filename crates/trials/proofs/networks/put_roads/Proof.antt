@@ -7,10 +7,10 @@ use Rattle.trials.proofs.networks.put_roads.Statement.{statement}
 use Rattle.trials.proofs.networks.put_roads.Tie as tie
 
 abbrev Inv-loop : tie.InvT-loop
-Inv-loop b₀ net end closed₀ i₀ b closed i = length b ≡ length b₀
+Inv-loop b₀ net end i₀ b i = length b ≡ length b₀
 
 abbrev μ-loop : tie.MeasureT-loop
-μ-loop b₀ net end closed₀ i₀ b closed i = end - i
+μ-loop b₀ net end i₀ b i = end - i
 
 loop-holds : tie.Need-loop-holds Inv-loop μ-loop
 loop-holds c = search needs

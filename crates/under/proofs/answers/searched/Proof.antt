@@ -11,20 +11,16 @@ use Rattle.under.proofs.answers.searched.Tie as tie
 oracle-body-requires : tie.Need-oracle-body-requires
 oracle-body-requires c κs = search needs
 
-oracle-body-requires-2 : tie.Need-oracle-body-requires-2
-oracle-body-requires-2 c κs = search needs
-
 node-count-requires : tie.Need-node-count-requires
 node-count-requires c κs = search needs
 
 search-seconds-requires : tie.Need-search-seconds-requires
 search-seconds-requires c κs =
-    let p = c .before .before .before .before .before .before .before .pre in
-    let edges = c .before .before .before .oracle-body .ensures in
-    let closed = c .before .before .oracle-body2 .ensures in
+    let p = c .before .before .before .before .before .before .pre in
+    let edges = c .before .before .oracle-body .ensures in
     let n = c .before .node-count .ensures in
-    let k = lent _ _ (p .0 .0) _ _ _ edges closed n in
-    (k .few, k .below _ (p .0 .1), k .below _ (p .0 .2), k .room, rw (edges, closed, n) (p .1), k .below 1 (omega (arith, p .0 .1, p .0 .2, p .0 .3)))
+    let k = lent _ _ (p .0 .0) _ _ edges n in
+    (k .few, k .below _ (p .0 .1), k .below _ (p .0 .2), k .room, rw (edges, n) (p .1), k .below 1 (omega (arith, p .0 .1, p .0 .2, p .0 .3)))
 
 answer-of-requires : tie.Need-answer-of-requires
 answer-of-requires c κs = search needs
@@ -34,14 +30,10 @@ same-length c = search needs
 
 returns : tie.Need-returns
 returns c =
-    let p = c .before .before .before .before .before .before .before .before .before .before .before .pre in
-    let a = c .before .before .before .before .before .before .before .before .before .before .before .args in
+    let p = c .before .before .before .before .before .before .before .before .before .before .pre in
+    let a = c .before .before .before .before .before .before .before .before .before .before .args in
     let n = c .before .before .before .before .before .node-count .ensures in
-    let found = rw (
-      c .before .before .before .before .before .before .before .oracle-body .ensures,
-      c .before .before .before .before .before .before .oracle-body2 .ensures,
-      n,
-    ) at (c .before .before .before .search-seconds .ensures .0) in (
+    let found = rw (c .before .before .before .before .before .before .oracle-body .ensures, n) at (c .before .before .before .search-seconds .ensures .0) in (
       c .answer-of .ensures ∙ local-under (a .o .now) (a .lines .now) (all-shaped _ (p .0 .0 .shape)) (p .1 .quick) (a .s) (a .t) _ (p .0 .1) found,
       rw n at (c .before .before .before .search-seconds .ensures .1),
     )
@@ -51,7 +43,6 @@ searched-spec =
     tie.close
     (tie.spec
     oracle-body-requires
-    oracle-body-requires-2
     node-count-requires
     search-seconds-requires
     answer-of-requires

@@ -46,8 +46,8 @@ returns-2 : tie.Need-returns-2
 unfolding effects
 returns-2 c =
     let r = c .before .before .before .before .before .before .before .before .way-under-of .ensures in
-    let e = c .before .before .before .before .before .before .before .before .before .before .before .before
-    .before .before .before .before .before .time-under-refusal .ensures in
+    let e = c .before .before .before .before .before .before .before .before .before .before .before .before .before .before .before .before .before
+    .time-under-refusal .ensures in
     let z = c .before .before .before .before .before .before .before .before .before .before .before .before .before .before .before .before .if1 .left in
     let l = c .before .before .before .before .before .before .before .before .before .before .before .line-body .ensures in
     let q = c .before .before .before .before .before .before .before .before .before .before .before .before .before .before .open-words .ensures .1 in

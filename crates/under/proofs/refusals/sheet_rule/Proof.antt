@@ -9,20 +9,16 @@ use Rattle.under.proofs.refusals.sheet_rule.Tie as tie
 oracle-body-requires : tie.Need-oracle-body-requires
 oracle-body-requires c κs = search needs
 
-oracle-body-requires-2 : tie.Need-oracle-body-requires-2
-oracle-body-requires-2 c κs = search needs
-
 sheet-refusal-requires : tie.Need-sheet-refusal-requires
 sheet-refusal-requires c κs =
-    let sound = all-shaped _ (c .before .before .before .before .pre) .sound in
-    (rw (c .before .oracle-body .ensures) (quick _ _ (sound .some-edge)), rw (c .before .oracle-body .ensures, c .oracle-body2 .ensures) (sound .closed))
+    let sound = all-shaped _ (c .before .before .before .pre) .sound in
+    rw (c .oracle-body .ensures) (quick _ _ (sound .some-edge))
 
 returns : tie.Need-returns
 returns c = rw (
-  sheet-rules (c .before .before .before .before .before .args .o .now) (c .before .before .before .before .before .args .sheet .now),
-  ←
-      c .before .before .oracle-body .ensures,
-  ← c .before .oracle-body2 .ensures,
+  sheet-rules (c .before .before .before .before .args .o .now) (c .before .before .before .before .args .sheet .now),
+  ← c .before
+      .oracle-body .ensures,
 ) (c .sheet-refusal .ensures)
 
 pub sheet-rule-spec : {M : Type 1} → statement M
@@ -30,6 +26,5 @@ sheet-rule-spec =
     tie.close
     (tie.spec
     oracle-body-requires
-    oracle-body-requires-2
     sheet-refusal-requires
     returns)

@@ -28,18 +28,14 @@ returns c =
 oracle-body-requires : tie.Need-oracle-body-requires
 oracle-body-requires c κs = search needs
 
-oracle-body-requires-2 : tie.Need-oracle-body-requires-2
-oracle-body-requires-2 c κs = search needs
-
 node-count-requires : tie.Need-node-count-requires
 node-count-requires c κs = search needs
 
 noted-way-requires : tie.Need-noted-way-requires
 noted-way-requires c κs =
-    let p = c .before .before .before .before .before .before .before .before .before .before .pre in
-    let edges = c .before .before .before .before .oracle-body .ensures in
-    let closed = c .before .before .before .oracle-body2 .ensures in
-    let k = lent _ _ (p .0 .0) _ _ _ edges closed (c .before .before .node-count .ensures) in (
+    let p = c .before .before .before .before .before .before .before .before .before .pre in
+    let edges = c .before .before .before .oracle-body .ensures in
+    let k = lent _ _ (p .0 .0) _ _ edges (c .before .before .node-count .ensures) in (
       (
         k .few,
         k .below _ (p .0 .1),
@@ -47,9 +43,9 @@ noted-way-requires c κs =
         k .room,
         k .roads,
         k .below 1
-            (omega (arith, p .0 .1, p .0 .2, c .before .before .before .before .before .if1 .left)),
+            (omega (arith, p .0 .1, p .0 .2, c .before .before .before .before .if1 .left)),
       ),
-      rw (edges, closed) (p .1),
+      rw edges (p .1),
     )
 
 same-length-2 : tie.Need-same-length-2
@@ -61,21 +57,15 @@ same-length-3 c = search needs
 returns-2 : tie.Need-returns-2
 unfolding wayUnder
 returns-2 c =
-    let p = c .before .before .before .before .before .before .before .before .before .before .before .before .before .before .before .pre in
-    let a = c .before .before .before .before .before .before .before .before .before .before .before .before .before .before .before .args in
+    let p = c .before .before .before .before .before .before .before .before .before .before .before .before .before .before .pre in
+    let a = c .before .before .before .before .before .before .before .before .before .before .before .before .before .before .args in
     let n = c .before .before .before .before .before .before .before .node-count .ensures in
     let r = c .before .before .before .before .noted-way .ensures in
     let e = way-is (a .o .now) (a .lines .now) (all-shaped _ (p .0 .0 .shape)) (p .1) (a .s) (a .t) (p .0 .2) in (
-      rw (
-        ← e,
-        ← c .before .before .before .before .before .before .before .before .before .oracle-body .ensures,
-        ←
-            c .before .before .before .before .before .before .before .before .oracle-body2 .ensures,
-        ← n,
-      ) (r .0),
+      rw (← e, ← c .before .before .before .before .before .before .before .before .oracle-body .ensures, ← n) (r .0),
       noted-stays _ _ _ (p .0 .0)
-          (omega (arith, p .0 .1, p .0 .2, c .before .before .before .before .before .before .before .before .before .before .if1 .left))
-          (c .before .before .before .before .noted-way .kept .1 .1 .1 .1 .1 .1 .0) (rw n at (r .1)),
+          (omega (arith, p .0 .1, p .0 .2, c .before .before .before .before .before .before .before .before .before .if1 .left))
+          (c .before .before .before .before .noted-way .kept .1 .1 .1 .1 .1 .0) (rw n at (r .1)),
     )
 
 pub way-under-of-spec : {M : Type 1} → statement M
@@ -86,7 +76,6 @@ way-under-of-spec =
     same-length
     returns
     oracle-body-requires
-    oracle-body-requires-2
     node-count-requires
     noted-way-requires
     same-length-2

@@ -25,12 +25,6 @@ write-wages-requires c κs =
     let p = c .before .before .before .before .before .before .before .before .pre in
     (p .0, p .1, omega (arith, c .before .before .before .leg-count .ensures, c .before .before .if1 .left))
 
-cast-t14 : tie.Need-cast-t14
-cast-t14 c =
-    let p = c .before .before .before .before .before .before .before .before .before .before .before .before .before .pre in
-    let leg-count = c .before .before .before .before .before .before .before .before .leg-count in
-    omega (arith, leg-count .ensures, p .1 .few)
-
 same-length : tie.Need-same-length
 same-length c = search needs
 
@@ -54,7 +48,6 @@ wages-of-spec =
     add-size
     returns
     write-wages-requires
-    cast-t14
     same-length
     same-length-2
     returns-2)

@@ -12,33 +12,33 @@ use Rattle.way.proofs.driven.still_driven.Statement.{statement}
 use Rattle.way.proofs.driven.still_driven.Tie as tie
 
 abbrev Inv-loop : tie.InvT-loop
-Inv-loop edges closed lines n work s u₀ u =
-    StillAt (stillDriven (distanceIn (timesIn n work)) (arcsUnder edges closed lines) (nodesIn edges closed [] n work s)) (timesIn n work)
-    (arcsUnder edges closed []) (arcsUnder edges closed lines) n u
+Inv-loop edges lines n work s u₀ u =
+    StillAt (stillDriven (distanceIn (timesIn n work)) (arcsUnder edges lines) (nodesIn edges [] n work s)) (timesIn n work)
+    (arcsUnder edges []) (arcsUnder edges lines) n u
 
 abbrev μ-loop : tie.MeasureT-loop
-μ-loop edges closed lines n work s u₀ u = leftAt (timesIn n work) n u
+μ-loop edges lines n work s u₀ u = leftAt (timesIn n work) n u
 
 time-of-requires : tie.Need-time-of-requires Inv-loop μ-loop
 time-of-requires c κs = search needs
 
 returns : tie.Need-returns Inv-loop μ-loop
 returns c =
-    let p = c .before .before .before .before .before .before .pre in
-    let a = c .before .before .before .before .before .before .args in
+    let p = c .before .before .before .before .before .pre in
+    let a = c .before .before .before .before .before .args in
     none-driven _ _ _ (a .n) _ (no-way (a .n) (a .work .now) _ (a .s) _ (p .0 .2) (p .0 .0) (c .before .time-of .ensures .1) (c .if1 .taken))
 
 loop-holds : tie.Need-loop-holds Inv-loop μ-loop
 loop-holds c =
-    let p = c .before .before .before .before .before .before .pre in
-    let a = c .before .before .before .before .before .before .args in
+    let p = c .before .before .before .before .before .pre in
+    let a = c .before .before .before .before .before .args in
     let t = c .before .time-of .ensures .1 in
     still-first _ _ _ _ (a .s) (p .0 .0) _ t (c .if1 .left)
-    (begins (a .n) (a .work .now) (arcsUnder (a .edges .now) (a .closed .now) []) (a .s) _ (p .0 .2) (p .0 .0) t (c .if1 .left))
+    (begins (a .n) (a .work .now) (arcsUnder (a .edges .now) []) (a .s) _ (p .0 .2) (p .0 .0) t (c .if1 .left))
 
 next-driven-requires : tie.Need-next-driven-requires Inv-loop μ-loop
 next-driven-requires c κs =
-    let p = c .before .before .before .before .before .before .before .before .pre in
+    let p = c .before .before .before .before .before .before .before .pre in
     let i = c .loop-test .taken in
     ((i, p .0 .1, p .0 .2, c .before .loop .inv .going i .0), p .1)
 
