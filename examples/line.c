@@ -4,7 +4,7 @@
 
 #include <stdio.h>
 
-/* Places (0,0), (30,0), (60,0); roads 0-1 of 7 seconds and 1-2 of 9; no closed road. */
+/* Places (0,0), (30,0), (60,0); roads 0-1 of 7 seconds and 1-2 of 9; an empty body 3. */
 static const uint8_t network[] = {
     1, 3,
     1, 29, 0, 0, 0, 24, 0, 0, 0,

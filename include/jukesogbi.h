@@ -7,8 +7,8 @@
  * Working memory is 8 words of 32 bits for each place of the file: 8 * N, N up to 4,096. What it holds before a call does not matter.
  *
  * What a call leaves in the caller's memory:
- *   refusals 1 to 14, 17 to 20   nothing is written
- *   refusals 15, 16              the first 8 * N working words are zero, output is untouched
+ *   refusals 1 to 14, 17 to 21   nothing is written
+ *   refusals 15, 16              the first 8 * N working words are zero (of calls that have them), output is untouched
  *   success                      the first 8 * N working words are zero (of calls that have them), the result stands at the front of output,
  *                                and nothing past either is touched
  * Beside a refusal, every other number of a record is 0.
@@ -24,7 +24,8 @@
  * in bytes (4). The bodies follow without gaps.
  *   1  places: x and y, 4 bytes each, signed, in metres. N is the length (at byte 7) / 8.
  *   2  roads: the numbers of two places, 2 bytes each, and 4 bytes of seconds. R is the length (at byte 16) / 8.
- *   3  closed roads: their numbers, 2 bytes each, rising.
+ *   3  nothing: its length is 0. In old files closed roads: their numbers, 2 bytes each, rising. The two calls of the converter take an old network and
+ *      leave these roads out of it, or of a sheet for it; every other call refuses an old file by rule 21.
  *   4  the grid's g: 2 bytes.
  *   5  transit places: their numbers, 2 bytes each, rising. They begin at what bytes 39 to 42 say; T is the length (at byte 43) / 2.
  *   6  access: for each place 4 bytes, where its list begins in this body; then the lists (see jukesogbi_list).
@@ -33,7 +34,7 @@
  * In bodies 6 and 7 JUKESOGBI_NO_WALK stands where there is no walk.
  *
  * A sheet is one day's closures and delays, any number of lines in any order. A closure holds over every delay of its road, wherever it stands; among
- * delays the last holds. A road closed in body 3 is closed under every sheet.
+ * delays the last holds.
  *
  * Rules, in checking order:
  *    1  fewer than 2 bytes, a wrong edition, a wrong entry count or an incomplete contents
@@ -43,6 +44,7 @@
  *    5  a roads body that is no multiple of 8, or over 16,384 roads
  *    6  a road with an end not below N, equal ends, or seconds outside 1 to 100,000
  *    7  a closed list of odd length, not rising, or naming no road
+ *   21  closed roads in body 3, which must be empty: `jukesogbi convert NETWORK NEW` (jukesogbi_convert) leaves them out of a network
  *    8  a grid body not of 2 bytes, or g outside 1 to 64
  *    9  a transit body of odd length, not rising, or naming no place
  *   10  an access body that breaks its layout, an index not below T, or a value out of range
@@ -51,7 +53,7 @@
  *   17  either side of a block names no place or more than 12, or there are over 1,000 legs or a part of a leg
  *   18  a sheet's form, a line's first byte, or the seconds of a closed line are wrong
  *   19  a line of the sheet names no road
- *   20  the line that holds takes a road open in body 3 over 100,000 seconds
+ *   20  the line that holds takes a road over 100,000 seconds
  *   13  the far question on a local pair
  *   14  working memory below 8 * N words
  *   15  output shorter than the whole result
@@ -127,63 +129,77 @@ typedef struct {
 /* How many bytes of output the result takes. */
 typedef struct {
     uint32_t rule;
-    uint32_t size;
+    size_t size;
 } jukesogbi_output;
 
-/* Output enough for the oracle of a network of so many places and roads, closed roads counted, under any grid: as there is a transit place for each road
- * at the most, and all of them may be in each list. 168 MB for the largest network; most oracles are far smaller. */
+/* Output enough for the oracle of a network of so many places and roads under any grid: as there is a transit place for each road at the most, and all of
+ * them may be in each list. 168 MB for the largest network; most oracles are far smaller. */
 static inline size_t jukesogbi_room(size_t places, size_t roads) {
     size_t transit = roads < places ? roads : places;
-    return 67 + 8 * places + 10 * roads + 2 * transit + places * (6 + 6 * transit) + 4 * transit * transit;
+    return 67 + 8 * places + 8 * roads + 2 * transit + places * (6 + 6 * transit) + 4 * transit * transit;
 }
 
-/* Builds the oracle of a network under a grid of g x g cells at the front of `out`. Rules 1 to 8, 14, 15. */
+/* Builds the oracle of a network under a grid of g x g cells at the front of `out`. Rules 1 to 7, 21, 8, 14, 15. */
 jukesogbi_built jukesogbi_build(const uint8_t *network, size_t network_size, uint32_t g,
                                 uint32_t *work, size_t words, uint8_t *out, size_t room);
 
-/* 0 where the oracle is, byte for byte, the one that building gives from its own bodies 1 to 4. Rules 1 to 11, 14, 16. */
+/* 0 where the oracle is, byte for byte, the one that building gives from its own bodies 1 to 4. Rules 1 to 7, 21, 8 to 11, 14, 16. */
 uint32_t jukesogbi_audit(const uint8_t *oracle, size_t oracle_size, uint32_t *work, size_t words);
 
-/* The time from place s to place t. Rules 1 to 12, 14. */
+/* The time from place s to place t. Rules 1 to 7, 21, 8 to 12, 14. */
 jukesogbi_reply jukesogbi_time(const uint8_t *oracle, size_t oracle_size, uint32_t s, uint32_t t,
                                uint32_t *work, size_t words);
 
-/* The same for a far pair, from the oracle's lists and table alone. Rules 1 to 13. */
+/* The same for a far pair, from the oracle's lists and table alone. Rules 1 to 7, 21, 8 to 13. */
 jukesogbi_reply jukesogbi_far(const uint8_t *oracle, size_t oracle_size, uint32_t s, uint32_t t);
 
 /* The access list of place u, as that part of the oracle: a 16-bit count, then for each entry a 16-bit index into the transit places and 32-bit
- * seconds. Empty, at 0, where it is refused; no list is empty. Rules 1 to 12. */
+ * seconds. Empty, at 0, where it is refused; no list is empty. Rules 1 to 7, 21, 8 to 12. */
 jukesogbi_part jukesogbi_list(const uint8_t *oracle, size_t oracle_size, uint32_t u);
 
 /* The number of the rule for which jukesogbi_list hands back the empty part, or 0. */
 uint32_t jukesogbi_list_rule(const uint8_t *oracle, size_t oracle_size, uint32_t u);
 
 /* The places of the way from s to t, as 16-bit numbers, low byte first, at the front of `out`: the first least walk by place numbers.
- * No place where there is no walk. 2 * N bytes are room enough, as a way has no place twice. Rules 1 to 12, 14, 15. */
+ * No place where there is no walk. 2 * N bytes are room enough, as a way has no place twice. Rules 1 to 7, 21, 8 to 12, 14, 15. */
 jukesogbi_route jukesogbi_way(const uint8_t *oracle, size_t oracle_size, uint32_t s, uint32_t t,
                               uint32_t *work, size_t words, uint8_t *out, size_t room);
 
 /* All times between up to 12 starts and 12 ends: times[i][j] is the `seconds` of jukesogbi_time from starts[i] to ends[j]. A place may be named
- * several times, on either side or on both. Rules 1 to 12, 17, 14, where 12 looks at every name, also past the twelfth. */
+ * several times, on either side or on both. Rules 1 to 7, 21, 8 to 12, 17, 14, where 12 looks at every name, also past the twelfth. */
 jukesogbi_times jukesogbi_block(const uint8_t *oracle, size_t oracle_size, const uint32_t *starts, size_t starts_count,
                                 const uint32_t *ends, size_t ends_count, uint32_t *work, size_t words);
 
 /* The time from place s to place t under a sheet. It is the reply of jukesogbi_time where that finds no walk, or where every step of the way without the
  * sheet can still be driven in its old time, by that road or by another between the two places. Else the roads are searched as the sheet leaves them: the
- * reply is local, with 0 pairs. Rules 1 to 12, 18, 19, 20, 14, where 18 looks at all of the sheet before 19 does, and 19 before 20. */
+ * reply is local, with 0 pairs. Rules 1 to 7, 21, 8 to 12, 18, 19, 20, 14, where 18 looks at all of the sheet before 19 does, and 19 before 20. */
 jukesogbi_reply jukesogbi_time_under(const uint8_t *oracle, size_t oracle_size, const uint8_t *sheet, size_t sheet_size,
                                      uint32_t s, uint32_t t, uint32_t *work, size_t words);
 
-/* The way from s to t over the roads as the sheet leaves them, in the form of jukesogbi_way. Rules 1 to 12, 18, 19, 20, 14, 15. */
+/* The way from s to t over the roads as the sheet leaves them, in the form of jukesogbi_way.
+ * Rules 1 to 7, 21, 8 to 12, 18, 19, 20, 14, 15. */
 jukesogbi_route jukesogbi_way_under(const uint8_t *oracle, size_t oracle_size, const uint8_t *sheet, size_t sheet_size,
                                     uint32_t s, uint32_t t, uint32_t *work, size_t words, uint8_t *out, size_t room);
 
 /* The times of up to 1,000 legs, and what they come to. A leg is two 16-bit place numbers, its start and its end, low byte first; no leg at all is allowed.
  * At the front of `out` stand a 32-bit time for each leg in the order entered, the `seconds` of jukesogbi_time for its places, then the 32-bit number of legs
- * that are JUKESOGBI_NO_WALK, and the 64-bit total of the others, low byte first: 4 bytes for each leg, and 12. Rules 1 to 12, 17, 14, 15, where 12 looks at
- * the places of every whole leg, also past the 1,000th. */
+ * that are JUKESOGBI_NO_WALK, and the 64-bit total of the others, low byte first: 4 bytes for each leg, and 12. Rules 1 to 7, 21, 8 to 12, 17, 14, 15, where
+ * 12 looks at the places of every whole leg, also past the 1,000th. */
 jukesogbi_output jukesogbi_wages(const uint8_t *oracle, size_t oracle_size, const uint8_t *legs, size_t legs_size,
                                  uint32_t *work, size_t words, uint8_t *out, size_t room);
+
+/* ---- the converter: two calls without working words, which take closed roads in body 3 */
+
+/* The network without its closed roads at the front of `out`: the same places, the open roads in their order, each with its old number less the closed ones
+ * before it, and an empty body 3. Over what is built from it every time and way is what it was before. A network without closed roads comes out as it is.
+ * network_size bytes are room enough. Rules 1 to 7, 15. */
+jukesogbi_output jukesogbi_convert(const uint8_t *network, size_t network_size, uint8_t *out, size_t room);
+
+/* A sheet for the old network, made one for the network that jukesogbi_convert gives, at the front of `out`: the lines about closed roads go, the others name
+ * their roads by the new numbers, in the order in which they stand. sheet_size bytes are room enough. Rules 1 to 7, of the network, then 18, 19, 15, where 18
+ * looks at all of the sheet before 19 does. 20 is looked at when the sheet is used. */
+jukesogbi_output jukesogbi_convert_sheet(const uint8_t *network, size_t network_size, const uint8_t *sheet, size_t sheet_size,
+                                         uint8_t *out, size_t room);
 
 #ifdef __cplusplus
 }

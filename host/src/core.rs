@@ -14,6 +14,9 @@ pub fn rule_text(rule: u32) -> &'static str {
     texts.into_iter().find(|(number, _)| number.parse() == Ok(rule)).map_or("no such rule", |(_, text)| text)
 }
 
+/// The rule that a file with closed roads breaks, in every call but the converter's.
+pub const CLOSED_ROADS: u32 = 21;
+
 impl fmt::Display for Refused {
     fn fmt(&self, f: &mut fmt::Formatter<'_>) -> fmt::Result {
         write!(f, "rule {}: {}", self.0, rule_text(self.0))
@@ -111,12 +114,12 @@ pub mod raw {
         pub times: [[u32; SIDE]; SIDE],
     }
 
-    /// Of a call that writes output: how many bytes its result takes.
+    /// Of a call that writes output: how many bytes its result takes. A sheet may take more than 32 bits can tell.
     #[repr(C)]
     #[derive(Clone, Copy, Debug, PartialEq, Eq)]
     pub struct Output {
         pub rule: u32,
-        pub size: u32,
+        pub size: usize,
     }
 
     extern "C" {
@@ -138,6 +141,10 @@ pub mod raw {
         ) -> Route;
         pub fn jukesogbi_wages(
             oracle: *const u8, oracle_size: usize, legs: *const u8, legs_size: usize, work: *mut u32, words: usize, out: *mut u8, room: usize,
+        ) -> Output;
+        pub fn jukesogbi_convert(network: *const u8, network_size: usize, out: *mut u8, room: usize) -> Output;
+        pub fn jukesogbi_convert_sheet(
+            network: *const u8, network_size: usize, sheet: *const u8, sheet_size: usize, out: *mut u8, room: usize,
         ) -> Output;
     }
 
@@ -189,7 +196,7 @@ pub(crate) fn written(o: raw::Output) -> Result<usize, Refused> {
     if o.rule != 0 {
         return Err(Refused(o.rule));
     }
-    Ok(o.size as usize)
+    Ok(o.size)
 }
 
 pub(crate) fn answer(a: raw::Answer) -> Result<Answer, Refused> {
@@ -271,4 +278,16 @@ pub fn way_under(oracle: &[u8], sheet: &[u8], s: u32, t: u32, work: &mut [u32], 
 pub fn wages(oracle: &[u8], legs: &[u8], work: &mut [u32], out: &mut [u8]) -> Result<usize, Refused> {
     let (o, l) = (oracle.as_ptr(), legs.as_ptr());
     written(unsafe { raw::jukesogbi_wages(o, oracle.len(), l, legs.len(), work.as_mut_ptr(), work.len(), out.as_mut_ptr(), out.len()) })
+}
+
+/// Writes the network without its closed roads at the front of `out`, and answers how many bytes it takes: no more than the network's own.
+pub fn convert(network: &[u8], out: &mut [u8]) -> Result<usize, Refused> {
+    written(unsafe { raw::jukesogbi_convert(network.as_ptr(), network.len(), out.as_mut_ptr(), out.len()) })
+}
+
+/// Writes the lines of a day sheet of this network that are about the roads that `convert` keeps, by their new numbers, and answers how many bytes the new
+/// sheet takes: no more than the sheet's own.
+pub fn convert_sheet(network: &[u8], sheet: &[u8], out: &mut [u8]) -> Result<usize, Refused> {
+    let (n, l) = (network.as_ptr(), sheet.as_ptr());
+    written(unsafe { raw::jukesogbi_convert_sheet(n, network.len(), l, sheet.len(), out.as_mut_ptr(), out.len()) })
 }

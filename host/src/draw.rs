@@ -1,4 +1,4 @@
-//! A picture of an oracle: nodes, edges (closed ones dashed), grid lines, transit nodes, and a way if asked; with a day sheet also what that does.
+//! A picture of an oracle: nodes, edges, grid lines, transit nodes, and a way if asked; with a day sheet also what that does.
 
 mod frame;
 mod labels;
@@ -58,7 +58,7 @@ pub fn svg(oracle: &[u8], sheet: Option<&[u8]>, asked: Option<(u32, u32)>, way: 
 impl<'a> Drawing<'a> {
     fn of(oracle: &[u8], sheet: Option<&[u8]>, asked: Option<(u32, u32)>, way: &'a [u16]) -> Drawing<'a> {
         let net = files::network(oracle);
-        let roads = Roads::of(&net, &sheet.map_or_else(|| net.clone(), |sheet| sheet::applied(&net, sheet)));
+        let roads = Roads::of(&net, &sheet.map_or_else(|| net.edges.iter().copied().map(Some).collect(), |sheet| sheet::applied(&net, sheet)));
         let (frame, sizes) = (Frame::over(&net.nodes), Sizes::of(net.nodes.len(), net.edges.len()));
         let (g, transit) = (files::grid_number(oracle), files::transit_nodes(oracle));
         Drawing { g, transit, net, roads, today: sheet.is_some(), asked, way, frame, sizes }
@@ -88,14 +88,13 @@ impl<'a> Drawing<'a> {
         if self.transit.binary_search(&v).is_ok() { self.sizes.transit } else { self.sizes.node }
     }
 
-    /// Closed roads lie over open ones, so that both show where they join the same nodes. Delayed ones lie beneath, and show at both sides of the others.
+    /// Roads closed today lie over open ones, so that both show where they join the same nodes. Delayed ones lie beneath, and show at both sides of the others.
     fn ground(&self) -> String {
         let mut layers = vec![signs::grid(self.frame.grid_lines(self.g))];
         if self.today {
             layers.push(signs::delayed_roads(self.lines(&self.roads.delayed.lines)));
         }
         layers.push(signs::open_roads(&self.sizes, self.lines(self.roads.open.keys())));
-        layers.push(signs::closed_roads(&self.sizes, self.lines(&self.roads.closed.lines)));
         if self.today {
             layers.push(signs::shut_roads(&self.sizes, self.lines(&self.roads.shut.lines)));
         }
@@ -157,7 +156,6 @@ impl<'a> Drawing<'a> {
             legend::nodes(&self.sizes, self.net.nodes.len()),
             legend::transit_nodes(&self.sizes, self.transit.len()),
             legend::open_roads(&self.sizes, self.roads.open_count),
-            legend::closed_roads(&self.sizes, self.roads.closed.count),
         ];
         if self.today {
             ground.extend([legend::shut_roads(&self.sizes, self.roads.shut.count), legend::delayed_roads(self.roads.delayed.count)]);

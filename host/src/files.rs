@@ -15,8 +15,6 @@ pub struct Network {
     /// x and y in metres.
     pub nodes: Vec<(i32, i32)>,
     pub edges: Vec<Edge>,
-    /// Numbers of closed edges, rising.
-    pub closed: Vec<u16>,
 }
 
 /// A file of this kind with these bodies.
@@ -43,8 +41,8 @@ impl Network {
             .iter()
             .flat_map(|e| [&e.first.to_le_bytes()[..], &e.second.to_le_bytes()[..], &e.seconds.to_le_bytes()[..]].concat())
             .collect();
-        let closed = self.closed.iter().flat_map(|c| c.to_le_bytes()).collect();
-        vec![nodes, edges, closed]
+        // No edge is closed: body 3 is there, and empty.
+        vec![nodes, edges, Vec::new()]
     }
 
     pub fn to_bytes(&self) -> Vec<u8> {
@@ -127,7 +125,7 @@ pub fn most_room(f: &[u8]) -> usize {
 }
 
 /// The same where bodies 1 to 3 have so many bytes: there is a transit node for each edge at the most, and all of them may be in each list.
-/// (`jukesogbi_room` of the header, which counts every road as closed.)
+/// (`jukesogbi_room` of the header, which knows these bytes from the numbers of places and roads.)
 pub fn room(nodes: usize, edges: usize, bodies: usize) -> usize {
     let transit = nodes.min(edges);
     entry_at(ORACLE_BODIES) + bodies + GRID_SIZE + NUMBER_SIZE * transit + most_access(nodes, transit) + VALUE_SIZE * transit * transit
@@ -139,7 +137,6 @@ pub fn network(f: &[u8]) -> Network {
     Network {
         nodes: of(NODES).chunks_exact(NODE_SIZE).map(|c| (read32(c, 0) as i32, read32(c, COORDINATE_SIZE) as i32)).collect(),
         edges: of(EDGES).chunks_exact(EDGE_SIZE).map(|c| Edge { first: read16(c, 0), second: read16(c, 2), seconds: read32(c, 4) }).collect(),
-        closed: numbers(of(CLOSED)),
     }
 }
 

@@ -9,7 +9,7 @@ pub const SHEET_EDITION: u8 = 1;
 pub const HEAD_SIZE: usize = 2;
 pub const ENTRY_SIZE: usize = 9;
 
-/// The bodies of a network, and those that an oracle has beside them.
+/// The bodies of a network, and those that an oracle has beside them. That of closed edges is empty but in old files, which the converter alone takes.
 pub const NODES: usize = 0;
 pub const EDGES: usize = 1;
 pub const CLOSED: usize = 2;
@@ -67,7 +67,8 @@ pub const fn most_access(n: usize, t: usize) -> usize {
     n * (START_SIZE + COUNT_SIZE + LIST_ENTRY_SIZE * t)
 }
 
-/// The most bytes that each body can have in a file that is accepted. Closed edges and transit nodes rise, so each is named once.
+/// The most bytes that each body can have by its form. Closed edges and transit nodes rise, so each is named once. (Rule 21 wants no closed edge at all, but
+/// a list of them that breaks 7 is refused by that, so it is read as far as the most.)
 pub const MOST: [usize; ORACLE_BODIES] = [
     NODE_SIZE * MAX_NODES,
     EDGE_SIZE * MAX_EDGES,

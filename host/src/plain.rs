@@ -8,7 +8,7 @@ use std::collections::BinaryHeap;
 
 pub const NONE: u32 = u32::MAX;
 
-/// The open edges at each node.
+/// The edges at each node.
 pub struct Graph {
     pub start: Vec<usize>,
     pub arcs: Vec<(u32, u32)>,
@@ -17,11 +17,9 @@ pub struct Graph {
 impl Graph {
     pub fn of(net: &Network) -> Graph {
         let mut lists = vec![Vec::new(); net.nodes.len()];
-        for (i, e) in net.edges.iter().enumerate() {
-            if net.closed.binary_search(&(i as u16)).is_err() {
-                lists[e.first as usize].push((e.second as u32, e.seconds));
-                lists[e.second as usize].push((e.first as u32, e.seconds));
-            }
+        for e in &net.edges {
+            lists[e.first as usize].push((e.second as u32, e.seconds));
+            lists[e.second as usize].push((e.first as u32, e.seconds));
         }
         let mut start = vec![0];
         let mut arcs = Vec::new();
@@ -113,10 +111,10 @@ impl Cells {
 }
 
 /// The crossing nodes of the square of radius r about c, as marks and as a list.
-fn crossing(net: &Network, cells: &Cells, open: &[usize], r: i64, c: (i64, i64)) -> Vec<u32> {
-    let mut nodes: Vec<u32> = open
+fn crossing(net: &Network, cells: &Cells, r: i64, c: (i64, i64)) -> Vec<u32> {
+    let mut nodes: Vec<u32> = net
+        .edges
         .iter()
-        .map(|&i| &net.edges[i])
         .filter(|e| cells.within(r, c, e.first as usize) != cells.within(r, c, e.second as usize))
         .map(|e| e.first.min(e.second) as u32)
         .collect();
@@ -131,14 +129,13 @@ pub fn build(network: &[u8], g: u32) -> Vec<u8> {
     let n = net.nodes.len();
     let graph = Graph::of(&net);
     let cells = Cells::over(&net.nodes, g);
-    let open: Vec<usize> = (0..net.edges.len()).filter(|&i| net.closed.binary_search(&(i as u16)).is_err()).collect();
     let mut search = Search::new(n);
     let mut access: Vec<Vec<u32>> = vec![Vec::new(); n];
     let mut first = std::collections::HashMap::new();
     for u in 0..n {
         let at = *first.entry(cells.of[u]).or_insert(u);
         if at == u {
-            access[u] = cell_access(&net, &graph, &cells, &open, cells.of[u], &mut search);
+            access[u] = cell_access(&net, &graph, &cells, cells.of[u], &mut search);
         } else {
             access[u] = access[at].clone();
         }
@@ -178,9 +175,9 @@ pub fn build(network: &[u8], g: u32) -> Vec<u8> {
 }
 
 /// One search per crossing node of the cell, then marks backward over the settle order: a node is marked when it is wanted or leads on to a marked one.
-fn cell_access(net: &Network, graph: &Graph, cells: &Cells, open: &[usize], c: (i64, i64), search: &mut Search) -> Vec<u32> {
+fn cell_access(net: &Network, graph: &Graph, cells: &Cells, c: (i64, i64), search: &mut Search) -> Vec<u32> {
     let n = net.nodes.len();
-    let (own, inner, outer) = (crossing(net, cells, open, 0, c), crossing(net, cells, open, INNER, c), crossing(net, cells, open, OUTER, c));
+    let (own, inner, outer) = (crossing(net, cells, 0, c), crossing(net, cells, INNER, c), crossing(net, cells, OUTER, c));
     let mut wanted = vec![false; n];
     outer.iter().for_each(|&q| wanted[q as usize] = true);
     let mut through = vec![false; n];
@@ -241,7 +238,7 @@ fn lists_sound(access: &[u8], n: usize, transit: usize) -> bool {
     next == access.len()
 }
 
-/// Whether an oracle keeps rules 1 to 11.
+/// Whether an oracle keeps rules 1 to 11 and 21.
 pub fn well_shaped(o: &[u8]) -> bool {
     if o.len() < entry_at(ORACLE_BODIES) || o[..HEAD_SIZE] != [ORACLE_EDITION, ORACLE_BODIES as u8] {
         return false;
@@ -257,7 +254,7 @@ pub fn well_shaped(o: &[u8]) -> bool {
     next == o.len() && bodies_sound(|k| files::body(o, k).unwrap())
 }
 
-/// Rules 3 to 11.
+/// Rules 3 to 11 and 21: an empty body 3 keeps both of its rules.
 fn bodies_sound<'a>(body: impl Fn(usize) -> &'a [u8]) -> bool {
     let (nodes, edges, table) = (body(NODES), body(EDGES), body(TABLE));
     let (n, m, transit) = (nodes.len() / NODE_SIZE, edges.len() / EDGE_SIZE, body(TRANSIT).len() / NUMBER_SIZE);
@@ -271,7 +268,7 @@ fn bodies_sound<'a>(body: impl Fn(usize) -> &'a [u8]) -> bool {
         && edges.len().is_multiple_of(EDGE_SIZE)
         && m <= MAX_EDGES
         && edges.chunks_exact(EDGE_SIZE).all(sound)
-        && rising(body(CLOSED), m)
+        && body(CLOSED).is_empty()
         && body(GRID).len() == GRID_SIZE
         && (1..=MAX_GRID).contains(&(files::read16(body(GRID), 0) as u32))
         && rising(body(TRANSIT), n)

@@ -1,7 +1,7 @@
 //! Files in no more memory than the largest one that is accepted takes, whatever is read.
 //!
-//! What begins with contents that break rule 1 breaks it, whatever stands behind them, and is read no further. Any other file F that is longer than an
-//! accepted one is refused by some rule from 2 to 11, and the core is handed a shorter file that it refuses by the same:
+//! What begins with contents that break rule 1 breaks it, whatever stands behind them, and is read no further. Any other file F that is longer than all of
+//! its bodies can be by their form is refused by some rule from 2 to 11 or by 21, and the core is handed a shorter file that it refuses by the same:
 //!
 //! - The contents of F do not join, or they join and end at no more than the most: F breaks 2. So do its first bytes, one more than the most: the contents
 //!   are the same, and their end is not that of these bytes either.
@@ -9,7 +9,8 @@
 //! - They join and end where F ends. The bodies together are larger than the most of each, so one is larger than its own most; let k be the first.
 //!   Rule 2, and the rules of the bodies before k, go by the kinds and by these bodies: they are the same for F and for the file of those bodies, one byte
 //!   more than the most of body k, and nothing in the bodies behind. That body is too large in both, which breaks the first of its rules: 3, 5, 7, 8, 9, 10
-//!   or 11. (Lists rise, so no access body that keeps 10 is larger than its most.)
+//!   or 11. (Lists rise, so no access body that keeps 10 is larger than its most.) Rule 21 is one of body 3, behind its first, so it is the same for both
+//!   where k is behind that; the converter, which does not look at it, has the other rules of a network in the same order.
 //!
 //! The last two are told apart by the length of F. A stream is read on for it, and what is read is dropped; at most one byte more than the contents claim.
 //!

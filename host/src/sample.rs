@@ -1,5 +1,5 @@
 //! Road-like networks for trying things out: scattered nodes, joined by roads where no third node lies nearer to both ends
-//! (the relative neighbourhood graph: about 1.3 roads a node, all in one piece), a few of them closed.
+//! (the relative neighbourhood graph: about 1.3 roads a node, all in one piece).
 
 use crate::files::{Edge, Network};
 
@@ -86,6 +86,5 @@ pub fn network(n: usize, seed: u64) -> Network {
             }
         }
     }
-    let closed = (0..edges.len() as u16).filter(|_| random.once_in(60)).collect();
-    Network { nodes, edges, closed }
+    Network { nodes, edges }
 }

@@ -2,7 +2,7 @@
 //! is the core's to say.
 
 use crate::core::{self, Refused};
-use crate::files::{self, Kind, Network};
+use crate::files::{self, Edge, Kind, Network};
 use crate::form::*;
 use std::collections::BTreeMap;
 use std::fmt;
@@ -118,25 +118,24 @@ pub fn lines(sheet: &[u8]) -> impl Iterator<Item = Line> + '_ {
     files::body(sheet, LINES).unwrap_or(&[]).chunks_exact(LINE_SIZE).map(Line::of)
 }
 
-/// The network as a sheet leaves it that the core has accepted beside it: a closure holds over every delay of its road, wherever it stands, among delays the
-/// last holds, and a road that is closed stays so.
-pub fn applied(net: &Network, sheet: &[u8]) -> Network {
-    let mut left = net.clone();
+/// Each road of a network as a sheet leaves it that the core has accepted beside it, none where that closes it: a closure holds over every delay of its road,
+/// wherever it stands, and among delays the last holds.
+pub fn applied(net: &Network, sheet: &[u8]) -> Vec<Option<Edge>> {
+    let mut left: Vec<Option<Edge>> = net.edges.iter().copied().map(Some).collect();
     let mut delays = BTreeMap::new();
     for line in lines(sheet) {
         match line {
-            Line::Closed(road) => left.closed.push(road),
+            Line::Closed(road) => left[road as usize] = None,
             Line::Delayed(road, added) => {
                 delays.insert(road, added);
             }
         }
     }
-    left.closed.sort_unstable();
-    left.closed.dedup();
-    // A closed road has no delay: its sum might be any.
-    delays.retain(|road, _| left.closed.binary_search(road).is_err());
     for (road, added) in delays {
-        left.edges[road as usize].seconds += added;
+        // A closed road has no delay: its sum might be any.
+        if let Some(edge) = &mut left[road as usize] {
+            edge.seconds += added;
+        }
     }
     left
 }
@@ -192,27 +191,30 @@ mod tests {
         assert_eq!(lines(&bytes).collect::<Vec<_>>(), some);
     }
 
-    /// A road after road of ten seconds, of which 1 and 4 are closed, under these lines: what is closed, and the seconds of road 0.
-    fn left(some: &[Line]) -> (Vec<u16>, u32) {
-        let edges = (0..5).map(|i| files::Edge { first: i, second: i + 1, seconds: 10 }).collect();
-        let net = Network { nodes: vec![(0, 0); 6], edges, closed: vec![1, 4] };
+    /// Five roads one after another, of ten seconds each, under these lines: the seconds of each, none where it is closed.
+    fn left(some: &[Line]) -> [Option<u32>; 5] {
+        let edges = (0..5).map(|i| Edge { first: i, second: i + 1, seconds: 10 }).collect();
+        let net = Network { nodes: vec![(0, 0); 6], edges };
         let left = applied(&net, &of(some.iter().copied()));
-        assert_eq!((&left.nodes, &left.edges[1..]), (&net.nodes, &net.edges[1..]));
-        (left.closed, left.edges[0].seconds)
+        for (new, old) in left.iter().zip(&net.edges) {
+            assert!(new.is_none_or(|edge| (edge.first, edge.second) == (old.first, old.second)), "{left:?}");
+        }
+        left.iter().map(|edge| edge.map(|edge| edge.seconds)).collect::<Vec<_>>().try_into().unwrap()
     }
 
-    /// A closure holds over every delay, the last delay over the others, and what the network has closed stays closed.
+    /// A closure holds over every delay, and the last delay over the others.
     #[test]
     fn over_a_network() {
-        let (close, delay) = (Line::Closed(0), |added| Line::Delayed(0, added));
-        assert_eq!(left(&[]), (vec![1, 4], 10));
+        let (close, delay, ten) = (Line::Closed(0), |added| Line::Delayed(0, added), Some(10));
+        assert_eq!(left(&[]), [ten; 5]);
         for lines in [&[close][..], &[close, delay(5)], &[delay(5), close], &[close, delay(5), close], &[delay(u32::MAX), close, delay(u32::MAX)]] {
-            assert_eq!(left(lines), (vec![0, 1, 4], 10), "{lines:?}");
+            assert_eq!(left(lines), [None, ten, ten, ten, ten], "{lines:?}");
         }
-        assert_eq!(left(&[delay(5), delay(3)]), (vec![1, 4], 13));
-        assert_eq!(left(&[delay(5), delay(0)]), (vec![1, 4], 10));
-        // Other roads: closed twice, closed in the network with a delay of any seconds, and closed there and here.
-        assert_eq!(left(&[Line::Closed(3), delay(3), Line::Delayed(1, u32::MAX), Line::Closed(4), Line::Closed(3)]), (vec![1, 3, 4], 13));
+        assert_eq!(left(&[delay(5), delay(3)]), [Some(13), ten, ten, ten, ten]);
+        assert_eq!(left(&[delay(5), delay(0)]), [ten; 5]);
+        // Other roads beside it: closed twice, closed with a delay of any seconds, delayed.
+        let several = [Line::Closed(3), delay(3), Line::Delayed(1, u32::MAX), Line::Closed(1), Line::Closed(3), Line::Delayed(4, 7)];
+        assert_eq!(left(&several), [Some(13), None, ten, None, Some(17)]);
     }
 
     #[test]

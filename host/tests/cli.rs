@@ -2,7 +2,7 @@
 
 mod common;
 
-use common::networks::{self, Plan};
+use common::networks::{self, Old, Plan};
 use common::program::{oracle, Folder};
 use common::reference;
 
@@ -36,16 +36,17 @@ fn build_from_and_to_standard_streams() {
 fn build_refuses_by_number() {
     let f = Folder::new("build_refuses");
     let line = networks::line();
-    let refused = |plan: &Plan, rule: u32| {
-        f.write("net", &plan.bytes());
+    let refused = |network: Vec<u8>, rule: u32| {
+        f.write("net", &network);
         f.run("build net 6 new").is_refused(rule);
         assert!(!f.has("new"), "a refused building has written a file");
     };
-    refused(&Plan { places: vec![], ..line.clone() }, 3);
-    refused(&Plan { places: vec![(0, 0), (1_000_001, 0), (60, 0)], ..line.clone() }, 4);
-    refused(&Plan { roads: vec![(0, 1, 1); 16_385], ..line.clone() }, 5);
-    refused(&Plan { roads: vec![(0, 1, 0)], ..line.clone() }, 6);
-    refused(&Plan { closed: vec![2], ..line.clone() }, 7);
+    refused(Plan { places: vec![], ..line.clone() }.bytes(), 3);
+    refused(Plan { places: vec![(0, 0), (1_000_001, 0), (60, 0)], ..line.clone() }.bytes(), 4);
+    refused(Plan { roads: vec![(0, 1, 1); 16_385], ..line.clone() }.bytes(), 5);
+    refused(Plan { roads: vec![(0, 1, 0)], ..line.clone() }.bytes(), 6);
+    refused(Old::of(line.clone(), [2]).bytes(), 7);
+    refused(Old::of(line.clone(), [1]).bytes(), 21);
     f.write("net", b"");
     f.run("build net 6 new").is_refused(1);
     f.write("net", &[line.bytes(), vec![0]].concat());
@@ -65,7 +66,7 @@ fn build_refuses_by_number() {
 #[test]
 fn audit_accepts_and_refuses() {
     let f = Folder::with_files("audit");
-    for name in ["line", "fork", "closed", "two"] {
+    for name in ["line", "fork", "without", "two"] {
         f.run(&format!("audit {name}.oracle")).says("accepted\n");
     }
     f.run_with("audit -", &f.read("fork.oracle")).says("accepted\n");
@@ -90,7 +91,7 @@ fn time_of_one_pair() {
     f.run("time line.oracle 1 1").says("0 local 0\n");
     f.run("time fork.oracle 0 4").says("11 far 4\n");
     f.run("time fork.oracle 0 3").says("10 local 0\n");
-    f.run("time closed.oracle 0 4").says("- far 0\n");
+    f.run("time without.oracle 0 4").says("- far 0\n");
     f.run("time two.oracle 0 5").says("- far 4\n");
     f.run("time two.oracle 0 3").says("- local 0\n");
     f.run_with("time - 0 4", &f.read("fork.oracle")).says("11 far 4\n");
@@ -104,7 +105,7 @@ fn far_of_one_pair() {
     let f = Folder::with_files("far");
     f.run("far line.oracle 0 2").says("16 far 1\n");
     f.run("far fork.oracle 4 0").says("11 far 4\n");
-    f.run("far closed.oracle 0 4").says("- far 0\n");
+    f.run("far without.oracle 0 4").says("- far 0\n");
     f.run_with("far - 0 2", &f.read("line.oracle")).says("16 far 1\n");
     f.run("far fork.oracle 0 3").is_refused(13);
     f.run("far fork.oracle 0 5").is_refused(12);
@@ -116,7 +117,7 @@ fn way_of_one_pair() {
     f.run("way fork.oracle 0 4").says("0 1 3 4\n");
     f.run("way fork.oracle 4 0").says("4 3 1 0\n");
     f.run("way line.oracle 1 1").says("1\n");
-    f.run("way closed.oracle 0 4").does(0, "\n", "no way leads from 0 to 4\n");
+    f.run("way without.oracle 0 4").does(0, "\n", "no way leads from 0 to 4\n");
     f.run_with("way - 0 4", &f.read("fork.oracle")).says("0 1 3 4\n");
     f.run("way fork.oracle 0 5").is_refused(12);
 }
@@ -141,7 +142,7 @@ fn block_of_times() {
     f.run("block line.oracle 0,1,2 2,1,0,2").says("16 7 0 16\n9 0 7 9\n0 9 16 0\n");
     f.run("block fork.oracle 0,4 3,4").says("10 11\n1 0\n");
     f.run("block fork.oracle 0 4").says("11\n");
-    f.run("block closed.oracle 0,4 3,4").says("10 -\n- 0\n");
+    f.run("block without.oracle 0,4 3,4").says("10 -\n- 0\n");
     f.run("block two.oracle 0,0,3 5,3,2").says("- - 16\n- - 16\n100002 0 -\n");
     f.run_with("block - 4 0,1", &f.read("fork.oracle")).says("11 6\n");
     f.run("block line.oracle 2,2,2,2,2,2,2,2,2,2,2,2 1").says(&"9\n".repeat(12));
@@ -171,7 +172,7 @@ fn listing_of_all_pairs() {
     let f = Folder::with_files("listing");
     f.run("listing line.oracle").says("places 3 transit 1\n0 1 7 local\n0 2 16 far\n1 2 9 local\n");
     f.run_with("listing -", &f.read("line.oracle")).says("places 3 transit 1\n0 1 7 local\n0 2 16 far\n1 2 9 local\n");
-    f.run("listing closed.oracle").says(
+    f.run("listing without.oracle").says(
         "places 5 transit 0\n0 1 5 local\n0 2 5 local\n0 3 10 local\n0 4 - far\n\
         1 2 10 local\n1 3 5 local\n1 4 - local\n2 3 5 local\n2 4 - local\n3 4 - local\n",
     );
@@ -199,7 +200,7 @@ fn words_and_room_that_are_lent() {
     f.run("way fork.oracle 0 4 --words 39").is_refused(14);
     f.run("way fork.oracle 0 4 --room 8").says("0 1 3 4\n");
     f.run("way fork.oracle 0 4 --room 7").is_refused(15);
-    f.run("way closed.oracle 0 4 --room 0").does(0, "\n", "no way leads from 0 to 4\n");
+    f.run("way without.oracle 0 4 --room 0").does(0, "\n", "no way leads from 0 to 4\n");
     f.run("way fork.oracle 0 4 --room=7").is_refused(15);
     f.run("draw fork.oracle picture 0 4 --room 7").is_refused(15);
 }
@@ -211,8 +212,8 @@ fn sample_makes_accepted_networks() {
     let f = Folder::new("sample");
     for (n, seed) in [(1, 0), (2, 5), (60, 2)] {
         let ran = f.run(&format!("sample {n} {seed} net"));
-        assert!(ran.code == 0 && ran.text().starts_with(&format!("sample of {n} places, ")), "{}", ran.text());
         let network = f.read("net");
+        ran.says(&format!("sample of {n} places, {} roads\n", reference::body(&network, 2).len() / 8));
         assert_eq!(reference::Network::of(network.clone()).size(), n);
         // The same seed gives the same network.
         let ran = f.run(&format!("sample {n} {seed} -"));
@@ -236,7 +237,7 @@ fn draw_makes_a_picture() {
     assert_ne!(f.read("way.svg"), plain.as_bytes(), "the way is not in the picture");
     let ran = f.run("draw fork.oracle - 0 4");
     assert_eq!((ran.code, ran.out, ran.err.as_str()), (0, f.read("way.svg"), "drawn 5 places\n"));
-    f.run("draw closed.oracle none.svg 0 4").does(0, "drawn 5 places\n", "no way leads from 0 to 4\n");
+    f.run("draw without.oracle none.svg 0 4").does(0, "drawn 5 places\n", "no way leads from 0 to 4\n");
     f.run("draw fork.oracle other.svg 0 5").is_refused(12);
     f.run("draw fork.net other.svg").is_refused(1);
     f.run("draw fork.oracle other.svg 0 4 --words 39").is_refused(14);
@@ -249,7 +250,7 @@ fn demo_runs_through() {
     let ran = f.run("demo");
     assert_eq!((ran.code, ran.err.as_str()), (0, ""));
     let alike = "both grids answer alike on all 3600 pairs";
-    for part in ["a sample: 60 places", "grid 8: built ", "grid 16: built ", "accepted by the audit", alike, "way 0 to 59: 0 "] {
+    for part in ["a sample: 60 places, 81 roads\n", "grid 8: built ", "grid 16: built ", "accepted by the audit", alike, "way 0 to 59: 0 "] {
         assert!(ran.text().contains(part), "{} has no {part}", ran.text());
     }
     assert!(f.has("demo.svg"));

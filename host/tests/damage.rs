@@ -3,7 +3,7 @@
 
 mod common;
 
-use common::networks::{self, between, pick, Plan};
+use common::networks::{self, between, pick, Old, Plan};
 use common::reference::{self, bytes_16, bytes_32, MOST_SECONDS, NO_WALK, WORDS};
 use common::tables::Tables;
 use common::{NetworkCase, Opened, OracleCase};
@@ -12,7 +12,7 @@ use jukesogbi::sample::Random;
 
 /// How often each rule was given, with 0 for none.
 #[derive(Debug, Default)]
-struct Given([u64; 18]);
+struct Given([u64; 22]);
 
 impl Given {
     fn count<V>(&mut self, result: &Result<V, u32>) {
@@ -33,10 +33,27 @@ fn small() -> Vec<(&'static str, Plan, u32)> {
     vec![
         ("Line", networks::line(), 6),
         ("Fork", networks::fork(), 6),
-        ("Fork with road 4 closed", networks::fork_closed(), 6),
+        ("Fork without road 4", networks::fork_without_4(), 6),
         ("one place", networks::one_place(), 64),
         ("two lines", networks::two_lines(), 6),
     ]
+}
+
+/// Files of a small network, to damage.
+struct Files {
+    name: &'static str,
+    network: Vec<u8>,
+    oracle: Vec<u8>,
+    g: u32,
+    n: usize,
+}
+
+/// Those of the small networks, and of two old ones, which are refused by 21 as they are.
+fn small_files() -> Vec<Files> {
+    let new = small().into_iter().map(|(name, plan, g)| (name, plan.bytes(), oracle_of(&plan, g), g, plan.places.len()));
+    let old = [("Fork with road 4 closed", networks::fork_closed()), ("Line with both roads closed", Old::of(networks::line(), [0, 1]))];
+    let old = old.map(|(name, old)| (name, old.bytes(), old.oracle(6), 6, old.plan.places.len()));
+    new.chain(old).map(|(name, network, oracle, g, n)| Files { name, network, oracle, g, n }).collect()
 }
 
 fn oracle_of(plan: &Plan, g: u32) -> Vec<u8> {
@@ -102,17 +119,16 @@ fn telling(old: u8) -> Vec<u8> {
 #[test]
 fn every_byte_of_small_networks() {
     let mut given = Given::default();
-    for (name, plan, g) in small() {
-        let file = plan.bytes();
-        for at in 0..file.len() {
+    for Files { name, network, g, n, .. } in small_files() {
+        for at in 0..network.len() {
             for value in 0..=255 {
-                let mut bytes = file.clone();
+                let mut bytes = network.clone();
                 bytes[at] = value;
-                build(move || format!("network {name}, byte {at} set to {value}"), bytes, plan.places.len(), g, &mut given);
+                build(move || format!("network {name}, byte {at} set to {value}"), bytes, n, g, &mut given);
             }
         }
     }
-    given.assert_met(&[0, 1, 2, 4, 6, 7]);
+    given.assert_met(&[0, 1, 2, 4, 6, 7, 21]);
 }
 
 #[test]
@@ -132,18 +148,17 @@ fn every_byte_and_value_of_the_oracle_of_line() {
 #[test]
 fn every_byte_of_small_oracles() {
     let mut given = Given::default();
-    for (name, plan, g) in small() {
-        let (file, n) = (oracle_of(&plan, g), plan.places.len());
+    for Files { name, oracle, n, .. } in small_files() {
         let from = [0, n as u32 - 1];
-        for at in 0..file.len() {
-            for value in telling(file[at]) {
-                let mut bytes = file.clone();
+        for at in 0..oracle.len() {
+            for value in telling(oracle[at]) {
+                let mut bytes = oracle.clone();
                 bytes[at] = value;
                 ask(move || format!("oracle of {name}, byte {at} set to {value}"), bytes, n, &from, &mut given);
             }
         }
     }
-    given.assert_met(&[0, 1, 2, 4, 6, 7, 8, 9, 10, 11, 13, 16]);
+    given.assert_met(&[0, 1, 2, 4, 6, 7, 8, 9, 10, 11, 13, 16, 21]);
 }
 
 // ---- Cut and extended ----
@@ -151,8 +166,7 @@ fn every_byte_of_small_oracles() {
 #[test]
 fn cut_at_every_length_and_extended() {
     let mut given = Given::default();
-    for (name, plan, g) in small() {
-        let (network, oracle, n) = (plan.bytes(), oracle_of(&plan, g), plan.places.len());
+    for Files { name, network, oracle, g, n } in small_files() {
         for size in 0..network.len() {
             build(move || format!("network {name}, first {size} bytes"), network[..size].to_vec(), n, g, &mut given);
         }
@@ -178,13 +192,12 @@ fn cut_at_every_length_and_extended() {
 
 // ---- Bodies changed, with the contents in step ----
 
-/// Each body with bytes taken out or put in at every position, so that rules 3, 5, 7, 8, 9, 10 and 11 meet wrong lengths.
+/// Each body with bytes taken out or put in at every position, so that rules 3, 5, 7, 21, 8, 9, 10 and 11 meet wrong lengths.
 #[test]
 fn bodies_shortened_and_lengthened() {
     let mut given = Given::default();
-    for (name, plan, g) in small() {
-        let n = plan.places.len();
-        for (network, file) in [(true, plan.bytes()), (false, oracle_of(&plan, g))] {
+    for Files { name, network, oracle, g, n } in small_files() {
+        for (network, file) in [(true, network), (false, oracle)] {
             let bodies = bodies_of(&file);
             let mut attempt = |kind: usize, at: usize, what: &'static str, size: usize, body: Vec<u8>| {
                 let mut changed = bodies.clone();
@@ -213,7 +226,7 @@ fn bodies_shortened_and_lengthened() {
             }
         }
     }
-    given.assert_met(&[0, 3, 4, 5, 6, 7, 8, 9, 10, 11, 16]);
+    given.assert_met(&[0, 3, 4, 5, 6, 7, 8, 9, 10, 11, 16, 21]);
 }
 
 /// Kind, offset and length.
@@ -223,9 +236,8 @@ type Entry = (u8, u32, u32);
 #[test]
 fn contents_that_nearly_join() {
     let mut given = Given::default();
-    for (name, plan, g) in small() {
-        let n = plan.places.len();
-        for (network, file) in [(true, plan.bytes()), (false, oracle_of(&plan, g))] {
+    for Files { name, network, oracle, g, n } in small_files() {
+        for (network, file) in [(true, network), (false, oracle)] {
             let entries = file[1] as usize;
             let first = 2 + 9 * entries;
             let lengths: Vec<usize> = bodies_of(&file).iter().map(Vec::len).collect();
@@ -299,13 +311,12 @@ fn contents_that_nearly_join() {
 /// A handful of changes at once: the first rule in checking order counts, wherever the damage stands in the file.
 #[test]
 fn several_changes_at_once() {
-    let mut given = Given::default();
+    let (small, mut given) = (small_files(), Given::default());
     for seed in 0..6_000 {
         let mut random = Random(seed);
-        let small = small();
-        let (name, plan, g) = &small[random.below(small.len() as u64) as usize];
-        let (n, network) = (plan.places.len(), random.once_in(3));
-        let mut bodies = bodies_of(&if network { plan.bytes() } else { oracle_of(plan, *g) });
+        let Files { name, network: network_file, oracle, g, n } = &small[random.below(small.len() as u64) as usize];
+        let (n, network) = (*n, random.once_in(3));
+        let mut bodies = bodies_of(if network { network_file } else { oracle });
         for _ in 0..1 + random.below(4) {
             let kind = random.below(bodies.len() as u64) as usize;
             let size = bodies[kind].len();
@@ -351,7 +362,7 @@ fn several_changes_at_once() {
             }
         }
     }
-    given.assert_met(&[0, 1, 2, 3, 4, 5, 6, 7, 8, 9, 10, 11, 12, 13, 14, 15, 16, 17]);
+    given.assert_met(&[0, 1, 2, 3, 4, 5, 6, 7, 8, 9, 10, 11, 12, 13, 14, 15, 16, 17, 21]);
 }
 
 // ---- Well-shaped oracles that were never built ----
@@ -554,7 +565,7 @@ fn bodies_changed_together() {
             }
             attempt("a transit place more, in all lists", plan, g, &more);
         }
-        // The tables of one network with the grid, the roads or the closed roads of another. It may be the built oracle of those, too.
+        // The tables of one network with the grid or the roads of another. It may be the built oracle of those, too.
         attempt("another grid", plan, if g == 64 { 63 } else { g + 1 }, &tables);
         attempt("a coarser grid", plan, 1 + g / 2, &tables);
         if !plan.roads.is_empty() {
@@ -562,11 +573,7 @@ fn bodies_changed_together() {
             let mut slower = plan.clone();
             slower.roads[road].2 = slower.roads[road].2 % 100_000 + 1;
             attempt("another road time", &slower, g, &tables);
-            let mut closed = plan.clone();
-            closed.closed.push(road as u16);
-            closed.closed.sort_unstable();
-            closed.closed.dedup();
-            attempt("a road closed", &closed, g, &tables);
+            attempt("a road left out", &Old::of(plan.clone(), [road as u16]).left_out(), g, &tables);
         }
     }
     given.assert_met(&[0, 13, 16]);
@@ -643,8 +650,8 @@ fn numbers_about_their_limits() {
         build(move || format!("Line, road from {a} to {b}"), plan.bytes(), 3, 6, &mut given);
     }
     for closed in [vec![0], vec![1], vec![0, 1], vec![1, 0], vec![0, 0], vec![2], vec![0, 2], vec![256], vec![0, 256], vec![65_535], vec![0, 1, 1]] {
-        let (plan, text) = (Plan { closed: closed.clone(), ..networks::line() }, format!("Line, closed {closed:?}"));
-        build(move || text.clone(), plan.bytes(), 3, 6, &mut given);
+        let (old, text) = (Old::of(networks::line(), closed.clone()), format!("Line, closed {closed:?}"));
+        build(move || text.clone(), old.bytes(), 3, 6, &mut given);
     }
     for transit in [vec![0], vec![1], vec![2], vec![3], vec![257], vec![65_535]] {
         let (mut bodies, text) = (bodies_of(&oracle_of(&networks::line(), 6)), format!("oracle of Line, transit {transit:?}"));
@@ -656,7 +663,7 @@ fn numbers_about_their_limits() {
         bodies[3] = bytes_16(g).to_vec();
         ask(move || format!("oracle of Line, g {g}"), reference::file(&bodies), 3, &[0, 2], &mut given);
     }
-    given.assert_met(&[0, 4, 6, 7, 8, 9, 16]);
+    given.assert_met(&[0, 4, 6, 7, 8, 9, 16, 21]);
 }
 
 /// Random bytes, and random bytes behind a right beginning.

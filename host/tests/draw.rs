@@ -45,7 +45,7 @@ fn numbers_lie_on_nothing() {
     for (i, case) in cases().iter().enumerate() {
         let p = &case.picture;
         let (numbers, map) = (p.numbers(), p.map());
-        let lines: Vec<_> = ["open", "closed", "shut", "delayed", "way"].iter().flat_map(|class| p.lines(class)).collect();
+        let lines: Vec<_> = ["open", "shut", "delayed", "way"].iter().flat_map(|class| p.lines(class)).collect();
         let dots = [p.circles("places"), p.circles("transit"), p.circles("start"), p.squares("end")].concat();
         for (k, (text, area)) in numbers.iter().enumerate() {
             let at = format!("picture {i}, number {text}");
@@ -118,9 +118,10 @@ fn total_is_the_time() {
     }
     assert!(far > 50 && none > 20, "{far} far, {none} without a way");
     // The quickest of the open roads side by side counts.
-    let plan = Plan { places: vec![(0, 0), (9, 0)], roads: vec![(0, 1, 9), (1, 0, 7), (0, 1, 2), (0, 1, 8)], closed: vec![2] };
-    assert_eq!(Case::new(built(&plan.bytes(), 8), Some((0, 1))).picture.total(), Some(7));
-    let plan = Plan { places: vec![(0, 0), (9, 0)], roads: vec![(0, 1, 100_000)], closed: vec![] };
+    let plan = Plan { places: vec![(0, 0), (9, 0)], roads: vec![(0, 1, 9), (1, 0, 7), (0, 1, 2), (0, 1, 8)] };
+    let total = |lines: Vec<Line>| Case::under(built(&plan.bytes(), 8), Some(sheet::of(lines)), Some((0, 1))).picture.total();
+    assert_eq!((total(vec![]), total(vec![Line::Closed(2)]), total(vec![Line::Closed(2), Line::Delayed(1, 2)])), (Some(2), Some(7), Some(8)));
+    let plan = Plan { places: vec![(0, 0), (9, 0)], roads: vec![(0, 1, 100_000)] };
     assert!(Case::new(built(&plan.bytes(), 8), Some((0, 1))).picture.says("total 100,000 s (27:46:40)"));
 }
 
@@ -164,14 +165,12 @@ fn grid_parts_the_cells() {
     }
 }
 
-/// Which roads are of a sort. A closure holds over every delay of its road, among delays the last holds, and what body 3 has closed stays closed.
+/// Which roads are of a sort. A closure holds over every delay of its road, and among delays the last holds.
 fn roads_of(case: &Case, class: &str) -> Vec<(u16, u16)> {
     let (net, lines) = (files::network(&case.oracle), case.sheet.iter().flat_map(|sheet| sheet::lines(sheet)).collect::<Vec<Line>>());
     let is_of = |i: u16| {
         let shut = lines.contains(&Line::Closed(i));
         match class {
-            "closed" => net.closed.contains(&i),
-            _ if net.closed.contains(&i) => false,
             "shut" => shut,
             "open" => !shut,
             _ => !shut && matches!(lines.iter().rev().find(|line| line.road() == i), Some(&Line::Delayed(_, added)) if added > 0),
@@ -183,19 +182,19 @@ fn roads_of(case: &Case, class: &str) -> Vec<(u16, u16)> {
 
 #[test]
 fn sorts_of_roads_look_different() {
-    let (mut drawn, mut closed_then_delayed) = ([0; 4], 0);
+    let (mut drawn, mut closed_then_delayed) = ([0; 3], 0);
     for case in cases() {
         closed_then_delayed += case.sheet.iter().map(|sheet| sheet::closed_then_delayed(sheet::lines(sheet)).len()).sum::<usize>();
         let (points, p) = (case.points(), &case.picture);
-        let sorts = [("open", "open road", false), ("closed", "closed road", true), ("shut", "closed road", true), ("delayed", "delayed road", false)];
+        let sorts = [("open", "open road", false), ("shut", "closed road", true), ("delayed", "delayed road", false)];
         for (k, (class, text, is_dashed)) in sorts.into_iter().enumerate() {
             let roads = roads_of(case, class);
             let lines: BTreeSet<_> = roads.iter().copied().collect();
             let expected = lines.into_iter().map(|(a, b)| (points[a as usize], points[b as usize]));
             assert!(p.lines(class).into_iter().map(|(line, _)| line).eq(expected), "the {class} roads");
             drawn[k] += roads.len();
-            let told = k < 2 || case.sheet.is_some();
-            let count = format!("{}{} {text}{}", if k < 2 { "" } else { "today: " }, grouped(roads.len()), if roads.len() == 1 { "" } else { "s" });
+            let told = k == 0 || case.sheet.is_some();
+            let count = format!("{}{} {text}{}", if k == 0 { "" } else { "today: " }, grouped(roads.len()), if roads.len() == 1 { "" } else { "s" });
             assert_eq!(p.says(&count), told, "{count}");
             assert!(!told || p.is_dashed(class) == is_dashed, "{class}");
         }

@@ -24,7 +24,7 @@ fn the_same_numbers() {
 
 #[test]
 fn a_text_for_each_rule() {
-    let texts: Vec<&str> = (1..=20).map(core::rule_text).collect();
+    let texts: Vec<&str> = (1..=21).map(core::rule_text).collect();
     for (k, text) in texts.iter().enumerate() {
         assert!(text.len() > 20 && !texts[..k].contains(text), "rule {}: {text}", k + 1);
     }
@@ -33,7 +33,9 @@ fn a_text_for_each_rule() {
     let many = "either side of a block names no place or more than 12, or there are over 1,000 legs or a part of a leg";
     assert_eq!(core::rule_text(17), many);
     assert_eq!(core::rule_text(sheet::FORM), "a sheet's form, a line's first byte, or the seconds of a closed line are wrong");
-    for rule in [0, 21, u32::MAX] {
+    let convert = "closed roads in body 3, which must be empty: `jukesogbi convert NETWORK NEW` (jukesogbi_convert) leaves them out of a network";
+    assert_eq!(core::rule_text(core::CLOSED_ROADS), convert);
+    for rule in [0, 22, u32::MAX] {
         assert_eq!(core::rule_text(rule), "no such rule");
     }
 }

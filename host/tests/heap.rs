@@ -100,15 +100,13 @@ fn band(n: usize, seconds: impl Fn(usize) -> usize) -> Vec<Road> {
     pairs.enumerate().map(|(i, (u, v))| (u, v, seconds(i))).collect()
 }
 
-/// Which roads are closed, by their number.
-type Closed = fn(usize) -> bool;
-
-fn open(_: usize) -> bool {
-    false
+/// The roads without some, by their number.
+fn without(roads: Vec<Road>, left_out: fn(usize) -> bool) -> Vec<Road> {
+    roads.into_iter().enumerate().filter(|(i, _)| !left_out(*i)).map(|(_, road)| road).collect()
 }
 
-/// The networks of one size: a name, the roads, and which of them are closed.
-fn networks(n: usize) -> Vec<(&'static str, Vec<Road>, Closed)> {
+/// The networks of one size: a name and the roads.
+fn networks(n: usize) -> Vec<(&'static str, Vec<Road>)> {
     let chain = |seconds: fn(usize) -> usize| (1..n).map(|v| (v - 1, v, seconds(v))).collect::<Vec<Road>>();
     let reversed = |mut roads: Vec<Road>| {
         roads.reverse();
@@ -116,43 +114,42 @@ fn networks(n: usize) -> Vec<(&'static str, Vec<Road>, Closed)> {
     };
     vec![
         // All times equal.
-        ("star of equal times", star(n, |_| 7), open),
-        ("mesh of equal times", mesh(n), open),
-        ("layers of equal times, each twice the one before", (1..n).map(|v| (v, (v - 1) / 2, 9)).collect(), open),
-        ("all joined in equal times", all_joined(n), open),
+        ("star of equal times", star(n, |_| 7)),
+        ("mesh of equal times", mesh(n)),
+        ("layers of equal times, each twice the one before", (1..n).map(|v| (v, (v - 1) / 2, 9)).collect()),
+        ("all joined in equal times", all_joined(n)),
         // Times falling.
-        ("star of falling times", star(n, |v| MOST - v), open),
-        ("star of falling times, from the last place on", reversed(star(n, |v| v)), open),
-        ("band of falling times", band(n, |i| MOST - i), open),
-        ("each place lowered again and again", lowered_each(n), open),
-        ("one place lowered again and again", lowered_one(n), open),
-        ("short cuts from both ends", short_cuts(n), open),
-        ("late short cuts", late_short_cuts(n), open),
+        ("star of falling times", star(n, |v| MOST - v)),
+        ("star of falling times, from the last place on", reversed(star(n, |v| v))),
+        ("band of falling times", band(n, |i| MOST - i)),
+        ("each place lowered again and again", lowered_each(n)),
+        ("one place lowered again and again", lowered_one(n)),
+        ("short cuts from both ends", short_cuts(n)),
+        ("late short cuts", late_short_cuts(n)),
         // Times rising.
-        ("star of rising times", star(n, |v| v), open),
-        ("star of rising times, from the last place on", reversed(star(n, |v| MOST - v)), open),
-        ("band of rising times", band(n, |i| 1 + i), open),
-        ("chain of rising times", chain(|v| v), open),
+        ("star of rising times", star(n, |v| v)),
+        ("star of rising times, from the last place on", reversed(star(n, |v| MOST - v))),
+        ("band of rising times", band(n, |i| 1 + i)),
+        ("chain of rising times", chain(|v| v)),
         // The largest sums.
-        ("chain of the longest roads", reversed(chain(|_| MOST)), open),
-        ("chain of the longest roads, from both ends", from_both_ends(n).windows(2).map(|w| (w[1], w[0], MOST)).collect(), open),
+        ("chain of the longest roads", reversed(chain(|_| MOST))),
+        ("chain of the longest roads, from both ends", from_both_ends(n).windows(2).map(|w| (w[1], w[0], MOST)).collect()),
         // Some places out of reach, or all.
-        ("two stars", (2..n).map(|v| (v % 2, v, v)).collect(), open),
-        ("star with closed roads", [star(n, |v| v), star(n, |v| 50_000 - v)].concat(), |i| i % 3 == 0 || i % 7 < 4),
-        ("star, all closed", star(n, |v| v), |_| true),
-        ("no road", Vec::new(), open),
+        ("two stars", (2..n).map(|v| (v % 2, v, v)).collect()),
+        ("star with roads left out", without([star(n, |v| v), star(n, |v| 50_000 - v)].concat(), |i| i % 3 == 0 || i % 7 < 4)),
+        ("star of every third road", without(star(n, |v| v), |i| i % 3 != 1)),
+        ("no road", Vec::new()),
         // At random.
-        ("times at random", scattered(n, 4 * n, |random| 1 + random.below(MOST as u64) as usize), |i| i % 6 == 5),
-        ("few times at random", scattered(n, 3 * n, |random| 1 + random.below(3) as usize), |i| i % 10 == 0),
+        ("times at random", without(scattered(n, 4 * n, |random| 1 + random.below(MOST as u64) as usize), |i| i % 6 == 5)),
+        ("few times at random", scattered(n, 3 * n, |random| 1 + random.below(3) as usize)),
     ]
 }
 
-fn plan(n: usize, roads: &[Road], closed: Closed) -> Plan {
+fn plan(n: usize, roads: &[Road]) -> Plan {
     let side = side(n);
     Plan {
         places: (0..n).map(|u| (100 * (u % side) as i32, 100 * (u / side) as i32)).collect(),
         roads: roads.iter().map(|&(u, v, seconds)| (u as u16, v as u16, seconds as u32)).collect(),
-        closed: (0..roads.len()).filter(|&i| closed(i)).map(|i| i as u16).collect(),
     }
 }
 
@@ -187,8 +184,8 @@ fn ends(n: usize, count: usize) -> Vec<u32> {
 
 /// Building under these grids, the audit, which builds anew and so only where that is quick, all pairs by block, and ways from all places.
 fn build_and_ask(n: usize, grids: &[u32]) {
-    for (name, roads, closed) in networks(n) {
-        let plan = plan(n, &roads, closed);
+    for (name, roads) in networks(n) {
+        let plan = plan(n, &roads);
         let network = NetworkCase::new(move || format!("{n} places, {name}"), plan.bytes());
         let all: Vec<u32> = (0..n as u32).collect();
         for &g in grids {
@@ -212,8 +209,8 @@ fn build_and_ask(n: usize, grids: &[u32]) {
 /// Building and the audit, against plain Rust's bytes: the marks go over the
 /// places in the order in which a search has settled them.
 fn build_in_order(n: usize, g: u32) {
-    for (name, roads, closed) in networks(n).into_iter().filter(|(_, roads, _)| roads.len() <= 4 * n) {
-        let plan = plan(n, &roads, closed);
+    for (name, roads) in networks(n).into_iter().filter(|(_, roads)| roads.len() <= 4 * n) {
+        let plan = plan(n, &roads);
         let bytes = plain::build(&plan.bytes(), g);
         let network = NetworkCase::new(move || format!("{n} places, {name}, under {g}"), plan.bytes());
         let values = Built { length: bytes.len(), transit: reference::body(&bytes, 5).len() / 2 };
@@ -226,8 +223,8 @@ fn build_in_order(n: usize, g: u32) {
 
 /// The times from the first place to `count` ends, to some from other starts, and a way. A way is found by a search from its end.
 fn ask(n: usize, count: usize) {
-    for (name, roads, closed) in networks(n) {
-        let asked = searched(n, name, &plan(n, &roads, closed));
+    for (name, roads) in networks(n) {
+        let asked = searched(n, name, &plan(n, &roads));
         let last = n as u32 - 1;
         block_by_block(&asked, &[0], &ends(n, count));
         block_by_block(&asked, &[last], &ends(n, SIDE));
@@ -279,6 +276,6 @@ fn the_most() {
 /// Every place of the most, on a network in which all are held at once and half of them are lowered from the bottom to the top.
 #[test]
 fn every_end_of_the_most() {
-    let asked = searched(PLACES, "late short cuts", &plan(PLACES, &late_short_cuts(PLACES), open));
+    let asked = searched(PLACES, "late short cuts", &plan(PLACES, &late_short_cuts(PLACES)));
     block_by_block(&asked, &[0], &ends(PLACES, PLACES));
 }

@@ -1,6 +1,6 @@
 //! Networks that try the index of the roads at each place, which the core keeps in what its working words have left over: there it lists roads one by one,
 //! in blocks where there are too many of them, or not at all. So: as many roads as fit, one less and one more, and many times as many; many between
-//! two places, or all at one; closed ones in all positions, as quick as can be, so that one that is driven over shows; in any order.
+//! two places, or all at one; in all positions some that are as quick as can be, so that one that is passed over shows; in any order.
 
 mod common;
 
@@ -66,11 +66,11 @@ fn shuffled(mut roads: Vec<Road>) -> Vec<Road> {
     roads
 }
 
-// ---- Closed roads ----
+// ---- Quick roads ----
 
-/// Where closed roads stand among the open ones.
+/// Which of the roads take a second.
 #[derive(Clone, Copy, Debug)]
-enum Closed {
+enum Quick {
     None,
     Some,
     First,
@@ -79,21 +79,20 @@ enum Closed {
     All,
 }
 
-const CLOSED: [Closed; 6] = [Closed::None, Closed::Some, Closed::First, Closed::Last, Closed::EverySecond, Closed::All];
+const QUICK: [Quick; 6] = [Quick::None, Quick::Some, Quick::First, Quick::Last, Quick::EverySecond, Quick::All];
 
-/// The roads with closed ones beside them, or all of them closed. Where there are too many, the last are left out.
-fn with_closed(open: Vec<Road>, closed: Closed) -> Vec<(Road, bool)> {
-    let quick = open.iter().map(|&(u, v, _)| ((u, v, 1), true)).collect::<Vec<_>>();
-    let open = open.into_iter().map(|road| (road, false));
-    let mut roads: Vec<(Road, bool)> = match closed {
-        Closed::None => open.collect(),
-        Closed::Some => open.zip(quick).enumerate().flat_map(|(i, (o, q))| if i * 7_919 % 5 == 0 { vec![q, o] } else { vec![o] }).collect(),
-        Closed::First => quick.into_iter().chain(open).collect(),
-        Closed::Last => open.chain(quick).collect(),
-        Closed::EverySecond => open.zip(quick).flat_map(|(o, q)| [o, q]).collect(),
-        Closed::All => quick,
+/// The roads, those in these positions as quick as can be. Their number is as it was.
+fn with_quick(mut roads: Vec<Road>, quick: Quick) -> Vec<Road> {
+    let count = roads.len();
+    let is_quick = |i: usize| match quick {
+        Quick::None => false,
+        Quick::Some => i * 7_919 % 5 == 0,
+        Quick::First => i == 0 || i < count / 8,
+        Quick::Last => i == count - 1 || i >= count - count / 8,
+        Quick::EverySecond => i % 2 == 1,
+        Quick::All => true,
     };
-    roads.truncate(ROADS);
+    roads.iter_mut().enumerate().filter(|(i, _)| is_quick(*i)).for_each(|(_, road)| road.2 = 1);
     roads
 }
 
@@ -107,12 +106,8 @@ fn line(n: usize) -> Vec<(i32, i32)> {
     (0..n as i32).map(|k| (100 * k, 0)).collect()
 }
 
-fn plan(places: Vec<(i32, i32)>, roads: Vec<(Road, bool)>) -> Plan {
-    Plan {
-        places,
-        roads: roads.iter().map(|&((u, v, seconds), _)| (u as u16, v as u16, seconds as u32)).collect(),
-        closed: (0..roads.len()).filter(|&i| roads[i].1).map(|i| i as u16).collect(),
-    }
+fn plan(places: Vec<(i32, i32)>, roads: Vec<Road>) -> Plan {
+    Plan { places, roads: roads.iter().map(|&(u, v, seconds)| (u as u16, v as u16, seconds as u32)).collect() }
 }
 
 // ---- Questions ----
@@ -156,7 +151,7 @@ fn build_and_ask(name: &str, plan: &Plan, grids: &[u32], pairs: &[(usize, usize)
 
 // ---- As many roads as the index can list one by one, and about multiples of that ----
 
-/// The words behind the lists' heads; each open road takes two of them where it is listed by itself.
+/// The words behind the lists' heads; each road takes two of them where it is listed by itself.
 fn listed_at_most(n: usize) -> usize {
     (3 * n - 4 * (n / 32 + 1)) / 2
 }
@@ -175,16 +170,16 @@ type Kind = (&'static str, fn(usize, usize) -> Vec<Road>);
 
 const KINDS: [Kind; 4] = [("scattered", scattered), ("sorted", sorted), ("chain", chain), ("side by side", |n, count| side_by_side(0, n - 1, count))];
 
-/// Each count of each kind, with closed roads in a position that goes round; the first three counts with all.
+/// Each count of each kind, with quick roads in a position that goes round; the first three counts with all.
 fn about_what_fits(n: usize) {
     let mut turn = n;
     for (at, &count) in counts(n).iter().enumerate() {
         for (kind, roads) in KINDS {
-            for _ in 0..if at < 3 { CLOSED.len() } else { 1 } {
+            for _ in 0..if at < 3 { QUICK.len() } else { 1 } {
                 turn += 1;
-                let closed = CLOSED[turn % CLOSED.len()];
-                let plan = plan(lattice(n), with_closed(roads(n, count), closed));
-                let name = format!("{kind}, closed: {closed:?}");
+                let quick = QUICK[turn % QUICK.len()];
+                let plan = plan(lattice(n), with_quick(roads(n, count), quick));
+                let name = format!("{kind}, quick: {quick:?}");
                 // A search may look at all roads for each place here: then there are none but those of the questions.
                 if n * n * count > 2_000_000 {
                     build_and_ask(&name, &plan, &[GRIDS[turn % 2]], &pairs(n, 2));
@@ -230,13 +225,13 @@ fn one_place() {
     }
 }
 
-/// Every small number of roads between two places, with each position of closed ones.
+/// Every small number of roads between two places, with each position of quick ones.
 #[test]
 fn two_places() {
     for count in (0..=20).chain([31, 32, 33, 63, 64, 65, 127, 128, 129]) {
-        for (at, &closed) in CLOSED.iter().enumerate() {
-            let plan = plan(line(2), with_closed(side_by_side(at % 2, 1 - at % 2, count), closed));
-            build_and_ask(&format!("two places, closed: {closed:?}"), &plan, &[1, 16], &[(0, 1), (1, 0), (0, 0)]);
+        for (at, &quick) in QUICK.iter().enumerate() {
+            let plan = plan(line(2), with_quick(side_by_side(at % 2, 1 - at % 2, count), quick));
+            build_and_ask(&format!("two places, quick: {quick:?}"), &plan, &[1, 16], &[(0, 1), (1, 0), (0, 0)]);
         }
     }
 }
@@ -246,16 +241,16 @@ fn two_places() {
 #[test]
 fn most_roads_between_two() {
     for (at, (n, a, b)) in [(2, 0, 1), (2, 1, 0), (3, 0, 2), (3, 2, 1), (64, 0, 63), (64, 31, 32), (64, 63, 5)].into_iter().enumerate() {
-        let closed = [Closed::None, Closed::Some, Closed::EverySecond][at % 3];
-        let plan = plan(lattice(n), with_closed(side_by_side(a, b, ROADS), closed));
-        build_and_ask(&format!("most roads from {a} to {b}, closed: {closed:?}"), &plan, &GRIDS, &[(a, b), (b, a), (a, a), (0, n - 1)]);
+        let quick = [Quick::None, Quick::Some, Quick::EverySecond][at % 3];
+        let plan = plan(lattice(n), with_quick(side_by_side(a, b, ROADS), quick));
+        build_and_ask(&format!("most roads from {a} to {b}, quick: {quick:?}"), &plan, &GRIDS, &[(a, b), (b, a), (a, a), (0, n - 1)]);
     }
 }
 
 #[test]
 fn most_roads_between_two_of_the_most() {
     for (a, b) in [(0, 1), (4_095, 0), (2_047, 4_094)] {
-        let plan = plan(lattice(PLACES), with_closed(side_by_side(a, b, ROADS), Closed::None));
+        let plan = plan(lattice(PLACES), with_quick(side_by_side(a, b, ROADS), Quick::None));
         build_and_ask(&format!("most roads from {a} to {b}"), &plan, &[1, 16], &[(a, b), (b, a), (7, b)]);
     }
 }
@@ -273,7 +268,7 @@ fn small_stars() {
         for (at, hub) in hubs(n).into_iter().enumerate() {
             let (once, four) = (star(n, hub, 1), star(n, hub, 4));
             for (name, roads) in [("star", once), ("star of four", four.clone()), ("star of four in no order", shuffled(four))] {
-                let plan = plan(lattice(n), with_closed(roads, CLOSED[(n + at) % CLOSED.len()]));
+                let plan = plan(lattice(n), with_quick(roads, QUICK[(n + at) % QUICK.len()]));
                 build_and_ask(&format!("{name}, hub {hub}"), &plan, &GRIDS, &pairs(n, 4));
             }
         }
@@ -284,7 +279,7 @@ fn small_stars() {
 fn great_stars() {
     for hub in hubs(PLACES) {
         for (name, times) in [("great star", 1), ("great star of four", 4)] {
-            let plan = plan(lattice(PLACES), with_closed(star(PLACES, hub, times), Closed::None));
+            let plan = plan(lattice(PLACES), with_quick(star(PLACES, hub, times), Quick::None));
             // With the hub first, no other place is the lesser end of a road, and few searches build the oracle.
             let grids: &[u32] = if hub == 0 && times == 1 { &GRIDS } else { &[3] };
             build_and_ask(&format!("{name}, hub {hub}"), &plan, grids, &[(1, hub), (hub, PLACES - 2), (PLACES - 3, 2)]);
@@ -295,7 +290,7 @@ fn great_stars() {
 /// Blocks that each have roads of most places.
 #[test]
 fn a_great_star_in_no_order() {
-    let plan = plan(lattice(PLACES), with_closed(shuffled(star(PLACES, 17, 4)), Closed::None));
+    let plan = plan(lattice(PLACES), with_quick(shuffled(star(PLACES, 17, 4)), Quick::None));
     build_and_ask("great star of four in no order", &plan, &[3], &[(17, 5), (3_000, 4_000)]);
 }
 
@@ -306,8 +301,8 @@ fn chains() {
     for n in [2, 3, 31, 32, 33, 64, 100, 257] {
         for (name, places) in [("chain along a line", line(n)), ("chain by rows", lattice(n))] {
             for (at, roads) in [chain(n, n - 1), shuffled(chain(n, n - 1)), shuffled(chain(n, 3 * n))].into_iter().enumerate() {
-                let closed = [Closed::None, Closed::EverySecond, Closed::First][(at + n) % 3];
-                build_and_ask(&format!("{name}, closed: {closed:?}"), &plan(places.clone(), with_closed(roads, closed)), &GRIDS, &pairs(n, 4));
+                let quick = [Quick::None, Quick::EverySecond, Quick::First][(at + n) % 3];
+                build_and_ask(&format!("{name}, quick: {quick:?}"), &plan(places.clone(), with_quick(roads, quick)), &GRIDS, &pairs(n, 4));
             }
         }
     }
@@ -315,6 +310,6 @@ fn chains() {
 
 #[test]
 fn a_chain_of_the_most() {
-    let plan = plan(line(PLACES), with_closed(chain(PLACES, PLACES - 1), Closed::Last));
+    let plan = plan(line(PLACES), with_quick(chain(PLACES, PLACES - 1), Quick::Last));
     build_and_ask("chain of the most", &plan, &[3, 16], &[(0, PLACES - 1), (PLACES - 1, 1_000), (2_000, 2_001)]);
 }

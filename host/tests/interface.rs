@@ -40,10 +40,10 @@ fn a_c_program_finds_what_the_header_says() {
     assert_eq!(lines.next(), Some("N 4096 R 4095 T 59"));
     let n = form::MAX_NODES / 2;
     for roads in (0..=form::MAX_EDGES).step_by(1024) {
-        let bodies = form::NODE_SIZE * n + (form::EDGE_SIZE + form::NUMBER_SIZE) * roads;
+        let bodies = form::NODE_SIZE * n + form::EDGE_SIZE * roads;
         assert_eq!(lines.next(), Some(format!("room {}", files::room(n, roads, bodies)).as_str()));
     }
-    for expected in ["null pointers", "threads 8", "sheets", "wages"] {
+    for expected in ["null pointers", "threads 8", "sheets", "wages", "converter"] {
         assert_eq!(lines.next(), Some(expected));
     }
     let mut calls = Vec::new();
@@ -53,7 +53,7 @@ fn a_c_program_finds_what_the_header_says() {
         assert!((100..=allowed(call)).contains(&bytes.parse().unwrap()), "{line}");
         calls.push(call);
     }
-    assert_eq!(calls, ["build", "audit", "time", "far", "list", "way", "block", "time_under", "way_under", "wages"]);
+    assert_eq!(calls, ["build", "audit", "time", "far", "list", "way", "block", "time_under", "way_under", "wages", "convert", "convert_sheet"]);
 }
 
 /// In Rust too, from an opened oracle: a thread of 64 KB.
@@ -62,7 +62,6 @@ fn the_longest_way_in_a_small_thread() {
     let mut net = sample::network(1, 1);
     net.nodes = (0..form::MAX_NODES as i32).map(|i| (100 * i, 0)).collect();
     net.edges = (1..form::MAX_NODES as u16).map(|i| files::Edge { first: i - 1, second: i, seconds: 3 }).collect();
-    net.closed.clear();
     let network = net.to_bytes();
     let mut work = vec![0; files::words_needed(&network)];
     let mut out = vec![0; files::most_room(&network)];
@@ -95,7 +94,7 @@ fn the_entry_points_alone() {
     let text = String::from_utf8(symbols.stdout).unwrap();
     let mut exported: Vec<&str> = text.lines().filter_map(|line| line.split_once(" T ")).map(|(_, name)| name).collect();
     exported.sort_unstable();
-    let names = ["audit", "block", "build", "far", "list", "list_rule", "time", "time_under", "wages", "way", "way_under"];
+    let names = ["audit", "block", "build", "convert", "convert_sheet", "far", "list", "list_rule", "time", "time_under", "wages", "way", "way_under"];
     let calls = names.map(|name| format!("jukesogbi_{name}"));
     assert_eq!(exported, calls);
     for call in calls {

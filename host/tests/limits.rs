@@ -3,7 +3,7 @@
 
 mod common;
 
-use common::networks::{self, Plan};
+use common::networks::{self, Old, Plan};
 use common::reference::{self, bytes_16, bytes_32, Answer, Outcome, Times, NO_WALK, SIDE, WORDS};
 use common::{check_block, check_time, check_way, Input, NetworkCase, OracleCase};
 use jukesogbi::sample::Random;
@@ -58,8 +58,8 @@ fn one_place_under_every_grid() {
 #[test]
 fn two_places_at_the_corners_under_every_grid() {
     for (a, b) in [((-LIMIT, -LIMIT), (LIMIT, LIMIT)), ((LIMIT, -LIMIT), (-LIMIT, LIMIT)), ((LIMIT, 0), (-LIMIT, 0)), ((0, LIMIT), (0, -LIMIT))] {
-        for closed in [vec![], vec![0]] {
-            let plan = Plan { places: vec![a, b], roads: vec![(1, 0, 100_000)], closed };
+        for roads in [vec![(1, 0, 100_000)], vec![]] {
+            let plan = Plan { places: vec![a, b], roads };
             for g in 1..=64 {
                 let asked = all_calls("two places at the corners", &plan, g, &[(0, 1), (1, 0), (0, 0)]);
                 // The two lie in the first and the last column or row.
@@ -76,7 +76,7 @@ fn coordinates_at_their_limits() {
     let places: Vec<(i32, i32)> = ends.iter().flat_map(|&x| [-LIMIT, 0, LIMIT].map(|y| (x, y))).collect();
     let n = places.len() as u16;
     let roads = (0..n).flat_map(|u| [(u, (u + 1) % n, 5), (u, (u + 3) % n, 10)]).collect();
-    let plan = Plan { places, roads, closed: vec![4] };
+    let plan = Old::of(Plan { places, roads }, [4]).left_out();
     let pairs: Vec<(u32, u32)> = (0..n as u32).flat_map(|s| (0..n as u32).map(move |t| (s, t))).collect();
     for g in [1, 2, 5, 6, 31, 32, 33, 63, 64] {
         all_calls("coordinates at their limits", &plan, g, &pairs);
@@ -90,7 +90,7 @@ fn every_grid_number() {
     let places = (0..n).map(|k| (k * 7_001 % 4_000, k * 919)).collect();
     let n = n as u16;
     let roads = (0..n - 1).map(|u| (u, u + 1, 3)).chain((0..n - 2).map(|u| (u + 2, u, 6))).chain((0..n - 3).map(|u| (u, u + 3, 8))).collect();
-    let plan = Plan { places, roads, closed: vec![2, 20] };
+    let plan = Old::of(Plan { places, roads }, [2, 20]).left_out();
     let pairs: Vec<(u32, u32)> = (0..n as u32).map(|s| (s, (s * 5 + 11) % n as u32)).collect();
     for g in 1..=64 {
         all_calls("every grid number", &plan, g, &pairs);
@@ -129,7 +129,7 @@ fn most_places_without_roads() {
 
 #[test]
 fn most_places_in_one_spot() {
-    let plan = Plan { places: vec![(LIMIT, -LIMIT); PLACES], roads: vec![(0, 4_095, 100_000)], closed: vec![] };
+    let plan = Plan { places: vec![(LIMIT, -LIMIT); PLACES], roads: vec![(0, 4_095, 100_000)] };
     all_calls("most places in one spot", &plan, 64, &[(0, 4_095), (1, 2)]);
 }
 
@@ -138,7 +138,7 @@ fn most_places_in_one_spot() {
 fn most_places_with_few_roads() {
     let last = PLACES as u16 - 1;
     let roads = vec![(0, 10, 100_000), (10, 30, 7), (30, last, 1), (0, 30, 100_000), (2_000, last, 9), (1, 2_000, 3)];
-    let plan = Plan { places: lattice(), roads, closed: vec![3] };
+    let plan = Old::of(Plan { places: lattice(), roads }, [3]).left_out();
     let asked = all_calls("most places, few roads", &plan, 64, &[(0, last as u32), (last as u32, 1), (10, 30), (5, 4_000)]);
     assert!(reference::body(&asked.reference.bytes, 5).len() > 2);
     assert_eq!(asked.time(0, last as u32, asked.words()).result.unwrap().seconds, Some(100_008));
@@ -155,7 +155,7 @@ fn most_places_with_few_roads() {
 fn the_longest_way() {
     let places = (0..PLACES as i32).map(|k| (k, 0)).collect();
     let roads = (0..PLACES as u16 - 1).map(|u| (u, u + 1, 100_000)).collect();
-    let plan = Plan { places, roads, closed: vec![] };
+    let plan = Plan { places, roads };
     let input = Input::new(|| "chain".to_string(), &plan.without_transit(1));
     let (last, words) = (PLACES as u32 - 1, WORDS * PLACES);
     let answer = |seconds| Outcome { result: Ok(Answer { far: false, seconds: Some(seconds), pairs: 0 }), zeroed: words, written: vec![] };
@@ -182,7 +182,7 @@ fn a_long_chain() {
     let n = 120;
     let places = (0..n).map(|k| (k * 100, 0)).collect();
     let roads = (0..n as u16 - 1).map(|u| (u + 1, u, 100_000)).collect();
-    let plan = Plan { places, roads, closed: vec![] };
+    let plan = Plan { places, roads };
     let last = n as u32 - 1;
     let asked = all_calls("a long chain", &plan, 64, &[(0, last), (last, 0), (60, 66), (60, 61)]);
     assert_eq!(asked.far(0, last).result.unwrap().seconds, Some(11_900_000));
@@ -192,7 +192,7 @@ fn a_long_chain() {
 #[test]
 fn a_great_star() {
     let roads = (1..PLACES as u16).map(|u| (u, 0, u as u32)).collect();
-    let plan = Plan { places: lattice(), roads, closed: vec![] };
+    let plan = Plan { places: lattice(), roads };
     let input = Input::new(|| "star".to_string(), &plan.without_transit(1));
     let words = WORDS * PLACES;
     let expected = Outcome { result: Ok(Answer { far: false, seconds: Some(4_094 + 4_095), pairs: 0 }), zeroed: words, written: vec![] };
@@ -238,20 +238,19 @@ fn one_place_too_many() {
 
 // ---- The most roads ----
 
-/// All roads between two places, side by side; the quickest open one decides.
+/// All roads between two places, side by side, or all but some; the quickest of them decides.
 #[test]
 fn most_roads_side_by_side() {
     let seconds = |i: usize| 100_000 - (i * 7_919 % ROADS) as u32;
     let roads: Vec<(u16, u16, u32)> = (0..ROADS).map(|i| (i as u16 % 2, 1 - i as u16 % 2, seconds(i))).collect();
     let least = (0..ROADS).min_by_key(|&i| seconds(i)).unwrap() as u16;
-    for (name, closed) in [
+    for (name, left_out) in [
         ("16,384 roads side by side", vec![]),
-        ("16,384 roads side by side, the quickest closed", vec![least]),
-        ("16,384 roads side by side, every second closed", (0..ROADS as u16).filter(|i| i % 2 == 0).collect()),
-        ("16,384 roads side by side, the last open", (0..ROADS as u16 - 1).collect()),
-        ("16,384 roads side by side, all closed", (0..ROADS as u16).collect()),
+        ("16,384 roads side by side but the quickest", vec![least]),
+        ("16,384 roads side by side but every second", (0..ROADS as u16).filter(|i| i % 2 == 0).collect()),
+        ("16,384 roads side by side, the last alone", (0..ROADS as u16 - 1).collect()),
     ] {
-        let plan = Plan { places: vec![(0, 0), (60, 0)], roads: roads.clone(), closed };
+        let plan = Old::of(Plan { places: vec![(0, 0), (60, 0)], roads: roads.clone() }, left_out).left_out();
         all_calls(name, &plan, 6, &[(0, 1), (1, 0), (1, 1)]);
         all_calls(name, &plan, 5, &[(0, 1)]);
     }
@@ -269,8 +268,7 @@ fn most_roads_at_random() {
         if a == b { (a, a - 1) } else { (a, b) }
     };
     let roads = (0..ROADS).map(|_| near(&mut random)).collect::<Vec<_>>().into_iter().map(|(a, b)| (a, b, 1 + random.below(100_000) as u32)).collect();
-    let closed = (0..ROADS as u16).filter(|_| random.once_in(3)).collect();
-    let plan = Plan { places, roads, closed };
+    let plan = Plan { places, roads };
     let pairs: Vec<(u32, u32)> = (0..n as u32).map(|s| (s, n as u32 - 1 - s)).collect();
     all_calls("16,384 roads at random", &plan, 12, &pairs);
 }
@@ -286,29 +284,28 @@ fn one_road_too_many() {
         assert_eq!(asked.list(0).result.err(), expected);
     }
     // 6 and 7 are not looked for before 5.
-    let wrong = Plan { roads: vec![(9, 9, 0); ROADS + 1], closed: vec![1, 0], ..networks::line() };
+    let wrong = Old::of(Plan { roads: vec![(9, 9, 0); ROADS + 1], ..networks::line() }, [1, 0]);
     let case = NetworkCase::new(|| "too many roads, all wrong".to_string(), wrong.bytes());
     assert_eq!(case.build(0, 0, 0).result, Err(5));
 }
 
-/// A road at fault at the end of the longest roads body, and a closed number at the end of the longest closed list.
+/// A road at fault at the end of the longest roads body, and a closed number at the end of the longest closed list, which is refused by 21 without it.
 #[test]
 fn faults_at_the_end_of_long_bodies() {
-    let sound = Plan { roads: vec![(0, 1, 1); ROADS], closed: (0..ROADS as u16).collect(), ..networks::line() };
-    let rule = |plan: &Plan| {
-        let case = NetworkCase::new(|| "a fault at the end".to_string(), plan.bytes());
+    let sound = Old::of(Plan { roads: vec![(0, 1, 1); ROADS], ..networks::line() }, 0..ROADS as u16);
+    let rule = |bytes: Vec<u8>| {
+        let case = NetworkCase::new(|| "a fault at the end".to_string(), bytes);
         case.build(6, 24, 1_000_000).result.err()
     };
-    assert_eq!(rule(&sound), None);
-    let mut plan = sound.clone();
-    plan.roads[ROADS - 1].1 = 3;
-    assert_eq!(rule(&plan), Some(6));
-    let mut plan = sound.clone();
-    plan.closed[ROADS - 1] = ROADS as u16;
-    assert_eq!(rule(&plan), Some(7));
-    let mut plan = sound.clone();
-    plan.closed[ROADS - 1] = ROADS as u16 - 2;
-    assert_eq!(rule(&plan), Some(7));
+    assert_eq!((rule(sound.plan.bytes()), rule(sound.bytes())), (None, Some(21)));
+    let mut old = sound.clone();
+    old.plan.roads[ROADS - 1].1 = 3;
+    assert_eq!((rule(old.plan.bytes()), rule(old.bytes())), (Some(6), Some(6)));
+    for last in [ROADS as u16, ROADS as u16 - 2] {
+        let mut old = sound.clone();
+        old.closed[ROADS - 1] = last;
+        assert_eq!(rule(old.bytes()), Some(7), "{last}");
+    }
     let mut plan = Plan { places: vec![(0, 0); PLACES], ..Plan::default() };
     plan.places[PLACES - 1].1 = LIMIT + 1;
     let case = NetworkCase::new(|| "a coordinate at fault at the end".to_string(), plan.bytes());

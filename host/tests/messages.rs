@@ -5,8 +5,9 @@ mod common;
 use common::program::{Folder, Ran};
 use std::path::Path;
 
-const COMMANDS: [&str; 17] = [
-    "build", "audit", "time", "far", "list", "way", "block", "wages", "listing", "sample", "draw", "sheet", "sheet-text", "demo", "bench", "help", "version",
+const COMMANDS: [&str; 19] = [
+    "build", "audit", "time", "far", "list", "way", "block", "wages", "listing", "sample", "draw", "sheet", "sheet-text", "convert", "convert-sheet", "demo",
+    "bench", "help", "version",
 ];
 
 /// The usage line of a command, as its help has it.
@@ -84,7 +85,10 @@ fn no_such_command_or_option() {
     is_slip_without_command(f.run("--wrods 5 audit line.oracle"), "there is no option `--wrods`", none);
     is_slip(&f, f.run("audit line.oracle --room 5"), "`audit` has no option `--room`", "audit");
     is_slip(&f, f.run("sample 5 1 new --words=5"), "`sample` has no option `--words`", "sample");
-    for command in ["far line.oracle 0 2", "block line.oracle 0 2", "wages line.oracle", "audit line.oracle", "sheet-text line.oracle"] {
+    is_slip(&f, f.run("convert-sheet line.net day new --words 24"), "`convert-sheet` has no option `--words`", "convert-sheet");
+    for command in
+        ["far line.oracle 0 2", "block line.oracle 0 2", "wages line.oracle", "audit line.oracle", "sheet-text line.oracle", "convert line.net new"]
+    {
         let name = command.split(' ').next().unwrap();
         is_slip(&f, f.run(&format!("{command} --sheet day")), &format!("`{name}` has no option `--sheet`"), name);
     }
@@ -112,6 +116,8 @@ fn a_wrong_number_of_arguments() {
         ("draw", "2 or 4", "| line.oracle| line.oracle p.svg 0| line.oracle p.svg 0 1 2"),
         ("sheet", "2", "| day.txt| day.txt day more"),
         ("sheet-text", "1", "| day more"),
+        ("convert", "2", "| line.net| line.net new more"),
+        ("convert-sheet", "3", "| line.net| line.net day| line.net day new more"),
         ("demo", "0", " more"),
         ("bench", "0 or 1 or 2", " 1 2 3"),
         ("help", "0 or 1", " time far"),
@@ -164,6 +170,7 @@ fn what_is_no_number() {
 #[test]
 fn the_other_kind_of_file() {
     let f = Folder::with_files("messages_kind");
+    f.write("none", b"\x01\x05 a text, and no file of either kind");
     let rule = "rule 1: fewer than 2 bytes, a wrong edition, a wrong entry count or an incomplete contents\n";
     let network = format!("{rule}this looks like a network: `jukesogbi build` makes an oracle of it\n");
     for call in [
@@ -172,12 +179,13 @@ fn the_other_kind_of_file() {
     ] {
         f.run(call).does(1, "refused 1\n", &network);
     }
-    let oracle = format!("{rule}this looks like an oracle: building wants the network that it is of\n");
-    f.run("build line.oracle 6 new").does(1, "refused 1\n", &oracle);
+    let oracle = format!("{rule}this looks like an oracle: the network that it is of is wanted\n");
+    for call in ["build line.oracle 6 new", "convert line.oracle new", "convert-sheet line.oracle none new"] {
+        f.run_with(call, b"").does(1, "refused 1\n", &oracle);
+    }
     f.run_with("build - 6 new", &f.read("line.oracle")).does(1, "refused 1\n", &oracle);
     // What looks like neither is refused without a word on it.
-    f.write("none", b"\x01\x05 a text, and no file of either kind");
-    for call in ["build none 6 new", "audit none"] {
+    for call in ["build none 6 new", "audit none", "convert none new", "convert-sheet none none new"] {
         f.run(call).does(1, "refused 1\n", rule);
     }
     assert!(!f.has("new") && !f.has("p.svg"));
@@ -186,12 +194,12 @@ fn the_other_kind_of_file() {
 #[test]
 fn no_way() {
     let f = Folder::with_files("messages_no_way");
-    f.run("way closed.oracle 0 4").does(0, "\n", "no way leads from 0 to 4\n");
-    f.run_with("way closed.oracle", b"0 1\n4 0\n\n0 4\n").does(0, "0 1\n\n\n", "line 2: no way leads from 4 to 0\nline 4: no way leads from 0 to 4\n");
-    f.run("draw closed.oracle p.svg 0 4").does(0, "drawn 5 places\n", "no way leads from 0 to 4\n");
-    let ran = f.run("draw closed.oracle - 0 4");
+    f.run("way without.oracle 0 4").does(0, "\n", "no way leads from 0 to 4\n");
+    f.run_with("way without.oracle", b"0 1\n4 0\n\n0 4\n").does(0, "0 1\n\n\n", "line 2: no way leads from 4 to 0\nline 4: no way leads from 0 to 4\n");
+    f.run("draw without.oracle p.svg 0 4").does(0, "drawn 5 places\n", "no way leads from 0 to 4\n");
+    let ran = f.run("draw without.oracle - 0 4");
     assert_eq!((ran.code, ran.out, ran.err.as_str()), (0, f.read("p.svg"), "no way leads from 0 to 4\ndrawn 5 places\n"));
-    f.run("draw closed.oracle all.svg").says("drawn 5 places\n");
+    f.run("draw without.oracle all.svg").says("drawn 5 places\n");
 }
 
 #[test]
@@ -199,7 +207,7 @@ fn files_that_cannot_be_read() {
     let f = Folder::with_files("messages_unread");
     for command in [
         "build none 6 new", "audit none", "time none 0 1", "time none", "far none 0 1", "list none 0", "way none 0 1", "block none 0 1", "wages none",
-        "listing none", "draw none p.svg",
+        "listing none", "draw none p.svg", "convert none new", "convert-sheet none line.net new", "convert-sheet line.net none new",
     ] {
         f.run(command).does(2, "", "jukesogbi: cannot read none: No such file or directory (os error 2)\n");
     }

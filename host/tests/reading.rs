@@ -2,7 +2,7 @@
 
 mod common;
 
-use common::networks::{self, Plan};
+use common::networks::{self, Old, Plan};
 use common::program::{oracle, LONGEST_ORACLE};
 use common::reference::sheets::{breaks_18, sheet};
 use common::reference::{self, bytes_32, file};
@@ -18,6 +18,11 @@ const NETWORK: usize = 2 + 3 * 9 + 4096 * 8 + 16_384 * 8 + 16_384 * 2;
 /// The rule of a network as far as it is checked before the working words.
 fn network_rule(f: &[u8]) -> u32 {
     core::build(f, 8, &mut [], &mut []).map_or_else(|Refused(rule)| rule, |_| 0)
+}
+
+/// The converter's, without output.
+fn convert_rule(f: &[u8]) -> u32 {
+    core::convert(f, &mut []).map_or_else(|Refused(rule)| rule, |_| 0)
 }
 
 fn oracle_rule(f: &[u8]) -> u32 {
@@ -40,6 +45,9 @@ fn check(whole: &[u8], kind: Kind, size: Option<u64>) -> u32 {
     let read = reading::file(&mut Drip(whole, Random(whole.len() as u64)), kind, size).unwrap();
     let expected = rule(whole);
     assert_eq!(rule(&read), expected, "{} bytes", whole.len());
+    if kind == Kind::Network {
+        assert_eq!(convert_rule(&read), convert_rule(whole), "{} bytes", whole.len());
+    }
     assert!(read.capacity() <= most + 1, "{} bytes of memory", read.capacity());
     assert!(read == whole || whole.len() > most || rule(whole) == 1);
     expected
@@ -50,14 +58,10 @@ fn check_network(whole: &[u8]) -> u32 {
     check(whole, Kind::Network, Some(whole.len() as u64))
 }
 
-/// The bodies of the largest network: the last places are joined by many roads, all closed.
+/// The bodies of the largest network, an old one: the last places are joined by many roads, all closed.
 fn largest() -> [Vec<u8>; 3] {
-    let plan = Plan {
-        places: (0..4096).map(|i| (i, -i)).collect(),
-        roads: (0..16_384).map(|i| (i % 4095, 4095, 100_000)).collect(),
-        closed: (0..16_384).collect(),
-    };
-    plan.bodies()
+    let plan = Plan { places: (0..4096).map(|i| (i, -i)).collect(), roads: (0..16_384).map(|i| (i % 4095, 4095, 100_000)).collect() };
+    Old::of(plan, 0..16_384).bodies()
 }
 
 #[test]
@@ -65,10 +69,14 @@ fn the_most_bytes() {
     assert_eq!((jukesogbi::form::most_size(3), jukesogbi::form::most_size(7)), (NETWORK, LONGEST_ORACLE));
     let whole = file(&largest());
     assert_eq!(whole.len(), NETWORK);
-    // Accepted but for the words.
-    assert_eq!(check_network(&whole), 14);
+    // Accepted by the converter alone, but for the output.
+    assert_eq!((check_network(&whole), convert_rule(&whole)), (21, 15));
     assert_eq!(check_network(&whole[..NETWORK - 1]), 2);
     assert_eq!(check_network(&[&whole[..], b"x"].concat()), 2);
+    // Without closed roads by every call, but for the words.
+    let mut bodies = largest();
+    bodies[2].clear();
+    assert_eq!(check_network(&file(&bodies)), 14);
 }
 
 /// Each body too long by a little or much, with joins that are right to the file's end.
@@ -139,7 +147,7 @@ fn ends_about_the_most() {
 #[test]
 fn random_long_networks() {
     let mut random = Random(11);
-    let mut met = [0; 15];
+    let mut met = [0; 22];
     for _ in 0..1500 {
         let mut bodies = largest();
         for body in &mut bodies {
@@ -162,7 +170,7 @@ fn random_long_networks() {
         }
         met[check_network(&whole) as usize] += 1;
     }
-    assert!([1, 2, 3, 5, 6, 7].iter().all(|&rule| met[rule] > 5), "{met:?}");
+    assert!([1, 2, 3, 5, 6, 7, 21].iter().all(|&rule| met[rule] > 5), "{met:?}");
 }
 
 // ---- Oracles ----

@@ -1,4 +1,4 @@
-//! The first walk of the README, and the example of docs/SHEETS.md: each command there prints what stands below it.
+//! The walks of the README and the examples of docs/SHEETS.md: each command there prints what stands below it.
 
 mod common;
 
@@ -6,6 +6,15 @@ use common::program::Folder;
 
 const README: &str = include_str!("../../README.md");
 const SHEETS: &str = include_str!("../../docs/SHEETS.md");
+const OLD_NETWORK: &[u8] = include_bytes!("../../examples/old.net");
+
+/// A folder with the old network of the examples.
+fn with_old_network(name: &str) -> Folder {
+    let f = Folder::new(name);
+    std::fs::create_dir(f.0.join("examples")).unwrap();
+    f.write("examples/old.net", OLD_NETWORK);
+    f
+}
 
 /// Runs the commands under a heading, and answers how many they are.
 fn run(f: &Folder, text: &str, heading: &str) -> usize {
@@ -26,6 +35,12 @@ fn run(f: &Folder, text: &str, heading: &str) -> usize {
 #[test]
 fn the_first_walk() {
     assert!(run(&Folder::new("readme"), README, "A first walk") >= 13);
+}
+
+#[test]
+fn the_walks_with_an_old_network() {
+    assert_eq!(run(&with_old_network("readme_old"), README, "Old networks"), 4);
+    assert_eq!(run(&with_old_network("readme_old_sheets"), SHEETS, "Old networks"), 6);
 }
 
 /// Its text is the one at the top of the page, and the page has the word on the road that stays closed.

@@ -61,9 +61,12 @@ fn trials_on_fork() {
     for u in [0, 4] {
         assert_eq!(fork.list(u).result.map(|p| p.size), Ok(14));
     }
-    let closed = asked(&networks::fork_closed(), 6);
-    assert_eq!(closed.time(0, 4, MUCH).result, answer(true, None, 0));
-    assert_eq!(closed.way(0, 4, MUCH, 0).result, Ok(0));
+    // The closed trial: with the road left out, and as it was until T-06.
+    for questions in [asked(&networks::fork_without_4(), 6), Questions::old(networks::fork_closed().oracle(6))] {
+        assert_eq!(questions.time(0, 4, MUCH).result, answer(true, None, 0));
+        assert_eq!(questions.way(0, 4, MUCH, 0).result, Ok(0));
+    }
+    assert_eq!(Questions::of(networks::fork_closed().oracle(6)).time(0, 4, MUCH).result, Err(21));
 }
 
 #[test]
@@ -105,6 +108,9 @@ fn each_rule_by_an_example() {
     assert_eq!(rule(&|b| b[2] = vec![1]), 7);
     assert_eq!(rule(&|b| b[2] = vec![1, 0, 1, 0]), 7);
     assert_eq!(rule(&|b| b[2] = vec![2, 0]), 7);
+    assert_eq!(rule(&|b| b[2] = vec![1, 0]), 21);
+    assert_eq!(rule(&|b| (b[2], b[3]) = (vec![0, 0, 1, 0], vec![65, 0])), 21);
+    assert_eq!(rule(&|b| (b[2], b[3]) = (vec![0, 0, 2, 0], vec![65, 0])), 7);
     assert_eq!(rule(&|b| b[3][0] = 65), 8);
     assert_eq!(rule(&|b| b[3].push(0)), 8);
     assert_eq!(rule(&|b| b[4][0] = 3), 9);

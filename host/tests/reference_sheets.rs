@@ -10,7 +10,7 @@ mod networks;
 mod reference;
 
 use jukesogbi::sample::Random;
-use networks::Plan;
+use networks::{Old, Plan};
 use reference::sheets::{breaks_18, delay_after_closure, sheet, with_contents, Under, CLOSED, DELAYED};
 use reference::{Answer, Map, Network, Questions};
 
@@ -60,8 +60,8 @@ fn lines_on_fork() {
     assert_eq!(on(&[(DELAYED, 4, 99_999)]), (local(Some(100_010)), vec![0, 1, 3, 4]));
     assert_eq!(on(&[(CLOSED, 4, 0)]), (local(None), vec![]));
     assert_eq!(under(&fork, &[(CLOSED, 4, 0), (CLOSED, 0, 0)], 0, 0), (local(Some(0)), vec![0]));
-    // What is closed in body 3 stays closed, and what was 'none' stays as it was.
-    let closed = asked(&networks::fork_closed(), 6);
+    // What an old network has closed stays closed, and what was 'none' stays as it was.
+    let closed = Questions::old(networks::fork_closed().oracle(6));
     for line in [(DELAYED, 4, 0), (DELAYED, 4, u32::MAX), (CLOSED, 4, 0), (CLOSED, 0, 0)] {
         assert_eq!(under(&closed, &[line], 0, 4), (Ok(Answer { far: true, seconds: None, pairs: 0 }), vec![]));
         assert_eq!(under(&closed, &[(CLOSED, 4, 0), line], 0, 4), (Ok(Answer { far: true, seconds: None, pairs: 0 }), vec![]));
@@ -157,7 +157,7 @@ fn oracles_never_built() {
     assert_eq!(under(&slower, &[], 0, 2), (far(66, 1), vec![0, 1, 2]));
     assert_eq!(under(&slower, &[(DELAYED, 0, 1)], 0, 2), (local(Some(17)), vec![0, 1, 2]));
     let mut islands = bodies.clone();
-    islands[2] = vec![0, 0];
+    islands[1].drain(..8);
     assert_eq!(under(&Questions::of(reference::file(&islands)), &[], 0, 2), (local(None), vec![]));
     bodies[6] = vec![255; 4];
     let none = Questions::of(reference::file(&bodies));
@@ -199,8 +199,8 @@ fn built_oracles_answer_least_totals() {
         let road = |random: &mut Random| random.below(plan.roads.len() as u64) as u16;
         let line = |random: &mut Random| if random.once_in(2) { (CLOSED, road(random), 0) } else { (DELAYED, road(random), random.below(9) as u32) };
         let lines: Vec<Line> = (0..random.below(6)).map(|_| line(&mut random)).collect();
-        let mut left = plan.clone();
-        for (i, road) in left.roads.iter_mut().enumerate() {
+        let mut left = Old::of(plan.clone(), []);
+        for (i, road) in left.plan.roads.iter_mut().enumerate() {
             let about: Vec<&Line> = lines.iter().filter(|line| line.1 as usize == i).collect();
             if about.iter().any(|line| line.0 == CLOSED) {
                 left.closed.push(i as u16);
@@ -208,17 +208,15 @@ fn built_oracles_answer_least_totals() {
                 road.2 += line.2;
             }
         }
-        left.closed.sort_unstable();
-        left.closed.dedup();
         let under = Under::of(&o, sheet(&lines));
         // The plan's roads over 100,000 seconds are refused as a network's, by 6, where the sheet is refused by 20.
-        let over = left.roads.iter().enumerate().any(|(i, road)| road.2 > 100_000 && !left.closed.contains(&(i as u16)));
+        let left = left.left_out();
+        let over = left.roads.iter().any(|road| road.2 > 100_000);
         assert_eq!(under.map().is_none(), over, "seed {seed}");
         if over {
             refused += 1;
             continue;
         }
-        left.roads.iter_mut().for_each(|road| road.2 = road.2.min(100_000));
         let network = Network::of(left.bytes());
         for s in 0..plan.places.len() {
             for t in 0..plan.places.len() {

@@ -181,8 +181,9 @@ fn time_and_way() {
         f.run(&format!("way fork.oracle 0 4 --sheet {name}")).does(0, "\n", "no way leads from 0 to 4\n");
     }
     f.run_with("way fork.oracle --sheet off", b"0 3\n0 4\n").does(0, "0 1 3\n\n", "line 2: no way leads from 0 to 4\n");
-    // Closed in body 3 already, and so 'none' before and after.
-    f.run("time closed.oracle 0 4 --sheet slow").says("- far 0\n");
+    // Without road 4 there is none before and after, and no line can be about it.
+    f.run("time without.oracle 0 4 --sheet way").says("- far 0\n");
+    f.run("time without.oracle 0 4 --sheet slow").is_refused(19);
     // The last name counts.
     f.run("time fork.oracle 0 4 --sheet off --sheet slow").says("17 local 0\n");
     for command in ["time", "way", "draw"] {
@@ -211,7 +212,7 @@ fn refusals() {
         f.run(&format!("draw fork.oracle p.svg 0 4 --sheet broken{rule}")).is_refused(rule);
     }
     assert_eq!(f.run("time fork.oracle 0 4 --sheet broken19").err, "rule 19: a line of the sheet names no road\n");
-    assert_eq!(f.run("time fork.oracle 0 4 --sheet broken20").err, "rule 20: the line that holds takes a road open in body 3 over 100,000 seconds\n");
+    assert_eq!(f.run("time fork.oracle 0 4 --sheet broken20").err, "rule 20: the line that holds takes a road over 100,000 seconds\n");
     f.run("time fork.oracle 0 4 --sheet slow --words 39").is_refused(14);
     f.run("way fork.oracle 0 4 --sheet slow --room 7").is_refused(15);
     f.run_with("time fork.oracle --sheet slow --words 39", b"0 4\n").is_refused(14);
@@ -238,10 +239,12 @@ fn sheets_from_standard_input() {
     }
     f.run("time fork.oracle 0 4 --sheet missing").does(2, "", "jukesogbi: cannot read missing: No such file or directory (os error 2)\n");
     // A sheet in the place of another file.
-    let looks = "this looks like a day sheet, which is for the option `--sheet`\n";
-    for ran in [f.run("time side 0 4"), f.run("build side 6 new")] {
+    let looks = "\nthis looks like a day sheet, ";
+    let (option, none) = ("which is for the option `--sheet`", "and no network");
+    for (call, word) in [("time side 0 4", option), ("build side 6 new", none), ("convert side new", none)] {
+        let ran = f.run(call);
         ran.is_refused(1);
-        assert!(ran.err.ends_with(looks), "{}", ran.err);
+        assert!(ran.err.ends_with(&format!("{looks}{word}\n")), "{}", ran.err);
     }
 }
 

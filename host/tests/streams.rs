@@ -109,7 +109,7 @@ fn output_that_nobody_reads() {
     }
     f.run("sample 60 2 roads.net");
     f.run("build roads.net 8 roads.oracle");
-    f.shell("$J listing roads.oracle | head -n 2").says("places 60 transit 39\n0 1 35 local\n");
+    f.shell("$J listing roads.oracle | head -n 2").says("places 60 transit 40\n0 1 35 local\n");
     f.shell("yes 0 59 | $J time roads.oracle | head -n 2").says("869 far 24\n869 far 24\n");
     // A refusal stays one.
     let ran = run(&f, "audit line.net", "", Some(closed()), None);
@@ -147,7 +147,7 @@ fn messages_that_cannot_be_written() {
             ("listing line.net", "", 1, "refused 1\n"),
             ("time line.oracle 0 x", "", 2, ""),
             ("time line.oracle", "0 3\nx\n0 1\n", 2, "refused 12\nwrong\n7 local 0\n"),
-            ("way closed.oracle 0 4", "", 0, "\n"),
+            ("way without.oracle 0 4", "", 0, "\n"),
             ("build line.net 6 /dev/full", "", 2, ""),
             ("build line.net 6 new --words 99999999999999", "", 2, ""),
         ] {
@@ -218,17 +218,17 @@ fn memory_that_no_machine_has() {
     assert!(!f.has("new"));
 }
 
-/// The largest network, with all roads closed: its oracle could be large, and is not.
-fn closed_roads() -> Vec<u8> {
+/// The largest network: its oracle could be large, and is not under 1, where nothing is far.
+fn most_roads() -> Vec<u8> {
     let places = (0..4096).map(|i| (i % 64, i / 64)).collect();
-    Plan { places, roads: (0..16_384).map(|i| (i % 4095, 4095, 5)).collect(), closed: (0..16_384).collect() }.bytes()
+    Plan { places, roads: (0..16_384).map(|i| (i % 4095, 4095, 5)).collect() }.bytes()
 }
 
 /// With less and less memory a command does its work, or says that there is none.
 #[test]
 fn little_memory() {
     let f = Folder::with_files("streams_little_memory");
-    f.write("net", &closed_roads());
+    f.write("net", &most_roads());
     assert_eq!(f.run("build net 1 oracle").code, 0);
     // What the program itself takes before it begins.
     let fits = |kilobytes: &usize| f.shell(&format!("(ulimit -v {kilobytes}; $J version) > said 2>&1 && cat said; true")).text().starts_with("jukesogbi 0");
@@ -236,9 +236,9 @@ fn little_memory() {
     let (mut done, mut failed) = (0, 0);
     for kilobytes in (least..least + 1_500).step_by(100).chain([100_000, 200_000]) {
         for (call, good) in [
-            ("build net 1 new", "built 221251 bytes, 0 transit\n"),
+            ("build net 1 new", "built 188483 bytes, 0 transit\n"),
             ("audit oracle", "accepted\n"),
-            ("time oracle 0 1", "- local 0\n"),
+            ("time oracle 0 1", "10 local 0\n"),
             ("list oracle 4095", ""),
             ("draw oracle new.svg", "drawn 4096 places\n"),
             ("version", concat!("jukesogbi ", env!("CARGO_PKG_VERSION"), "\n")),
@@ -253,9 +253,9 @@ fn little_memory() {
     }
     assert!(done > 20 && failed > 5, "{done} done, {failed} failed");
     let ran = f.shell("ulimit -v 50000; exec $J build net 1 other");
-    ran.does(2, "", "jukesogbi: there is no memory for 168001632 bytes of output (--room B lends B)\n");
+    ran.does(2, "", "jukesogbi: there is no memory for 167968864 bytes of output (--room B lends B)\n");
     // With as much room as is needed it fits.
-    f.shell("ulimit -v 50000; exec $J build net 1 other --room 230000").says("built 221251 bytes, 0 transit\n");
+    f.shell("ulimit -v 50000; exec $J build net 1 other --room 190000").says("built 188483 bytes, 0 transit\n");
     assert_eq!(f.names().iter().filter(|name| name.starts_with('.')).count(), 0);
 }
 
@@ -274,7 +274,7 @@ fn touched_by_build(f: &Folder, args: &str) -> usize {
 #[test]
 fn untouched_memory_costs_nothing() {
     let f = Folder::with_files("streams_untouched");
-    f.write("net", &closed_roads());
+    f.write("net", &most_roads());
     let least = touched_by_build(&f, "build net 1 - --room 230000");
     for more in ["", "--room 1000000000", "--words 250000000", "--room 1000000000 --words 250000000"] {
         let kilobytes = touched_by_build(&f, &format!("build net 1 - {more}"));

@@ -66,7 +66,7 @@ fn trial_1_line_byte_by_byte() {
         7, 139, 0, 0, 0, 4, 0, 0, 0,
         // Places (0,0), (30,0), (60,0).
         0, 0, 0, 0, 0, 0, 0, 0, 30, 0, 0, 0, 0, 0, 0, 0, 60, 0, 0, 0, 0, 0, 0, 0,
-        // Roads 0-1 of 7 and 1-2 of 9; none closed; g 6; transit place 1.
+        // Roads 0-1 of 7 and 1-2 of 9; an empty body 3; g 6; transit place 1.
         0, 0, 1, 0, 7, 0, 0, 0, 1, 0, 2, 0, 9, 0, 0, 0,
         6, 0,
         1, 0,
@@ -111,12 +111,17 @@ fn trial_5_fork_0_to_3_is_local() {
     assert_eq!(core::far(&fork, 0, 3), Err(Refused(13)));
 }
 
+/// Worked with the road left out, as T-06 has it.
 #[test]
-fn trial_6_fork_with_road_4_closed() {
-    let closed = oracle(&networks::fork_closed(), 6);
-    assert_eq!(time(&closed, 0, 4), far(None, 0));
-    assert_eq!(core::far(&closed, 0, 4), far(None, 0));
-    assert_eq!(way(&closed, 0, 4), []);
+fn trial_6_fork_with_road_4_left_out() {
+    let without = oracle(&networks::fork_without_4(), 6);
+    assert_eq!(time(&without, 0, 4), far(None, 0));
+    assert_eq!(core::far(&without, 0, 4), far(None, 0));
+    assert_eq!(way(&without, 0, 4), []);
+    // As it was, the network is refused, and so is its oracle.
+    let closed = networks::fork_closed();
+    assert_eq!(core::build(&closed.bytes(), 6, &mut [0; 40], &mut [0; 500]), Err(Refused(21)));
+    assert_eq!(time(&closed.oracle(6), 0, 4), Err(Refused(21)));
 }
 
 #[test]
@@ -230,10 +235,10 @@ fn block_of_fork() {
     assert_eq!(times, expected.map(|row| row.map(Some).to_vec()));
 }
 
-/// With road 4 closed no road leads to 4: it has a walk to itself alone, and the round is as it was.
+/// Without road 4 no road leads to 4: it has a walk to itself alone, and the round is as it was.
 #[test]
-fn block_of_fork_with_road_4_closed() {
-    let times = block(&oracle(&networks::fork_closed(), 6), &[0, 4, 3], &[4, 3, 2]);
+fn block_of_fork_without_road_4() {
+    let times = block(&oracle(&networks::fork_without_4(), 6), &[0, 4, 3], &[4, 3, 2]);
     assert_eq!(times, [[None, Some(10), Some(5)], [Some(0), None, None], [None, Some(0), Some(5)]].map(|row| row.to_vec()));
 }
 
@@ -251,7 +256,7 @@ fn mistake_1_ties_are_all_kept() {
 #[test]
 fn mistake_3_the_smaller_number_crosses() {
     // 2 - 1 - 0 along the ground, in columns 0, 2, 5. The road 0-1 leaves the inner square about column 0, and its smaller end is 0, in column 5.
-    let turned = Plan { places: vec![(60, 0), (30, 0), (0, 0)], roads: vec![(0, 1, 7), (1, 2, 9)], closed: vec![] };
+    let turned = Plan { places: vec![(60, 0), (30, 0), (0, 0)], roads: vec![(0, 1, 7), (1, 2, 9)] };
     let bytes = oracle(&turned, 6);
     assert_eq!(files::transit_nodes(&bytes), [0]);
     assert_eq!(core::list(&bytes, 2).unwrap(), [1, 0, 0, 0, 16, 0, 0, 0]);
@@ -263,7 +268,7 @@ fn mistake_3_the_smaller_number_crosses() {
 #[test]
 fn mistake_4_the_last_place_is_in_the_grid() {
     // 0, 50 and 60 under 6: columns 0, 4, 5, so that 0 and 1 are local.
-    let plan = Plan { places: vec![(0, 0), (50, 0), (60, 0)], roads: vec![(0, 1, 1), (1, 2, 1)], closed: vec![] };
+    let plan = Plan { places: vec![(0, 0), (50, 0), (60, 0)], roads: vec![(0, 1, 1), (1, 2, 1)] };
     let bytes = oracle(&plan, 6);
     assert_eq!(time(&bytes, 0, 1), local(Some(1)));
     assert_eq!(time(&bytes, 0, 2).map(|a| a.kind), Ok(Kind::Far));

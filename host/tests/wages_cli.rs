@@ -14,8 +14,8 @@ fn a_line_for_each_leg() {
     f.run_with("wages fork.oracle", b"0 4\n0 3\n2 2\n0 4\n").says("11\n10\n0\n11\nnone 0 total 32\n");
     f.run_with("wages line.oracle", b"0 2\n").says("16\nnone 0 total 16\n");
     // Without road 4 place 4 is cut off: from 0 it is far, from 3 local.
-    f.run_with("wages closed.oracle", b"3 4\n0 3\n0 4\n4 4\n").says("-\n10\n-\n0\nnone 2 total 10\n");
-    f.run_with("wages closed.oracle", b"4 0\n").says("-\nnone 1 total 0\n");
+    f.run_with("wages without.oracle", b"3 4\n0 3\n0 4\n4 4\n").says("-\n10\n-\n0\nnone 2 total 10\n");
+    f.run_with("wages without.oracle", b"4 0\n").says("-\nnone 1 total 0\n");
     f.write("one", &oracle(&networks::one_place(), 64));
     f.run_with("wages one", b"0 0\n0 0\n").says("0\n0\nnone 0 total 0\n");
 }
@@ -40,7 +40,7 @@ fn how_lines_are_read() {
 fn a_total_beyond_32_bits() {
     let f = Folder::new("wages_total");
     let places = (0..100).map(|k| (k, 0)).collect();
-    let plan = networks::Plan { places, roads: (0..99).map(|u| (u, u + 1, 100_000)).collect(), closed: vec![] };
+    let plan = networks::Plan { places, roads: (0..99).map(|u| (u, u + 1, 100_000)).collect() };
     f.write("chain", &oracle(&plan, 1));
     let expected = "9900000\n".repeat(1_000) + "none 0 total 9900000000\n";
     f.run_with("wages chain", "0 99\n".repeat(1_000).as_bytes()).says(&expected);

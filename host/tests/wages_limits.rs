@@ -43,7 +43,9 @@ fn one_place() {
 /// Every leg of the trials' networks, many times over, under the coarsest grid, where all are local, and the finest.
 #[test]
 fn coarse_and_fine_grids() {
-    for (name, plan) in [("Line", networks::line()), ("Fork", networks::fork()), ("closed", networks::fork_closed()), ("two lines", networks::two_lines())] {
+    for (name, plan) in
+        [("Line", networks::line()), ("Fork", networks::fork()), ("without 4", networks::fork_without_4()), ("two lines", networks::two_lines())]
+    {
         let n = plan.places.len() as u32;
         let all: Vec<(u32, u32)> = (0..n).flat_map(|s| (0..n).map(move |t| (s, t))).cycle().take(MOST_LEGS).collect();
         let times = [1, 6, 17, 64].map(|g| {
@@ -112,7 +114,7 @@ fn far_legs_of_the_most_places() {
 fn the_slowest_chain() {
     let places = (0..PLACES as i32).map(|k| (k, 0)).collect();
     let roads = (0..PLACES as u16 - 1).map(|u| (u, u + 1, 100_000)).collect();
-    let input = Input::new(|| "the slowest chain".to_string(), &Plan { places, roads, closed: vec![] }.without_transit(1));
+    let input = Input::new(|| "the slowest chain".to_string(), &Plan { places, roads }.without_transit(1));
     let (last, words) = (PLACES as u32 - 1, WORDS * PLACES);
     for count in [1, 10, 11, 12, 100] {
         let pairs: Vec<(u32, u32)> = (0..count).map(|i| if i % 2 == 0 { (0, last) } else { (last, 0) }).collect();

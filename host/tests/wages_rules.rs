@@ -34,12 +34,12 @@ fn by_example() {
     assert_eq!(written(&[(1, 1)]), [[0; 4], [0; 4], [0; 4], [0; 4]].concat());
     assert_eq!(written(&[(0, 4), (0, 3), (0, 4)]), [[11, 0, 0, 0], [10, 0, 0, 0], [11, 0, 0, 0], [0; 4], [32, 0, 0, 0], [0; 4]].concat());
     // Without road 4 there is no walk to place 4: from 0 it is far, from 3 local.
-    let closed = OracleCase::new(|| "Fork with road 4 closed".to_string(), oracle(&networks::fork_closed(), 6));
-    let outcome = closed.wages(&legs(&[(3, 4), (0, 3), (4, 0), (4, 4), (0, 4)]), WORDS, 32);
+    let without = OracleCase::new(|| "Fork without road 4".to_string(), oracle(&networks::fork_without_4(), 6));
+    let outcome = without.wages(&legs(&[(3, 4), (0, 3), (4, 0), (4, 4), (0, 4)]), WORDS, 32);
     let times = [[255; 4], [10, 0, 0, 0], [255; 4], [0; 4], [255; 4]].concat();
     assert_eq!((outcome.result, outcome.zeroed, outcome.written), (Ok(32), WORDS, [times, [3, 0, 0, 0, 10, 0, 0, 0, 0, 0, 0, 0].to_vec()].concat()));
     // Each leg has none.
-    assert_eq!(closed.wages(&legs(&[(4, 1); 3]), WORDS, 24).written, [vec![255; 12], vec![3, 0, 0, 0], vec![0; 8]].concat());
+    assert_eq!(without.wages(&legs(&[(4, 1); 3]), WORDS, 24).written, [vec![255; 12], vec![3, 0, 0, 0], vec![0; 8]].concat());
 }
 
 /// Times, none and total are the same for legs in another order, but for their order.

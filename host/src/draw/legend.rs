@@ -63,10 +63,6 @@ pub fn open_roads(sizes: &Sizes, number: usize) -> Item {
     Item::new(signs::open_roads(sizes, sample_line()), SAMPLE, count(number, "open road"))
 }
 
-pub fn closed_roads(sizes: &Sizes, number: usize) -> Item {
-    Item::new(signs::closed_roads(sizes, sample_line()), SAMPLE, count(number, "closed road"))
-}
-
 pub fn shut_roads(sizes: &Sizes, number: usize) -> Item {
     Item::new(signs::shut_roads(sizes, sample_line()), SAMPLE, format!("today: {}", count(number, "closed road")))
 }

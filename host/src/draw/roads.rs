@@ -1,6 +1,6 @@
 //! Roads as they are drawn: those side by side are one line of each sort.
 
-use crate::files::Network;
+use crate::files::{Edge, Network};
 use std::collections::{BTreeMap, BTreeSet};
 
 /// The two ends, the smaller number first.
@@ -29,8 +29,6 @@ pub struct Roads {
     /// Each line with the least seconds of its open roads.
     pub open: BTreeMap<Ends, u32>,
     pub open_count: usize,
-    /// Closed in the network.
-    pub closed: Sort,
     /// Closed by the sheet.
     pub shut: Sort,
     /// Open, and slower by the sheet.
@@ -38,21 +36,19 @@ pub struct Roads {
 }
 
 impl Roads {
-    /// Of a network, and as a sheet leaves it.
-    pub fn of(net: &Network, today: &Network) -> Roads {
+    /// Of a network, and of its roads as a sheet leaves them, none where that closes one.
+    pub fn of(net: &Network, today: &[Option<Edge>]) -> Roads {
         let mut roads = Roads::default();
-        for (i, (old, new)) in net.edges.iter().zip(&today.edges).enumerate() {
-            let (ends, is_in) = (ends(old.first, old.second), |closed: &[u16]| closed.binary_search(&(i as u16)).is_ok());
-            if is_in(&net.closed) {
-                roads.closed.put(ends);
-            } else if is_in(&today.closed) {
+        for (old, new) in net.edges.iter().zip(today) {
+            let ends = ends(old.first, old.second);
+            let Some(new) = new else {
                 roads.shut.put(ends);
-            } else {
-                roads.open_count += 1;
-                roads.open.entry(ends).and_modify(|s: &mut u32| *s = new.seconds.min(*s)).or_insert(new.seconds);
-                if new.seconds > old.seconds {
-                    roads.delayed.put(ends);
-                }
+                continue;
+            };
+            roads.open_count += 1;
+            roads.open.entry(ends).and_modify(|s: &mut u32| *s = new.seconds.min(*s)).or_insert(new.seconds);
+            if new.seconds > old.seconds {
+                roads.delayed.put(ends);
             }
         }
         roads
@@ -60,7 +56,7 @@ impl Roads {
 
     /// All lines. Delayed ones are among the open.
     pub fn lines(&self) -> impl Iterator<Item = &Ends> {
-        self.open.keys().chain(&self.closed.lines).chain(&self.shut.lines)
+        self.open.keys().chain(&self.shut.lines)
     }
 
     /// The seconds of a way: between two nodes it takes the quickest of the open roads.

@@ -47,12 +47,7 @@ pub fn open_roads(sizes: &Sizes, roads: impl IntoIterator<Item = (Point, Point)>
     lines(r##"class="open" stroke="#868c96" stroke-linecap="round""##, sizes.edge, roads)
 }
 
-/// Dashed, and with a colour of their own.
-pub fn closed_roads(sizes: &Sizes, roads: impl IntoIterator<Item = (Point, Point)>) -> String {
-    lines(r##"class="closed" stroke="#d02020" stroke-dasharray="5 4""##, sizes.edge + 0.6, roads)
-}
-
-/// Closed by a sheet: dotted.
+/// Closed by a sheet: dotted, and with a colour of their own.
 pub fn shut_roads(sizes: &Sizes, roads: impl IntoIterator<Item = (Point, Point)>) -> String {
     lines(r##"class="shut" stroke="#d02020" stroke-dasharray="1 6" stroke-linecap="round""##, sizes.edge + 1.6, roads)
 }

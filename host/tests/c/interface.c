@@ -1,86 +1,16 @@
 /* The C interface as the header describes it: the files' form, room enough, null pointers, many threads, and how much stack each call takes.
  * Prints one line for each; the Rust test reads them. */
 #define _POSIX_C_SOURCE 200809L
-#include "jukesogbi.h"
+#include "files.h"
 
 #include <pthread.h>
-#include <stdio.h>
-#include <stdlib.h>
-#include <string.h>
 
-enum { PLACES = JUKESOGBI_PLACES, WORDS = PLACES * JUKESOGBI_WORDS, STACK = 64 * 1024, THREADS = 8 };
+enum { WORDS = PLACES * JUKESOGBI_WORDS, STACK = 64 * 1024, THREADS = 8 };
 
-/* Enough for a line about each road, and for one leg too many. */
-static uint8_t *network, *oracle, nodes[2 * PLACES], sheet[11 + 7 * PLACES], legs[4 * (JUKESOGBI_LEGS + 1)], times[4 * JUKESOGBI_LEGS + 12];
-static size_t network_size, oracle_size, sheet_size, room;
+/* Enough for one leg too many, and for every line of the sheet. */
+static uint8_t *oracle, nodes[2 * PLACES], legs[4 * (JUKESOGBI_LEGS + 1)], times[4 * JUKESOGBI_LEGS + 12], *converted, lines[sizeof sheet];
+static size_t oracle_size, room;
 static uint32_t work[WORDS];
-
-static void check(int right, const char *what) {
-    if (!right) {
-        printf("wrong: %s\n", what);
-        exit(1);
-    }
-}
-
-static void put(uint8_t **at, uint32_t value, int bytes) {
-    for (int i = 0; i < bytes; i++) {
-        *(*at)++ = (uint8_t)(value >> (8 * i));
-    }
-}
-
-static uint32_t get(const uint8_t *at, int bytes) {
-    uint32_t value = 0;
-    for (int i = 0; i < bytes; i++) {
-        value |= (uint32_t)at[i] << (8 * i);
-    }
-    return value;
-}
-
-/* As many places as may be, in a row, each joined to the next: the longest way there is. */
-static void make_network(void) {
-    const uint32_t roads = PLACES - 1, lengths[] = {8 * PLACES, 8 * roads, 0};
-    network_size = 29 + lengths[0] + lengths[1];
-    network = malloc(network_size);
-    uint8_t *at = network;
-    uint32_t start = 29;
-    put(&at, 1, 1);
-    put(&at, 3, 1);
-    for (uint32_t k = 0; k < 3; k++) {
-        put(&at, k + 1, 1);
-        put(&at, start, 4);
-        put(&at, lengths[k], 4);
-        start += lengths[k];
-    }
-    for (uint32_t i = 0; i < PLACES; i++) {
-        put(&at, 100 * i, 4);
-        put(&at, 0, 4);
-    }
-    for (uint32_t i = 0; i < roads; i++) {
-        put(&at, i, 2);
-        put(&at, i + 1, 2);
-        put(&at, i % 100 + 1, 4);
-    }
-}
-
-/* A sheet without lines, and one line more. */
-static void begin_sheet(void) {
-    uint8_t *at = sheet;
-    put(&at, 1, 1);
-    put(&at, 1, 1);
-    put(&at, 8, 1);
-    put(&at, 11, 4);
-    put(&at, 0, 4);
-    sheet_size = 11;
-}
-
-static void put_line(uint32_t first, uint32_t road, uint32_t seconds) {
-    uint8_t *at = sheet + sheet_size, *length = sheet + 7;
-    put(&at, first, 1);
-    put(&at, road, 2);
-    put(&at, seconds, 4);
-    sheet_size += 7;
-    put(&length, (uint32_t)sheet_size - 11, 4);
-}
 
 static jukesogbi_reply time_under(uint32_t s, uint32_t t) { return jukesogbi_time_under(oracle, oracle_size, sheet, sheet_size, s, t, work, WORDS); }
 
@@ -119,6 +49,10 @@ static void null_pointers(void) {
     check(jukesogbi_wages(oracle, oracle_size, NULL, 0, NULL, 0, NULL, 0).rule == 14, "wages without words");
     check(jukesogbi_wages(oracle, oracle_size, NULL, 0, work, WORDS, NULL, 0).rule == 15, "wages without output");
     check(jukesogbi_wages(oracle, oracle_size, NULL, 0, work, WORDS, times, sizeof times).size == 12, "no legs");
+    check(jukesogbi_convert(NULL, 0, NULL, 0).rule == 1 && jukesogbi_convert(old, old_size, NULL, 0).rule == 15, "convert");
+    check(jukesogbi_convert_sheet(NULL, 0, NULL, 0, NULL, 0).rule == 1, "convert a sheet beside nothing");
+    check(jukesogbi_convert_sheet(old, old_size, NULL, 0, NULL, 0).rule == 18, "convert no sheet");
+    check(jukesogbi_convert_sheet(old, old_size, sheet, sheet_size, NULL, 0).rule == 15, "convert a sheet without output");
     printf("null pointers\n");
 }
 
@@ -167,6 +101,38 @@ static void many_legs(void) {
     check(wages(2, 1, sizeof times).rule == 17 && wages(JUKESOGBI_LEGS + 1, 0, sizeof times).rule == 17, "a part of a leg, and too many");
     check(wages(2, 0, 19).rule == 15 && wages(2, 0, 20).size == 20, "output");
     printf("wages\n");
+}
+
+/* Road i of what is left was road 2 * i, from place 2 * i to the next. */
+static void converter(void) {
+    const size_t size = network_size - 8 * SHUT, roads = 29 + 8 * PLACES;
+    check(jukesogbi_build(old, old_size, 6, work, WORDS, oracle, room).rule == 21, "an old network is refused");
+    jukesogbi_output output = jukesogbi_convert(old, old_size, converted, old_size);
+    check(output.rule == 0 && output.size == size && get(converted + 16, 4) == 8 * LEFT && get(converted + 25, 4) == 0, "the converted network");
+    for (uint32_t i = 0; i < LEFT; i++) {
+        const uint8_t *road = converted + roads + 8 * i;
+        check(get(road, 2) == 2 * i && get(road + 2, 2) == 2 * i + 1 && get(road + 4, 4) == 2 * i % 100 + 1, "a road that is left");
+    }
+    check(jukesogbi_convert(old, old_size, converted, size - 1).rule == 15, "output that is too short");
+    check(jukesogbi_convert(network, network_size, converted, network_size).size == network_size, "nothing to leave out");
+    check(memcmp(network, converted, network_size) == 0, "a network without closed roads stays as it is");
+    begin_sheet();
+    for (uint32_t i = 0; i < PLACES - 1; i++) {
+        put_line(i % 4 < 2 ? JUKESOGBI_DELAYED : JUKESOGBI_CLOSED, i, i % 4 < 2 ? 100000 + i : 0);
+    }
+    output = jukesogbi_convert_sheet(old, old_size, sheet, sheet_size, lines, sizeof lines);
+    check(output.rule == 0 && output.size == 11 + 7 * LEFT && get(lines + 7, 4) == 7 * LEFT, "the converted sheet");
+    for (uint32_t i = 0; i < LEFT; i++) {
+        const uint8_t *line = lines + 11 + 7 * i;
+        check(line[0] == (i % 2 ? JUKESOGBI_CLOSED : JUKESOGBI_DELAYED) && get(line + 1, 2) == i, "a line that is left");
+        check(get(line + 3, 4) == (i % 2 ? 0 : 100000 + 2 * i), "its seconds");
+    }
+    check(jukesogbi_convert_sheet(old, old_size, sheet, sheet_size, lines, 11 + 7 * LEFT - 1).rule == 15, "output for the sheet");
+    sheet[sheet_size - 6] = 255;
+    check(jukesogbi_convert_sheet(old, old_size, sheet, sheet_size, lines, sizeof lines).rule == 19, "no such road");
+    sheet[sheet_size - 7] = 0;
+    check(jukesogbi_convert_sheet(old, old_size, sheet, sheet_size, lines, sizeof lines).rule == 18, "neither closed nor delayed");
+    printf("converter\n");
 }
 
 /* ---- threads that share the oracle */
@@ -248,6 +214,15 @@ static void *wages_asked(void *unused) {
     return unused;
 }
 
+static void *converted_asked(void *unused) {
+    check(jukesogbi_convert(old, old_size, converted, old_size).rule == 0, "convert");
+    return unused;
+}
+static void *sheet_converted(void *unused) {
+    check(jukesogbi_convert_sheet(old, old_size, sheet, sheet_size, lines, sizeof lines).rule == 0, "convert a sheet");
+    return unused;
+}
+
 static size_t stack_of(void *(*call)(void *)) {
     static _Alignas(4096) uint8_t stack[STACK];
     pthread_attr_t small;
@@ -269,7 +244,8 @@ static void stacks(void) {
         const char *name;
         void *(*call)(void *);
     } calls[] = {{"build", build}, {"audit", audit}, {"time", time_asked}, {"far", far_asked}, {"list", list_asked}, {"way", way_asked}, {"block", block_asked},
-                 {"time_under", time_asked_under}, {"way_under", way_asked_under}, {"wages", wages_asked}};
+                 {"time_under", time_asked_under}, {"way_under", way_asked_under}, {"wages", wages_asked},
+                 {"convert", converted_asked}, {"convert_sheet", sheet_converted}};
     const size_t empty = stack_of(nothing);
     begin_sheet();
     for (uint32_t i = 0; i < PLACES - 1; i++) {
@@ -282,6 +258,8 @@ static void stacks(void) {
 
 int main(void) {
     make_network();
+    make_old();
+    converted = malloc(old_size);
     room = jukesogbi_room(PLACES, PLACES - 1);
     oracle = malloc(room);
     jukesogbi_built built = jukesogbi_build(network, network_size, 64, work, WORDS, oracle, room);
@@ -295,8 +273,11 @@ int main(void) {
     many_threads();
     sheets();
     many_legs();
+    converter();
     stacks();
     free(network);
     free(oracle);
+    free(old);
+    free(converted);
     return 0;
 }

@@ -38,7 +38,7 @@ fn oracles(mut text: String) -> (BTreeMap<String, &'static str>, String) {
         let network = match oracle {
             "oracle line (usual 6)" => "line",
             "oracle (fork []) (usual 6)" => "fork",
-            "oracle (fork (4 ∷ [])) (usual 6)" => "fork-closed",
+            "oracle forkWithout4 (usual 6)" => "fork-without-4",
             "oracle doubled (usual 6)" => "doubled",
             _ => panic!("`{oracle}` is not known here"),
         };

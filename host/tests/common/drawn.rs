@@ -96,7 +96,6 @@ pub fn tangle(n: usize, roads: usize, random: &mut Random) -> Plan {
         let b = (a + 1 + random.below(n as u64 - 1)) % n as u64;
         (a as u16, b as u16, between(random, 1, 900) as u32)
     });
-    let roads: Vec<_> = ends.collect();
-    let closed = (0..roads.len() as u16).filter(|_| random.once_in(9)).collect();
-    Plan { places, roads, closed }
+    let roads = ends.collect();
+    Plan { places, roads }
 }

@@ -5,6 +5,7 @@
 #![allow(dead_code)]
 
 pub mod computed;
+pub mod convert;
 pub mod damaged;
 pub mod networks;
 pub mod program;
@@ -184,6 +185,13 @@ fn times_record(result: Result<Times, u32>) -> raw::Times {
     match result {
         Ok(times) => raw::Times { rule: 0, times },
         Err(rule) => raw::Times { rule, times: [[0; SIDE]; SIDE] },
+    }
+}
+
+fn output_record(result: Result<usize, u32>) -> raw::Output {
+    match result {
+        Ok(size) => raw::Output { rule: 0, size },
+        Err(rule) => raw::Output { rule, size: 0 },
     }
 }
 

@@ -1,5 +1,5 @@
-//! Networks to try the calls on: those of document 01's trials, and random ones with what tends to go wrong: ties, roads side by side, closed
-//! roads, islands, long roads, many places in one cell, extreme coordinates.
+//! Networks to try the calls on: those of document 01's trials, and random ones with what tends to go wrong: ties, roads side by side, roads left out,
+//! islands, long roads, many places in one cell, extreme coordinates. And old networks, some of whose roads are closed.
 
 use super::reference::{self, bytes_16, bytes_32};
 use jukesogbi::sample::Random;
@@ -9,17 +9,16 @@ pub struct Plan {
     pub places: Vec<(i32, i32)>,
     /// Two ends and seconds.
     pub roads: Vec<(u16, u16, u32)>,
-    /// Rising.
-    pub closed: Vec<u16>,
 }
 
 impl Plan {
+    /// Body 3 is empty.
     pub fn bodies(&self) -> [Vec<u8>; 3] {
         let coordinate = |v: i32| bytes_32(v as u32 as usize);
         [
             self.places.iter().flat_map(|&(x, y)| [coordinate(x), coordinate(y)].concat()).collect(),
             self.roads.iter().flat_map(|&(a, b, s)| [&bytes_16(a as usize)[..], &bytes_16(b as usize), &bytes_32(s as usize)].concat()).collect(),
-            self.closed.iter().flat_map(|&c| bytes_16(c as usize)).collect(),
+            Vec::new(),
         ]
     }
 
@@ -36,22 +35,63 @@ impl Plan {
     }
 }
 
+// ---- Old networks ----
+
+/// A network of before T-06.
+#[derive(Clone, Debug, Default, PartialEq, Eq)]
+pub struct Old {
+    pub plan: Plan,
+    /// Numbers of roads, rising where they are well-formed.
+    pub closed: Vec<u16>,
+}
+
+impl Old {
+    pub fn of(plan: Plan, closed: impl IntoIterator<Item = u16>) -> Old {
+        Old { plan, closed: closed.into_iter().collect() }
+    }
+
+    pub fn bodies(&self) -> [Vec<u8>; 3] {
+        let [places, roads, _] = self.plan.bodies();
+        [places, roads, self.closed.iter().flat_map(|&c| bytes_16(c as usize)).collect()]
+    }
+
+    pub fn bytes(&self) -> Vec<u8> {
+        reference::file(&self.bodies())
+    }
+
+    /// The same network with its closed roads left out.
+    pub fn left_out(&self) -> Plan {
+        let open = self.plan.roads.iter().enumerate().filter(|(i, _)| !self.closed.contains(&(*i as u16)));
+        Plan { places: self.plan.places.clone(), roads: open.map(|(_, road)| *road).collect() }
+    }
+
+    /// The oracle that was built of it.
+    pub fn oracle(&self, g: u32) -> Vec<u8> {
+        reference::Network::old(self.bytes()).oracle(g).bytes.clone()
+    }
+}
+
+/// Document 01's closed trial as it was.
+pub fn fork_closed() -> Old {
+    Old::of(fork(), [4])
+}
+
 // ---- The networks of the trials ----
 
 pub fn line() -> Plan {
-    Plan { places: vec![(0, 0), (30, 0), (60, 0)], roads: vec![(0, 1, 7), (1, 2, 9)], closed: vec![] }
+    Plan { places: vec![(0, 0), (30, 0), (60, 0)], roads: vec![(0, 1, 7), (1, 2, 9)] }
 }
 
 pub fn fork() -> Plan {
     Plan {
         places: vec![(0, 0), (30, 0), (30, 10), (50, 0), (60, 0)],
         roads: vec![(0, 1, 5), (0, 2, 5), (1, 3, 5), (2, 3, 5), (3, 4, 1)],
-        closed: vec![],
     }
 }
 
-pub fn fork_closed() -> Plan {
-    Plan { closed: vec![4], ..fork() }
+/// Document 01's closed trial, with the road left out.
+pub fn fork_without_4() -> Plan {
+    Plan { roads: fork().roads[..4].to_vec(), ..fork() }
 }
 
 pub fn one_place() -> Plan {
@@ -67,7 +107,6 @@ pub fn two_lines() -> Plan {
     Plan {
         places: vec![(0, 0), (30, 0), (60, 0), (0, 1), (30, 1), (60, 1)],
         roads: vec![(0, 1, 7), (1, 2, 9), (3, 4, 2), (4, 5, 100_000)],
-        closed: vec![],
     }
 }
 
@@ -78,7 +117,6 @@ pub fn chains() -> Plan {
     Plan {
         places: (0..4096).map(|i| (100 * (i % 64), 100 * (i / 64))).collect(),
         roads: (0..4096 - 512).map(|i| (i, i + 512, 5)).collect(),
-        closed: vec![],
     }
 }
 
@@ -164,7 +202,20 @@ fn metres(a: (i32, i32), b: (i32, i32)) -> i64 {
     (a.0 as i64 - b.0 as i64).abs().max((a.1 as i64 - b.1 as i64).abs())
 }
 
+/// An old one with its closed roads left out.
 pub fn network(random: &mut Random) -> Plan {
+    old_network(random).left_out()
+}
+
+/// With no closed road, some, many or all of them closed.
+pub fn old_network(random: &mut Random) -> Old {
+    let plan = all_roads(random);
+    let closing = pick(random, &[0, 0, 12, 6, 2, 1]);
+    let closed: Vec<u16> = (0..plan.roads.len() as u16).filter(|_| closing != 0 && random.once_in(closing)).collect();
+    Old { plan, closed }
+}
+
+fn all_roads(random: &mut Random) -> Plan {
     let n = size(random);
     let places = places(random, n);
     let habit = random.below(11);
@@ -210,9 +261,7 @@ pub fn network(random: &mut Random) -> Plan {
     for i in (1..roads.len()).rev() {
         roads.swap(i, random.below(i as u64 + 1) as usize);
     }
-    let closing = pick(random, &[0, 0, 12, 6, 2, 1]);
-    let closed = (0..roads.len() as u16).filter(|_| closing != 0 && random.once_in(closing)).collect();
-    Plan { places, roads, closed }
+    Plan { places, roads }
 }
 
 /// A grid number: mostly one under which far pairs and lists with entries are common.

@@ -65,11 +65,11 @@ impl Folder {
         Folder(path)
     }
 
-    /// With the networks and oracles of Line, Fork, Fork with road 4 closed, and the two lines, as `line.net`, `line.oracle` and so on.
+    /// With the networks and oracles of Line, Fork, Fork without road 4, and the two lines, as `line.net`, `line.oracle` and so on.
     pub fn with_files(name: &str) -> Folder {
         let folder = Folder::new(name);
         for (name, plan) in
-            [("line", networks::line()), ("fork", networks::fork()), ("closed", networks::fork_closed()), ("two", networks::two_lines())]
+            [("line", networks::line()), ("fork", networks::fork()), ("without", networks::fork_without_4()), ("two", networks::two_lines())]
         {
             folder.write(&format!("{name}.net"), &plan.bytes());
             folder.write(&format!("{name}.oracle"), &oracle(&plan, 6));

@@ -49,7 +49,7 @@ pub fn never_built(random: &mut Random, plan: &Plan, g: u32) -> Vec<u8> {
         _ => {
             let mut other = plan.clone();
             other.roads.iter_mut().filter(|_| random.once_in(3)).for_each(|road| road.2 = road.2 % 100_000 + 1);
-            other.closed = (0..plan.roads.len() as u16).filter(|_| random.once_in(5)).collect();
+            other.roads.retain(|_| !random.once_in(5));
             Tables::of(&oracle(&other, g), n)
         }
     };

@@ -1,7 +1,11 @@
-//! Document 01 in plain Rust, and of document 02 the block, the day sheets and the wages sheet, written from their text alone and as slow as their
-//! definitions read: every notion is worked out by going over all places, roads and cells. It shares nothing with the core nor with the host's own modules;
-//! bytes, too, are read and written here.
+//! Document 01 in plain Rust, and of document 02 the block, the day sheets, the wages sheet and the converter, written from their text alone and as slow as
+//! their definitions read: every notion is worked out by going over all places, roads and cells. It shares nothing with the core nor with the host's own
+//! modules; bytes, too, are read and written here.
+//!
+//! Until T-06 a network could have closed roads, and was answered as 01 says. `Network::old` and `Questions::old` still do so, to compare with.
 
+#[path = "reference_convert.rs"]
+pub mod convert;
 #[path = "reference_sheet.rs"]
 pub mod sheets;
 #[path = "reference_wages.rs"]
@@ -103,7 +107,7 @@ pub fn body(f: &[u8], kind: usize) -> &[u8] {
     &f[from..to]
 }
 
-// ---- Rules 1 to 11. Each predicate may count on the rules before it. ----
+// ---- Rules 1 to 11, and 21 behind 7. Each predicate may count on the rules before it. ----
 
 fn breaks_1(f: &[u8], entries: usize) -> bool {
     let edition = if entries == NETWORK { NETWORK_EDITION } else { ORACLE_EDITION };
@@ -145,6 +149,11 @@ fn breaks_6(roads: &[u8], n: usize) -> bool {
 /// Rules 7 and 9: numbers of 16 bits that rise, each below `limit`.
 fn breaks_7_or_9(numbers: &[u8], limit: usize) -> bool {
     !numbers.len().is_multiple_of(NUMBER) || !rising(&numbers_16(numbers)) || numbers_16(numbers).iter().any(|&k| k as usize >= limit)
+}
+
+/// T-06: body 3 holds a well-formed entry, which all of its entries are.
+fn breaks_21(closed: &[u8]) -> bool {
+    !closed.is_empty()
 }
 
 fn breaks_8(g: u32) -> bool {
@@ -223,9 +232,23 @@ fn network_rule(f: &[u8], entries: usize) -> Option<u32> {
     None
 }
 
-/// The first of rules 1 to 11 that an oracle breaks.
-fn oracle_rule(f: &[u8]) -> Option<u32> {
-    if let Some(rule) = network_rule(f, ORACLE) {
+/// Whether a file may have closed roads.
+#[derive(Clone, Copy, PartialEq, Eq)]
+enum Closed {
+    /// As 01 has it, and the converter still.
+    Allowed,
+    /// T-06: "21 .. directly after 7, in every call but this converter".
+    Refused,
+}
+
+/// The first of rules 1 to 7 and 21 that a file with so many entries breaks.
+fn roads_rule(f: &[u8], entries: usize, closed: Closed) -> Option<u32> {
+    network_rule(f, entries).or_else(|| (closed == Closed::Refused && breaks_21(body(f, 3))).then_some(21))
+}
+
+/// The first of rules 1 to 7, 21 and 8 to 11 that an oracle breaks.
+fn oracle_rule(f: &[u8], closed: Closed) -> Option<u32> {
+    if let Some(rule) = roads_rule(f, ORACLE, closed) {
         return Some(rule);
     }
     let n = body(f, 1).len() / PLACE;
@@ -250,6 +273,7 @@ fn oracle_rule(f: &[u8]) -> Option<u32> {
 struct Road {
     ends: (usize, usize),
     seconds: u64,
+    /// Closed neither in an old network's body 3 nor by a sheet.
     open: bool,
 }
 
@@ -484,7 +508,7 @@ pub struct Part {
 /// A file lent as a network.
 pub struct Network {
     pub bytes: Vec<u8>,
-    /// The first of rules 1 to 7 that it breaks, or its map.
+    /// The first of rules 1 to 7 and 21 that it breaks, or its map.
     read: Result<Map, u32>,
     /// Oracles worked out so far, by g: what they are does not hang on what is lent.
     oracles: RefCell<BTreeMap<u32, Rc<Oracle>>>,
@@ -492,7 +516,16 @@ pub struct Network {
 
 impl Network {
     pub fn of(bytes: Vec<u8>) -> Network {
-        let read = match network_rule(&bytes, NETWORK) {
+        Network::read(bytes, Closed::Refused)
+    }
+
+    /// As it was until T-06.
+    pub fn old(bytes: Vec<u8>) -> Network {
+        Network::read(bytes, Closed::Allowed)
+    }
+
+    fn read(bytes: Vec<u8>, closed: Closed) -> Network {
+        let read = match roads_rule(&bytes, NETWORK, closed) {
             Some(rule) => Err(rule),
             None => Ok(Map::of(&bytes)),
         };
@@ -515,7 +548,7 @@ impl Network {
         self.oracles.borrow_mut().entry(g).or_insert_with(|| Rc::new(built(bodies, map, g))).clone()
     }
 
-    /// Building: 1 to 8, 14, 15.
+    /// Building: 1 to 7, 21, 8, 14, 15.
     pub fn build(&self, g: u32, words: usize, room: usize) -> Outcome<Built> {
         if let Err(rule) = self.read {
             return Outcome::refused(rule);
@@ -546,7 +579,7 @@ struct Shaped {
 /// A file lent as an oracle, built or not.
 pub struct Questions {
     pub bytes: Vec<u8>,
-    /// The first of rules 1 to 11 that it breaks, or what it holds.
+    /// The first of rules 1 to 7, 21 and 8 to 11 that it breaks, or what it holds.
     read: Result<Shaped, u32>,
     /// The oracle that building gives from its bodies 1 to 4.
     built: OnceCell<Oracle>,
@@ -554,7 +587,16 @@ pub struct Questions {
 
 impl Questions {
     pub fn of(bytes: Vec<u8>) -> Questions {
-        let read = match oracle_rule(&bytes) {
+        Questions::read(bytes, Closed::Refused)
+    }
+
+    /// As it was until T-06.
+    pub fn old(bytes: Vec<u8>) -> Questions {
+        Questions::read(bytes, Closed::Allowed)
+    }
+
+    fn read(bytes: Vec<u8>, closed: Closed) -> Questions {
+        let read = match oracle_rule(&bytes, closed) {
             Some(rule) => Err(rule),
             None => {
                 let (map, g) = (Map::of(&bytes), number_16(body(&bytes, 4), 0));
@@ -608,7 +650,7 @@ impl Questions {
         if shaped.cells.far(s, t) { self.far_answer(s, t) } else { Answer { far: false, seconds: shaped.map.d(s, t), pairs: 0 } }
     }
 
-    /// The audit: 1 to 11, 14, 16.
+    /// The audit: 1 to 7, 21, 8 to 11, 14, 16.
     pub fn audit(&self, words: usize) -> Outcome<()> {
         let shaped = match &self.read {
             Ok(shaped) => shaped,
@@ -624,7 +666,7 @@ impl Questions {
         Outcome { result, zeroed: needed, written: Vec::new() }
     }
 
-    /// Opening: 1 to 11, 14.
+    /// Opening: 1 to 7, 21, 8 to 11, 14.
     pub fn open(&self, words: usize) -> Result<(), u32> {
         match &self.read {
             Ok(shaped) if words < WORDS * shaped.map.size() => Err(14),
@@ -633,7 +675,7 @@ impl Questions {
         }
     }
 
-    /// Rules 1 to 11, and 12 for the places named in the call.
+    /// Rules 1 to 7, 21 and 8 to 11, and 12 for the places named in the call.
     fn asked(&self, places: &[u32]) -> Result<&Shaped, u32> {
         let shaped = self.read.as_ref().map_err(|rule| *rule)?;
         if places.iter().any(|&u| u as usize >= shaped.map.size()) {
@@ -642,7 +684,7 @@ impl Questions {
         Ok(shaped)
     }
 
-    /// The time: 1 to 12, 14.
+    /// The time: what `asked` looks at, 14.
     pub fn time(&self, s: u32, t: u32, words: usize) -> Outcome<Answer> {
         let shaped = match self.asked(&[s, t]) {
             Ok(shaped) => shaped,
@@ -655,7 +697,7 @@ impl Questions {
         Outcome { result: Ok(self.answer(shaped, s as usize, t as usize)), zeroed: needed, written: Vec::new() }
     }
 
-    /// The far question: 1 to 13.
+    /// The far question: what `asked` looks at, 13.
     pub fn far(&self, s: u32, t: u32) -> Outcome<Answer> {
         let shaped = match self.asked(&[s, t]) {
             Ok(shaped) => shaped,
@@ -668,7 +710,7 @@ impl Questions {
         Outcome { result: Ok(self.far_answer(s, t)), zeroed: 0, written: Vec::new() }
     }
 
-    /// The list: 1 to 12.
+    /// The list: what `asked` looks at.
     pub fn list(&self, u: u32) -> Outcome<Part> {
         match self.asked(&[u]) {
             Ok(_) => Outcome { result: Ok(self.part(u as usize)), zeroed: 0, written: Vec::new() },
@@ -676,7 +718,7 @@ impl Questions {
         }
     }
 
-    /// The way: 1 to 12, 14, 15. Its value is the number of places.
+    /// The way: what `asked` looks at, 14, 15. Its value is the number of places.
     pub fn way(&self, s: u32, t: u32, words: usize, room: usize) -> Outcome<usize> {
         let shaped = match self.asked(&[s, t]) {
             Ok(shaped) => shaped,
@@ -689,7 +731,7 @@ impl Questions {
         way_outcome(shaped.map.way(s as usize, t as usize), needed, room)
     }
 
-    /// The block: 1 to 12, 17, 14.
+    /// The block: what `asked` looks at, 17, 14.
     pub fn block(&self, starts: &[u32], ends: &[u32], words: usize) -> Outcome<Times> {
         let shaped = match self.asked(&[starts, ends].concat()) {
             Ok(shaped) => shaped,

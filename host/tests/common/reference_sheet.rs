@@ -43,17 +43,17 @@ pub fn breaks_18(f: &[u8]) -> bool {
     lines(f).any(|line| line.first != CLOSED && line.first != DELAYED || line.first == CLOSED && line.added != 0)
 }
 
-struct Line {
-    first: u8,
-    road: usize,
-    added: u64,
+pub(super) struct Line {
+    pub(super) first: u8,
+    pub(super) road: usize,
+    pub(super) added: u64,
 }
 
-fn lines(f: &[u8]) -> impl Iterator<Item = Line> + '_ {
+pub(super) fn lines(f: &[u8]) -> impl Iterator<Item = Line> + '_ {
     f[entry_at(1)..].chunks(LINE).map(|l| Line { first: l[0], road: number_16(l, 1) as usize, added: number_32(l, 3) as u64 })
 }
 
-fn breaks_19(f: &[u8], map: &Map) -> bool {
+pub(super) fn breaks_19(f: &[u8], map: &Map) -> bool {
     lines(f).any(|line| line.road >= map.roads.len())
 }
 
@@ -97,7 +97,7 @@ pub fn delay_after_closure(lines: &[(u8, u16, u32)]) -> bool {
 
 // ---- The roads as a sheet leaves them ----
 
-/// A road closed in body 3 is closed under every sheet.
+/// A road closed in body 3 is closed under every sheet: so over an old network, and no other has one.
 fn left(map: &Map, holding: &BTreeMap<usize, Line>) -> Map {
     let road = |(i, old): (usize, &Road)| {
         let line = holding.get(&i);
@@ -146,7 +146,7 @@ fn old_way_stands(old: &Map, new: &Map, s: usize, t: usize) -> bool {
 pub struct Under<'a> {
     pub questions: &'a Questions,
     pub sheet: Vec<u8>,
-    /// The first of rules 1 to 11 and 18 to 20 that the two break, or the roads as the sheet leaves them.
+    /// The first of the oracle's rules and 18 to 20 that the two break, or the roads as the sheet leaves them.
     read: Result<Map, u32>,
 }
 
@@ -170,7 +170,7 @@ impl<'a> Under<'a> {
         self.read.as_ref().ok()
     }
 
-    /// Rules 1 to 12, 18, 19, 20, 14.
+    /// The oracle's rules, 12, 18, 19, 20, 14.
     fn asked(&self, s: u32, t: u32, words: usize) -> Result<(&Shaped, &Map), u32> {
         let shaped = self.questions.asked(&[s, t])?;
         let new = self.read.as_ref().map_err(|rule| *rule)?;
@@ -180,7 +180,7 @@ impl<'a> Under<'a> {
         Ok((shaped, new))
     }
 
-    /// The time under the sheet: 1 to 12, 18, 19, 20, 14.
+    /// The time under the sheet: the oracle's rules, 12, 18, 19, 20, 14.
     pub fn time(&self, s: u32, t: u32, words: usize) -> Outcome<Answer> {
         let (shaped, new) = match self.asked(s, t, words) {
             Ok(asked) => asked,
@@ -193,7 +193,7 @@ impl<'a> Under<'a> {
         Outcome { result: Ok(answer), zeroed: WORDS * new.size(), written: Vec::new() }
     }
 
-    /// The way under the sheet: 1 to 12, 18, 19, 20, 14, 15. It goes over the roads as the sheet leaves them.
+    /// The way under the sheet: the oracle's rules, 12, 18, 19, 20, 14, 15. It goes over the roads as the sheet leaves them.
     pub fn way(&self, s: u32, t: u32, words: usize, room: usize) -> Outcome<usize> {
         match self.asked(s, t, words) {
             Ok((_, new)) => way_outcome(new.way(s as usize, t as usize), WORDS * new.size(), room),

@@ -43,7 +43,7 @@ pub fn wages_outcome(times: &[Option<u64>], zeroed: usize, room: usize) -> Outco
 }
 
 impl Questions {
-    /// The wages sheet: 1 to 12, 17, 14, 15. 12 looks at whole legs only, and at all of them.
+    /// The wages sheet: the oracle's rules, 12, 17, 14, 15. 12 looks at whole legs only, and at all of them.
     pub fn wages(&self, legs: &[u8], words: usize, room: usize) -> Outcome<usize> {
         let pairs = whole_legs(legs);
         let places: Vec<u32> = pairs.iter().flat_map(|&(s, t)| [s, t]).collect();

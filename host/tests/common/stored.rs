@@ -71,7 +71,7 @@ pub fn oracle_of(name: &str) -> Vec<u8> {
     let (plan, g) = match name {
         "line" => (networks::line(), 6),
         "fork" => (networks::fork(), 6),
-        "fork-closed" => (networks::fork_closed(), 6),
+        "fork-without-4" => (networks::fork_without_4(), 6),
         // Line with a road beside its first, or its second twice.
         "parallel-6" => (beside(6), 6),
         "parallel-7" => (beside(7), 6),
@@ -93,7 +93,7 @@ fn beside(seconds: u32) -> Plan {
 
 fn sample_60() -> Plan {
     let net = sample::network(60, 2);
-    Plan { places: net.nodes, roads: net.edges.iter().map(|e| (e.first, e.second, e.seconds)).collect(), closed: net.closed }
+    Plan { places: net.nodes, roads: net.edges.iter().map(|e| (e.first, e.second, e.seconds)).collect() }
 }
 
 // ---- What is told ----

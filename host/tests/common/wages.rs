@@ -3,18 +3,11 @@
 use super::networks::pick;
 use super::reference::wages::{LEG, MOST_LEGS};
 use super::reference::Outcome;
-use super::{same, Input, Lent, Memory, Opened, OracleCase};
+use super::{output_record, same, Input, Lent, Memory, Opened, OracleCase};
 use jukesogbi::core::raw;
 use jukesogbi::sample::Random;
 
 // ---- The calls. In all of them the pointers and lengths are those of memory that lives through the call. ----
-
-fn output_record(result: Result<usize, u32>) -> raw::Output {
-    match result {
-        Ok(size) => raw::Output { rule: 0, size: size as u32 },
-        Err(rule) => raw::Output { rule, size: 0 },
-    }
-}
 
 /// Legs for a message.
 fn shown(legs: &[u8]) -> String {

@@ -1,8 +1,8 @@
 //! What questions are put to: an oracle, and the day sheet where one is named.
 
 use crate::args::{Call, Lend};
-use crate::input::Input;
-use crate::stop::{fault, Stop};
+use crate::input::{self, Input};
+use crate::stop::Stop;
 use jukesogbi::core::{self, Answer, Refused};
 use jukesogbi::files::Kind;
 use jukesogbi::oracle::Oracle;
@@ -27,11 +27,7 @@ impl Basis {
 
     fn beside(call: &Call, lines: Option<(&str, Option<&OsStr>)>) -> Result<Basis, Stop> {
         let files = [("the oracle", Some(call.words[0].as_os_str())), ("the sheet", call.sheet)];
-        let names = files.into_iter().chain(lines);
-        let streams: Vec<&str> = names.filter(|(_, name)| *name == Some(OsStr::new("-"))).map(|(what, _)| what).collect();
-        if let [one, other, ..] = streams[..] {
-            return fault(format!("{one} and {other} cannot both come from standard input"));
-        }
+        input::one_stream(files.into_iter().chain(lines))?;
         Ok(Basis { oracle: call.oracle(0)?, sheet: call.sheet.map(|name| Input::read(name, Kind::Sheet)).transpose()? })
     }
 

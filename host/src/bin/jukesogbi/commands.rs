@@ -3,7 +3,8 @@
 use crate::args::{Arguments, Call};
 use crate::output::Output;
 use crate::stop::{slip, Done, Stop};
-use crate::{bench, demo, making, questions, sheets, wages};
+use crate::texts::{LEFT_OUT, LEGS, LINES, PAIRS, RENUMBERED, UNDER, WRITES};
+use crate::{bench, convert, demo, making, questions, sheets, wages};
 use std::ffi::{OsStr, OsString};
 use std::fmt::Write;
 
@@ -22,37 +23,6 @@ struct Command {
 const SHEET: &str = "--sheet SHEET";
 const WORDS: &str = "--words K";
 const ROOM: &str = "--room B";
-
-/// Of commands that answer pairs.
-const PAIRS: &str = "Without S T the oracle is checked once, and pairs `S T` are read from standard input, one a line, and answered one a line.
-Each answer is written before the next line is waited for, so a program can hold the command open and converse.
-A pair that is refused is answered by `refused N`. A line that is no pair (or no text, or longer than 4096 bytes) is answered by `wrong`.
-Standard error then has the line's number and the cause, and the rest goes on. A blank line is passed over, without an answer.
-At the end the status is 2 if a line was wrong, else 1 if a pair was refused, else 0.
-An oracle that is refused, as are too few words, ends the command at once, with one `refused N` and status 1.";
-
-/// Of commands that may go by a day sheet.
-const UNDER: &str = "With --sheet the roads are as that day sheet leaves them; `jukesogbi sheet --help` tells what its lines do.
-A time found by a search over those roads is marked local, with 0 pairs. A sheet that is refused ends the command at once, with one `refused N`.";
-
-/// What the lines of a day sheet do.
-const LINES: &str = "TEXT has a line for each closure and each delay, and nothing else but blank lines, which are passed over:
-  closed ROAD            nothing drives road ROAD
-  delayed ROAD SECONDS   road ROAD takes SECONDS more
-ROAD is a number from 0 to 65535, counted from 0 in the order of the network, and SECONDS one from 0 to 4294967295.
-A closure holds over every delay of its road, wherever it stands, and among delays the last holds. A road that the network has closed stays closed.
-Where the last line about a closed road is a delay, standard error tells that the road stays closed: a closure ends where its lines are taken out.
-Whether the roads are there is seen when the sheet is used.
-A line of another form, or one longer than 4096 bytes, ends the command with its number and status 2, and nothing is written.";
-
-/// How a wages sheet is entered.
-const LEGS: &str = "Legs `S T` are read from standard input to its end, one a line, 1000 at the most; none is allowed. A leg may come again.
-A line is printed for each, its seconds or `-` for none, and behind them `none K total SECONDS`: how many have none, and the sum of the others.
-A sheet is answered or refused as a whole. A number beyond those of the places, however large, is refused by rule 12; more legs by rule 17.
-A line that is no pair (or blank, or no text, or longer than 4096 bytes) ends the command with its number and status 2, and nothing is printed.";
-
-/// Of commands that write files.
-const WRITES: &str = "An older file of that name is replaced when the new one is whole, and stays as it is where anything fails.";
 
 const COMMANDS: &[Command] = &[
     Command {
@@ -161,6 +131,22 @@ const COMMANDS: &[Command] = &[
         does: "print a day sheet, each line as `sheet` reads it",
         more: &["The core says whether it is a sheet: one that breaks rule 18 is refused. Rules 19 and 20 take an oracle, and are not looked at."],
         run: sheets::print,
+    },
+    Command {
+        name: "convert",
+        takes: "NETWORK NEW",
+        options: &[ROOM],
+        does: "leave the closed roads out of an old network",
+        more: &[LEFT_OUT, WRITES],
+        run: convert::network,
+    },
+    Command {
+        name: "convert-sheet",
+        takes: "NETWORK SHEET NEW",
+        options: &[ROOM],
+        does: "renumber a day sheet of an old network for the converted one",
+        more: &[RENUMBERED, WRITES],
+        run: convert::sheet,
     },
     Command { name: "demo", takes: "", options: &[], does: "try all of this on a sample", more: &["It writes demo.svg."], run: demo::run },
     Command {

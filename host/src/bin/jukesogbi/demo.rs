@@ -16,7 +16,7 @@ pub fn run(call: &mut Call) -> Done {
     let net = sample::network(NODES, SEED);
     let network = net.to_bytes();
     let out = &mut *call.out;
-    out.say(format_args!("a sample: {} places, {} roads, {} of them closed", net.nodes.len(), net.edges.len(), net.closed.len()))?;
+    out.say(format_args!("a sample: {} places, {} roads", net.nodes.len(), net.edges.len()))?;
     let mut work = vec![0; files::words_needed(&network)];
     let oracles = [build(out, &network, 8, &mut work)?, build(out, &network, 16, &mut work)?];
     let pairs = [(0, 59), (7, 52), (3, 40), (12, 13)];

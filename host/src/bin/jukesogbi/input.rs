@@ -1,7 +1,7 @@
 //! The files that commands are given.
 
-use crate::stop::{fault, Stop};
-use jukesogbi::core::Refused;
+use crate::stop::{fault, Done, Stop};
+use jukesogbi::core::{Refused, CLOSED_ROADS};
 use jukesogbi::files::{looks_like, Kind};
 use jukesogbi::reading;
 use std::ffi::OsStr;
@@ -41,6 +41,15 @@ pub fn read<T>(name: &OsStr, get: impl FnOnce(&mut dyn Read, Option<u64>) -> io:
     got.or_else(|e| fault(format!("cannot read {}: {e}", title(name).display())))
 }
 
+/// One of these, by their names, comes from standard input at the most.
+pub fn one_stream<'a>(inputs: impl IntoIterator<Item = (&'a str, Option<&'a OsStr>)>) -> Done {
+    let streams: Vec<&str> = inputs.into_iter().filter(|(_, name)| *name == Some(OsStr::new("-"))).map(|(what, _)| what).collect();
+    match streams[..] {
+        [one, other, ..] => fault(format!("{one} and {other} cannot both come from standard input")),
+        _ => Ok(()),
+    }
+}
+
 impl Input {
     pub fn read(name: &OsStr, kind: Kind) -> Result<Input, Stop> {
         let bytes = read(name, |mut from, size| reading::file(&mut from, kind, size))?;
@@ -55,18 +64,20 @@ impl Input {
         Ok((Input { bytes, kind: Kind::Oracle }, more))
     }
 
-    /// What the core said of this file, and beside a refusal a word on what it looks like.
+    /// What the core said of this file, and beside a refusal a word on what it looks like, or on what to do.
     pub fn judged<T>(&self, verdict: Result<T, Refused>) -> Result<T, Stop> {
-        verdict.map_err(|refused| Stop::Refused(refused, self.note()))
+        verdict.map_err(|refused| Stop::Refused(refused, self.note(refused)))
     }
 
-    /// A word where it is another kind of file.
-    pub fn note(&self) -> Option<&'static str> {
+    /// A word where it is another kind of file, or an old oracle.
+    pub fn note(&self, refused: Refused) -> Option<&'static str> {
         let looks = |kind| looks_like(self, kind);
         match self.kind {
+            Kind::Oracle if refused == Refused(CLOSED_ROADS) => Some("this is an old oracle: `jukesogbi build` makes another, of the converted network"),
             Kind::Oracle if looks(Kind::Network) => Some("this looks like a network: `jukesogbi build` makes an oracle of it"),
-            Kind::Network if looks(Kind::Oracle) => Some("this looks like an oracle: building wants the network that it is of"),
-            Kind::Oracle | Kind::Network if looks(Kind::Sheet) => Some("this looks like a day sheet, which is for the option `--sheet`"),
+            Kind::Network if looks(Kind::Oracle) => Some("this looks like an oracle: the network that it is of is wanted"),
+            Kind::Oracle if looks(Kind::Sheet) => Some("this looks like a day sheet, which is for the option `--sheet`"),
+            Kind::Network if looks(Kind::Sheet) => Some("this looks like a day sheet, and no network"),
             Kind::Sheet if looks(Kind::Network) || looks(Kind::Oracle) => Some("this looks like a network or an oracle, and no day sheet"),
             Kind::Sheet if self.starts_with(b"closed ") || self.starts_with(b"delayed ") => {
                 Some("this looks like the text of a day sheet: `jukesogbi sheet` makes a sheet of it")

@@ -5,6 +5,7 @@ mod args;
 mod basis;
 mod bench;
 mod commands;
+mod convert;
 mod demo;
 mod input;
 mod lines;
@@ -16,6 +17,7 @@ mod replace;
 mod sheets;
 mod stop;
 mod system;
+mod texts;
 mod wages;
 
 use output::{complain, Output};

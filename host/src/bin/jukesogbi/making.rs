@@ -1,4 +1,4 @@
-//! The commands that make files: oracles, samples, pictures. (Those of day sheets are in `sheets`.)
+//! The commands that make files: oracles, samples, pictures. (Those of day sheets are in `sheets`, the converter's in `convert`.)
 
 use crate::args::Call;
 use crate::basis::Basis;
@@ -29,8 +29,7 @@ pub fn sample_size(n: u32) -> Result<usize, Stop> {
 pub fn write_sample(call: &mut Call) -> Done {
     let (n, seed) = (sample_size(call.number(0)?)?, call.number(1)?);
     let net = sample::network(n, seed as u64);
-    let report = format!("sample of {} places, {} roads, {} closed", net.nodes.len(), net.edges.len(), net.closed.len());
-    call.deliver(2, &net.to_bytes(), &report)
+    call.deliver(2, &net.to_bytes(), &format!("sample of {} places, {} roads", net.nodes.len(), net.edges.len()))
 }
 
 pub fn draw(call: &mut Call) -> Done {

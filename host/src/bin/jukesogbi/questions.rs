@@ -98,7 +98,7 @@ pub fn list_all(call: &mut Call) -> Done {
     let (o, more) = Input::first(&call.words[0], listing::READ)?;
     let Err(refused) = call.out.lines(|mut out| listing::write(&o, &mut out))? else { return Ok(()) };
     complain(refused);
-    o.note().into_iter().for_each(complain);
+    o.note(refused).into_iter().for_each(complain);
     if more {
         complain(format_args!("a listing reads {} bytes and no more, and this file is longer: `time` answers from all of it", listing::READ));
     }

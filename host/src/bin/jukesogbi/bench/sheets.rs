@@ -56,7 +56,8 @@ fn ask(case: &Case, net: &Network, count: usize, kind: &str, pairs: &[(u32, u32)
     let (mut seconds, mut nodes) = (0, 0);
     let times = timed(5, || seconds = pairs.iter().map(|&(s, t)| opened.time_under(&sheet, s, t).unwrap().seconds.unwrap_or(0) as u64).sum(), &mut ways);
     let routes = timed(5, || nodes = pairs.iter().map(|&(s, t)| opened.way_under(&sheet, s, t, &mut room).unwrap() as u64).sum(), &mut ways);
-    let (graph, mut search) = (Graph::of(&sheet::applied(net, &sheet)), Search::new(n));
+    let today = Network { nodes: net.nodes.clone(), edges: sheet::applied(net, &sheet).into_iter().flatten().collect() };
+    let (graph, mut search) = (Graph::of(&today), Search::new(n));
     let mut plain_time = |s: u32, t: u32| {
         search.run(&graph, s as usize, |u| u == t);
         search.times[t as usize]
