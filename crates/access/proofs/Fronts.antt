@@ -1,28 +1,27 @@
--- The first three regions as the 3 n words of a search, with the marks made after it. Assumes nothing.
-use Prim.Native.Nat.{ℕ, _+_, _/_, _≤_, _<_}
+-- The first three regions as the words of a search, with the marks made after it. Assumes nothing.
+use Prim.Native.Nat.{ℕ, _+_, _≤_, _<_}
 use native.Mathlib.Omega.{arith}
-use mathlib.Core.Path.{_≡_, refl, sym, ap, _∙_}
+use mathlib.Core.Path.{_≡_, refl, sym, ap, _∙_, subst}
 use mathlib.Core.Logic.{_↔_}
 use mathlib.Core.List.{List}
 use lib.ListN.{length, getD, take, drop, replicate}
-use lib.Seq.{length-take-le, take-take, getD-take, getD-drop}
+use lib.Seq.{length-take-le, take-take, getD-take}
 use Rattle.model.specs.Walk.{Arc}
 use Rattle.theory.specs.Walks.{Positive}
 use Rattle.algorithms.specs.Marks.{Toward}
 use Rattle.algorithms.specs.Pass.{Is}
 use Rattle.algorithms.specs.Stops.{Stopped}
-use Rattle.bitset.specs.Bits.{isIn, flags}
-use Rattle.crossing.specs.SetLaws.{flags-test, test-flags-same}
+use Rattle.bitset.specs.Bits.{setWords, flags}
 use Rattle.marks.specs.Due.{Flagged, turned}
 use Rattle.marks.proofs.Views.{times-kept, order-kept}
 use Rattle.marks.proofs.Turns as turns
 use Rattle.marks.proofs.Walks.{marked-walk}
 use Rattle.words.specs.Regions.{regionAt, regionFlags, marks, want, timesIn, orderIn, wantIn, marksIn, searchWords, queueWords}
-use Rattle.words.proofs.Windows.{flags-kept}
+use Rattle.words.proofs.Windows.{flags-front, flags-kept}
 use Rattle.access.proofs.Wanted.{want-region}
 use Rattle.marks.specs.Ordered.{Ordered}
 use Rattle.words.specs.Frames.{Only, Enough, KeptFrom}
-use Rattle.words.proofs.Stays.{kept-more, after-kept, only-same, only-then}
+use Rattle.words.proofs.Stays.{take-drop, kept-more, after-kept, only-same, only-then}
 
 abbrev front : ℕ → List ℕ → List ℕ
 front n w = take (searchWords n) w
@@ -37,20 +36,20 @@ module _ (n : ℕ) (w : List ℕ) where
   order-front : (i : ℕ) → orderIn n i (front n w) ≡ orderIn n i w
   order-front = order-kept n w (front n w) two-front
 
-  mark-front : (v : ℕ) → v < n → isIn (drop (queueWords n) (front n w)) v ≡ isIn (drop (queueWords n) w) v
-  unfolding isIn
-  mark-front v h = rw (
-    getD-drop (queueWords n) (front n w) (v / 32) 0,
-    getD-take (searchWords n) w (queueWords n + v / 32) 0 (omega arith),
-    getD-drop
-        (queueWords n) w (v / 32) 0,
-  )
+  at-marks : queueWords n ≡ regionAt n marks
+  at-marks = omega arith
+
+  pub marks-region : marksIn n w ≡ regionFlags n marks w
+  marks-region = ap (λ (k : ℕ). flags n (drop k w)) at-marks
 
   marks-front : marksIn n (front n w) ≡ regionFlags n marks w
-  marks-front = flags-test n (drop (queueWords n) (front n w)) ∙ (test-flags-same _ _ n mark-front ∙ sym (flags-test n (drop (queueWords n) w)))
+  marks-front = ap (flags n) (sym (take-drop (queueWords n) (setWords n) w)) ∙ (flags-front n (drop (queueWords n) w) ∙ marks-region)
 
-  size-front : Enough n w → length (front n w) ≡ searchWords n
-  size-front h = length-take-le (searchWords n) w (omega arith)
+  queue-only : (w′ : List ℕ) → Only n marks w w′ → take (queueWords n) w′ ≡ take (queueWords n) w
+  queue-only w′ o = subst (λ (k : ℕ). take k w′ ≡ take k w) (sym at-marks) (o .front)
+
+  size-front : 0 < n → Enough n w → length (front n w) ≡ searchWords n
+  size-front some h = length-take-le (searchWords n) w (omega arith)
 
   node-front : (i : ℕ) → i < n → getD (front n w) (n + i) 0 ≡ getD w (n + i) 0
   node-front i h = getD-take (searchWords n) w (n + i) 0 (omega arith)
@@ -61,15 +60,15 @@ pub record Marking (arcs : List Arc) (n e : ℕ) (w₀ : List ℕ) (i : ℕ) (w 
   pub others : Only n marks w₀ w
   pub standing : turns.Standing arcs n e (regionFlags n want w₀) (front n w₀) i (front n w)
 
-module _ (arcs : List Arc) (n e : ℕ) (w₀ : List ℕ) (long : Enough n w₀) where
+module _ (arcs : List Arc) (n e : ℕ) (w₀ : List ℕ) (some : 0 < n) (long : Enough n w₀) where
   -- w are the words before the marks were cleared.
   pub first : (w : List ℕ) → e ≤ n → Only n marks w w₀ → regionFlags n marks w₀ ≡ replicate n 0 → Ordered n (timesIn n w) (orderIn n e w)
       → Marking arcs n e w₀ e w₀
   first w h o m r = record {
     size = refl;
     others = only-same _ _ w₀;
-    standing = turns.first arcs n e (regionFlags n want w₀) (front n w₀) (front n w) h (size-front n w₀ long)
-        (two-front n w₀ ∙ (o .front ∙ sym (two-front n w))) (marks-front n w₀ ∙ m) (rw (times-front n w, order-front n w e) r);
+    standing = turns.first arcs n e (regionFlags n want w₀) (front n w₀) (front n w) h (size-front n w₀ some long)
+        (two-front n w₀ ∙ (queue-only n w w₀ o ∙ sym (two-front n w))) (marks-front n w₀ ∙ m) (rw (times-front n w, order-front n w e) r);
   }
 
   module _ (i : ℕ) (w : List ℕ) (g : Marking arcs n e w₀ i w) (h : i < n) where
@@ -84,8 +83,8 @@ module _ (arcs : List Arc) (n e : ℕ) (w₀ : List ℕ) (long : Enough n w₀) 
           size = k ∙ g .size;
           others = only-then _ _ w₀ w w′ (g .others) o;
           standing = turns.next arcs n e (regionFlags n want w₀) (front n w₀) i (front n w) (g .standing) h pos (front n w′)
-              (size-front n w′ (omega (arith, g .size)) ∙ sym (size-front n w (omega (arith, g .size))))
-              (two-front n w′ ∙ (o .front ∙ sym (two-front n w)))
+              (size-front n w′ some (omega (arith, g .size)) ∙ sym (size-front n w some (omega (arith, g .size))))
+              (two-front n w′ ∙ (queue-only n w w′ o ∙ sym (two-front n w)))
               (rw (marks-front n w′, marks-front n w, times-front n w, node-front n w i h, ← same) m);
         }
 
@@ -93,8 +92,8 @@ module _ (arcs : List Arc) (n e : ℕ) (w₀ : List ℕ) (long : Enough n w₀) 
       → ((v : ℕ) → Flagged (regionFlags n marks w′) v ↔ Is arcs (timesIn n w) (Flagged (regionFlags n want w)) (orderIn n e w) v) × Only n marks w w′
   last i w w′ h o g =
       let same : regionFlags n want w₀ ≡ regionFlags n want w = flags-kept n want marks w w₀ (λ q. omega arith) o in
-      let l = turns.last arcs n e (regionFlags n want w₀) (front n w₀) i (front n w) (front n w′) h (two-front n w₀ ∙ (o .front ∙ sym (two-front n w)))
-      (g .standing) in
+      let l = turns.last arcs n e (regionFlags n want w₀) (front n w₀) i (front n w) (front n w′) h
+      (two-front n w₀ ∙ (queue-only n w w₀ o ∙ sym (two-front n w))) (g .standing) in
       (λ v. rw (marks-front n w′, times-front n w, order-front n w e, same) at (l .1 v), only-then _ _ w w₀ w′ o (g .others))
 
 -- The wanted nodes stay in a search.

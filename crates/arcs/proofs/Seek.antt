@@ -3,13 +3,15 @@ use Prim.Native.Nat.{ℕ, _+_, _*_, _/_, _%_, _<_, _≤_}
 use native.Mathlib.Nat.{div-mul-le-self, div-add-mod', mod-lt, mul-le-mul-right, suc-mul, zero-mul}
 use native.Mathlib.Decide.{ℕ-discrete}
 use native.Mathlib.Omega.{arith}
-use mathlib.Core.Path.{_≡_, ap, subst}
+use mathlib.Core.Path.{_≡_, sym, ap, _∙_, subst}
 use mathlib.Core.List.{List}
 use mathlib.Core.Logic.{_⊎_, inl, inr, ⊎-elim}
+use lib.ListN.{length}
 use Rattle.model.specs.Bytes.{Bytes}
 use Rattle.model.specs.Network.{edge, edgeCount}
-use Rattle.index.specs.Index.{next, block, here, there, Incident, IndexedEdges}
+use Rattle.index.specs.Index.{Reading, byBlocks, readIn, here, there, Within, Incident, IndexedEdges}
 use Rattle.index.proofs.Listing.{no-list}
+use Rattle.index.proofs.Readings.{read-blocks, of-several}
 use Rattle.words.specs.Regions.{indexIn}
 use Rattle.arcs.specs.declared.cursor.Cursor.{Cursor}
 use Rattle.arcs.specs.Cursor.{After, rank}
@@ -29,8 +31,8 @@ module _ (edges : Bytes) (u i : ℕ) where
       pick (no d) = h j l (omega arith) o
 
 module _ (edges : Bytes) (n : ℕ) (w : List ℕ) (u : ℕ) where
-  abbrev ix : List ℕ
-  ix = indexIn n w
+  abbrev read : Reading
+  read = readIn edges n w
 
   -- ---- within a block
   pub since-within : (c : Cursor) (r : ℕ) → Seeking edges n w u c → FirstIncident edges u (c .edge) (c .stop) r
@@ -50,11 +52,21 @@ module _ (edges : Bytes) (n : ℕ) (w : List ℕ) (u : ℕ) where
     pub size-small : c .size < 65536
     size-small = omega (arith, s .size, roads .indexed .chained .sized u u-in, roads .indexed .small)
 
+    -- The index is read by blocks.
+    by-blocks : read ≡ byBlocks (indexIn n w)
+    by-blocks = read-blocks edges n w (of-several edges n w roads u u-in (λ e. s .several (s .size ∙ e)))
+
+    pub link-inside : Within n (length (indexIn n w)) (c .link)
+    link-inside h = rw (ap (λ (z : Reading). z .reach) by-blocks) at (s .link h)
+
+    pub same-block : (m : ℕ) → blockAt m (byBlocks (indexIn n w)) (c .size) (c .link) ≡ blockAt m read (c .size) (c .link)
+    same-block m = ap (λ (z : Reading). blockAt m z (c .size) (c .link)) (sym by-blocks)
+
     module _ (at-stop : c .edge ≡ c .stop) (more : n ≤ c .link) where
       abbrev b : Cursor
-      b = blockAt (edgeCount edges) ix (c .size) (c .link)
+      b = blockAt (edgeCount edges) read (c .size) (c .link)
 
-      next-down : next ix (c .link) < c .link
+      next-down : read .next (c .link) < c .link
       next-down = roads .indexed .chained .links (c .link) (omega arith) more
 
       pub seeking-block : Seeking edges n w u b
@@ -69,16 +81,16 @@ module _ (edges : Bytes) (n : ℕ) (w : List ℕ) (u : ℕ) where
 
       block-less : rank edges b < rank edges c
       unfolding rank
-      block-less = omega (arith, suc-mul (next ix (c .link)) (edgeCount edges + 1), mul-le-mul-right (edgeCount edges + 1) next-down)
+      block-less = omega (arith, suc-mul (read .next (c .link)) (edgeCount edges + 1), mul-le-mul-right (edgeCount edges + 1) next-down)
 
-      in-block : (j : ℕ) → Incident edges u j → 0 < c .size → block ix (c .link) ≡ j / c .size → (b .edge ≤ j) × (j < b .stop)
+      in-block : (j : ℕ) → Incident edges u j → 0 < c .size → read .block (c .link) ≡ j / c .size → (b .edge ≤ j) × (j < b .stop)
       in-block j o h e =
           let p : j / c .size * c .size ≤ j = div-mul-le-self j (c .size) in
           let q : j % c .size < c .size = mod-lt j h in
-          let r : block ix (c .link) * c .size ≡ j / c .size * c .size = ap (λ (z : ℕ). z * c .size) e in
+          let r : read .block (c .link) * c .size ≡ j / c .size * c .size = ap (λ (z : ℕ). z * c .size) e in
           (omega arith, omega (arith, div-add-mod' j (c .size), o .below))
 
-      block-keeps : (j : ℕ) → Incident edges u j → From ix n c j → From ix n b j
+      block-keeps : (j : ℕ) → Incident edges u j → From read n c j → From read n b j
       block-keeps j o (inl (a, l)) = absurd (omega arith)
       block-keeps j o (inr (h, here l e)) = inl (in-block j o h e)
       block-keeps j o (inr (h, there l p)) = inr (h, p)
@@ -107,7 +119,7 @@ module _ (edges : Bytes) (n : ℕ) (w : List ℕ) (u : ℕ) where
       valid = record {
         size = t .seeking .size;
         link = λ h. absurd (omega arith);
-        chain = λ q p. absurd (no-list ix n 0 q (omega arith) p);
+        chain = λ q p. absurd (no-list read n 0 q (omega arith) p);
         stop = omega arith;
         inside = λ h. absurd (omega arith);
         single = λ h. omega arith;
@@ -118,13 +130,13 @@ module _ (edges : Bytes) (n : ℕ) (w : List ℕ) (u : ℕ) where
       less = unfold rank in omega (arith, zero-mul (edgeCount edges + 1));
     }
       where
-        nothing : (j : ℕ) → After ix n (ending edges (c .size)) j → ⊥
+        nothing : (j : ℕ) → After read n (ending edges (c .size)) j → ⊥
         nothing j (inl (a, b)) = omega arith
-        nothing j (inr (a, p)) = no-list ix n 0 _ (omega arith) p
+        nothing j (inr (a, p)) = no-list read n 0 _ (omega arith) p
 
-        none : (j : ℕ) → From ix n c j → ⊥
+        none : (j : ℕ) → From read n c j → ⊥
         none j (inl (a, b)) = omega arith
-        none j (inr (a, p)) = no-list ix n (c .link) _ l p
+        none j (inr (a, p)) = no-list read n (c .link) _ l p
 
     pub sought-found : (c .edge ≡ c .stop → ⊥) → FoundFrom edges n w u c₀ c
     sought-found d = record {
@@ -145,10 +157,10 @@ module _ (edges : Bytes) (n : ℕ) (w : List ℕ) (u : ℕ) where
         below : c .edge < c .stop
         below = omega (arith, t .seeking .low)
 
-        split : (j : ℕ) → From ix n c j → (j ≡ c .edge) ⊎ After ix n c j
+        split : (j : ℕ) → From read n c j → (j ≡ c .edge) ⊎ After read n c j
         split j (inl (a, b)) = pick (ℕ-discrete j (c .edge))
           where
-            pick : Dec (j ≡ c .edge) → (j ≡ c .edge) ⊎ After ix n c j
+            pick : Dec (j ≡ c .edge) → (j ≡ c .edge) ⊎ After read n c j
             pick (yes e) = inl e
             pick (no x) = inr (inl (omega arith, b))
         split j (inr p) = inr (inr p)

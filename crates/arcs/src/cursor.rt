@@ -2,23 +2,25 @@
 ghost use mathlib.Core.Path.{_≡_};
 ghost use mathlib.Core.Bool.{true, false};
 ghost use mathlib.Core.List.{[]};
-ghost use Prim.Native.Nat.{_+_, _*_, _<_, _≤_, min};
+ghost use Prim.Native.Nat.{_*_, _<_, _≤_, min};
 ghost use lib.ListN.{length};
 ghost use Rattle.model.specs.Network.{maxNodes, edgeCount};
 ghost use Rattle.words.specs.Frames.{Enough};
-ghost use Rattle.index.specs.Index.{Within, Incident, IndexedEdges};
-ghost use Rattle.words.specs.Regions.{indexIn};
+ghost use Rattle.index.specs.Index.{byLinks, byBlocks, linked, Within, Incident, IndexedEdges};
+ghost use Rattle.words.specs.Regions.{placeAt, indexIn};
 ghost use Rattle.arcs.specs.Cursor.{Valid, PassedEdges, Stepped};
 ghost use Rattle.arcs.specs.Seeking.{Seeking, Since, FoundFrom, FirstIncident, AtEntry, blockAt};
 use codec::records::EDGE_SIZE;
 use codec::records::edge_first;
 use codec::records::edge_second;
-use index::positions::block_in;
-use index::positions::block_size;
-use index::positions::first_link;
-use index::positions::next_in;
+use index::positions::entry_in;
+use index::positions::head_in;
+use index::positions::is_linked;
+use index::positions::link_in;
+use words::regions::index_at;
 
-// The edge found, or the number of edges where there is none any more; where its block stops; the next entry of the chain; and the size of the blocks.
+// The edge found, or the number of edges where there is none any more; where its block stops; the next entry of the chain; and the size of the blocks, which
+// is 1 just where the index is read by links.
 pub struct Cursor {
     pub edge: usize,
     pub stop: usize,
@@ -65,18 +67,18 @@ fn lower(a: usize, b: usize) -> usize
 }
 
 // The whole block of the entry p, of at most m edges in all.
-fn block_at(m: usize, work: &[u32], n: usize, size: usize, p: usize) -> Cursor
-    requires { ⌜ (n ≤ maxNodes) × Enough n (now work) × (p < length (indexIn n (now work))) × (size < 65536) ⌝ }
-    ensures { λ r. ⌜ r ≡ blockAt m (indexIn n (now (work .entry))) size p ⌝ }
+fn block_at(m: usize, work: &[u32], n: usize, at: usize, size: usize, p: usize) -> Cursor
+    requires { ⌜ (at ≡ placeAt n) × (n ≤ maxNodes) × Enough n (now work) × (p < length (indexIn n (now work))) × (size < 65536) ⌝ }
+    ensures { λ r. ⌜ r ≡ blockAt m (byBlocks (indexIn n (now (work .entry)))) size p ⌝ }
 {
-    let start = block_in(work, n, p) * size;
-    let link = next_in(work, n, p);
+    let entry = entry_in(work, n, at, p);
+    let start = entry.block * size;
     let edge = lower(start, m);
     let stop = lower(start + size, m);
     Cursor {
         edge: edge,
         stop: stop,
-        link: link,
+        link: entry.next,
         size: size,
     }
 }
@@ -96,8 +98,8 @@ fn within_block(edges: &[u8], n: usize, work: &[u32], u: usize, c: Cursor) -> Cu
 }
 
 // The first edge at u from the cursor's on, block by block.
-fn seek(edges: &[u8], n: usize, work: &[u32], u: usize, c: Cursor) -> Cursor
-    requires { ⌜ (n ≤ maxNodes) × Enough n (now work) × (u < n) ⌝ }
+fn seek(edges: &[u8], n: usize, work: &[u32], at: usize, u: usize, c: Cursor) -> Cursor
+    requires { ⌜ (at ≡ placeAt n) × (n ≤ maxNodes) × Enough n (now work) × (u < n) ⌝ }
     requires { ⌜ IndexedEdges (now edges) n (now work) ⌝ }
     requires { ⌜ Seeking (now edges) n (now work) u c ⌝ }
     ensures { λ r. ⌜ FoundFrom (now (edges .entry)) n (now (work .entry)) u c r ⌝ }
@@ -117,15 +119,15 @@ fn seek(edges: &[u8], n: usize, work: &[u32], u: usize, c: Cursor) -> Cursor
                 size: s.size,
             };
         }
-        b = block_at(m, work, n, s.size, s.link);
+        b = block_at(m, work, n, at, s.size, s.link);
     }
 }
 
-// In blocks of one edge, which list none but edges at the node: the cursor at the entry p of a chain. The innermost step of every walk.
-fn listed(edges: &[u8], n: usize, work: &[u32], p: usize) -> Cursor
-    requires { ⌜ (n ≤ maxNodes) × Enough n (now work) ⌝ }
-    requires { ⌜ Within n (length (indexIn n (now work))) p ⌝ }
-    ensures { λ r. ⌜ AtEntry (now (edges .entry)) n (indexIn n (now (work .entry))) p r ⌝ }
+// By links, which list none but edges at the node: the cursor at the entry p of a chain. The innermost step of every walk.
+fn listed(edges: &[u8], n: usize, work: &[u32], at: usize, p: usize) -> Cursor
+    requires { ⌜ (at ≡ placeAt n) × (n ≤ maxNodes) × Enough n (now work) ⌝ }
+    requires { ⌜ Within n (2 * length (indexIn n (now work))) p ⌝ }
+    ensures { λ r. ⌜ AtEntry (now (edges .entry)) n (byLinks n (indexIn n (now (work .entry)))) p r ⌝ }
 {
     if p < n {
         let m = edges.len() / EDGE_SIZE;
@@ -136,8 +138,8 @@ fn listed(edges: &[u8], n: usize, work: &[u32], p: usize) -> Cursor
             size: 1,
         };
     }
-    let edge = block_in(work, n, p);
-    let link = next_in(work, n, p);
+    let edge = (p - n) / 2;
+    let link = link_in(work, n, at, p);
     Cursor {
         edge: edge,
         stop: edge + 1,
@@ -156,25 +158,35 @@ fn first_stop(edges: &[u8], size: usize) -> usize
     0
 }
 
+// The first edge at u, by blocks.
+fn first_in_blocks(edges: &[u8], n: usize, work: &[u32], at: usize, u: usize) -> Cursor
+    requires { ⌜ (at ≡ placeAt n) × (n ≤ maxNodes) × Enough n (now work) × (u < n) ⌝ }
+    requires { ⌜ IndexedEdges (now edges) n (now work) × (linked n (edgeCount (now edges)) ≡ false) ⌝ }
+    ensures { λ c. ⌜ PassedEdges (now (edges .entry)) n (now (work .entry)) u [] c ⌝ }
+{
+    let head = head_in(work, n, at, u);
+    let stop = first_stop(edges, head.block);
+    let c = Cursor {
+        edge: 0,
+        stop: stop,
+        link: head.next,
+        size: head.block,
+    };
+    seek(edges, n, work, at, u, c)
+}
+
 // A cursor at the first edge at u.
 pub fn first_edge(edges: &[u8], n: usize, work: &[u32], u: usize) -> Cursor
     requires { ⌜ (n ≤ maxNodes) × Enough n (now work) × (u < n) ⌝ }
     requires { ⌜ IndexedEdges (now edges) n (now work) ⌝ }
     ensures { λ c. ⌜ PassedEdges (now (edges .entry)) n (now (work .entry)) u [] c ⌝ }
 {
-    let size = block_size(work, n, u);
-    let link = first_link(work, n, u);
-    if size == 1 {
-        return listed(edges, n, work, link);
+    let at = index_at(n);
+    if is_linked(edges, n, at) {
+        let link = link_in(work, n, at, u);
+        return listed(edges, n, work, at, link);
     }
-    let stop = first_stop(edges, size);
-    let c = Cursor {
-        edge: 0,
-        stop: stop,
-        link: link,
-        size: size,
-    };
-    seek(edges, n, work, u, c)
+    first_in_blocks(edges, n, work, at, u)
 }
 
 // On to the next edge at u.
@@ -184,8 +196,9 @@ pub fn next_edge(edges: &[u8], n: usize, work: &[u32], u: usize, c: Cursor) -> C
     requires { ⌜ Valid (now edges) n (now work) u c × (c .edge < edgeCount (now edges)) ⌝ }
     ensures { λ r. ⌜ Stepped (now (edges .entry)) n (now (work .entry)) u c r ⌝ }
 {
+    let at = index_at(n);
     if c.size == 1 {
-        return listed(edges, n, work, c.link);
+        return listed(edges, n, work, at, c.link);
     }
     let from = Cursor {
         edge: c.edge + 1,
@@ -193,5 +206,5 @@ pub fn next_edge(edges: &[u8], n: usize, work: &[u32], u: usize, c: Cursor) -> C
         link: c.link,
         size: c.size,
     };
-    seek(edges, n, work, u, from)
+    seek(edges, n, work, at, u, from)
 }

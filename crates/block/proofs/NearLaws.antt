@@ -1,5 +1,5 @@
 -- The wanted set of a row's search, end by end, and the times with a search and without one. Assumes nothing.
-use Prim.Native.Nat.{ℕ, zero, suc, _+_, _*_, _≤_, _<_}
+use Prim.Native.Nat.{ℕ, zero, suc, _+_, _≤_, _<_}
 use native.Mathlib.Decide.{ℕ-discrete}
 use native.Mathlib.Omega.{arith}
 use mathlib.Core.Path.{_≡_, refl, sym, ap, _∙_, subst}
@@ -112,7 +112,7 @@ module _ (o : Bytes) (m : ℕ) (e : m ≡ nodeCount (nodeBody o)) (w : List ℕ)
 
   want-is : (x : List ℕ) → regionFlags m want x ≡ wantedIn o x
   unfolding wantIn
-  want-is x = let q : regionAt m want ≡ 3 * m = omega arith in rw (q, e)
+  want-is x = let q : regionAt m want ≡ searchWords m = omega arith in rw (q, e)
 
   pub want-has : (t : ℕ) → t < nodeCount (nodeBody o) → isIn (drop (regionAt m want) w) t ≡ true → 0 < at (wantedIn o w) t
   want-has t i h = rw (← want-is w) (omega (arith, flag-in m (drop (regionAt m want) w) t (omega (arith, e)) h))

@@ -3,23 +3,25 @@ use Prim.Native.Nat.{ℕ, _*_, _≤_, _<_}
 use native.Mathlib.Omega.{arith}
 use mathlib.Core.Path.{_≡_, sym, _∙_, ap}
 use mathlib.Core.List.{List, _++_}
-use lib.ListN.{length, getD, take, drop, length-append, length-drop}
-use lib.Seq.{length-take-le, getD-take, getD-drop, take-at}
+use lib.ListN.{length, take, drop, length-append, length-drop}
+use lib.Seq.{length-take-le, take-at}
 use Rattle.model.specs.Bytes.{Bytes}
 use Rattle.model.specs.Oracle.{startSize}
 use Rattle.grid.specs.declared.Grid.{Grid}
+use Rattle.words.specs.Halves.{half, halfWords}
 use Rattle.words.specs.Regions.{regionAt, countsIn, counts}
 use Rattle.emit.specs.Parts.{Counted, startsOf, listSizes}
 use Rattle.emit.specs.PartLaws.{starts-lists}
 use Rattle.passes.specs.Building.{accessOf, listIn}
 use Rattle.passes.specs.Stands.{whole, front, length-front, length-whole}
 use Rattle.passes.specs.BuildingLaws.{access-few}
+use Rattle.passes.proofs.Counting.{count-in}
 use Rattle.bodies.specs.Listed.{Based, Begun, Counts}
 use Rattle.bodies.proofs.CellLists.{length-its}
 
 module _ (b e : Bytes) (grid : Grid) (n : ℕ) (work : List ℕ) (based : Based b e grid n work) (all : Counts b e grid n work) where
-  pub count-is : (v : ℕ) → v < n → getD (countsIn n work) v 0 ≡ length (accessOf b e grid v)
-  count-is v h = getD-take n (drop (regionAt n counts) work) v 0 h ∙ (getD-drop (regionAt n counts) work v 0 ∙ all v h)
+  pub count-is : (v : ℕ) → v < n → half (countsIn n work) v ≡ length (accessOf b e grid v)
+  count-is v h = count-in n work v h ∙ all v h
 
   pub counted-all : Counted n (countsIn n work)
   counted-all = (
@@ -29,7 +31,7 @@ module _ (b e : Bytes) (grid : Grid) (n : ℕ) (work : List ℕ) (based : Based 
       based .words,
       based .some,
       length-drop (regionAt n counts) work,
-      length-take-le n (drop (regionAt n counts) work)
+      length-take-le (halfWords n) (drop (regionAt n counts) work)
           (simp length-drop (omega (arith, based .words, based .some))),
     ),
     λ v h. omega (arith, count-is v h, based .few, access-few b e grid n (based .count) v),

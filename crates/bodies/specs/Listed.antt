@@ -1,15 +1,15 @@
 -- Body 6 while its lists are written, cell by cell. Assumes nothing.
-use Prim.Native.Nat.{ℕ, _+_, _*_, _<_, _≤_}
+use Prim.Native.Nat.{ℕ, _*_, _<_, _≤_}
 use mathlib.Core.Path.{_≡_}
 use mathlib.Core.List.{List}
-use lib.ListN.{length, getD, take}
+use lib.ListN.{length, take}
 use Rattle.model.specs.Bytes.{Bytes}
 use Rattle.model.specs.Network.{maxNodes, nodeCount}
 use Rattle.model.specs.Oracle.{startSize}
 use Rattle.index.specs.Index.{IndexedEdges}
 use Rattle.grid.specs.declared.Grid.{Grid}
 use Rattle.crossing.specs.Ground.{cellsIn, Ground}
-use Rattle.words.specs.Regions.{regionAt, counts, transit}
+use Rattle.words.specs.Regions.{transit, countOf}
 use Rattle.passes.specs.Building.{accessOf, transitIn, listIn, membersIn}
 use Rattle.passes.specs.Covered.{Seen, SeenTo}
 use Rattle.passes.specs.Stands.{Stands, front, whole}
@@ -41,6 +41,6 @@ pub record ListedTo (nodes edges : Bytes) (grid : Grid) (n u v : ℕ) (body : By
   pub begun : Begun n (listIn nodes edges grid) body
   pub seen : SeenTo (cellsIn grid nodes) (Stands n (listIn nodes edges grid) body) n u v
 
--- Region COUNTS of the working words has the number of access nodes of each node.
+-- The count of each node in the working words is the number of its access nodes.
 abbrev pub Counts : Bytes → Bytes → Grid → ℕ → List ℕ → Type 0
-Counts nodes edges grid n work = (v : ℕ) → v < n → getD work (regionAt n counts + v) 0 ≡ length (accessOf nodes edges grid v)
+Counts nodes edges grid n work = (v : ℕ) → v < n → countOf n work v ≡ length (accessOf nodes edges grid v)

@@ -3,25 +3,26 @@ use Prim.Native.Nat.{ℕ, _+_, _≤_, _<_}
 use native.Mathlib.Omega.{arith}
 use mathlib.Core.Path.{_≡_, refl, _∙_, ap}
 use mathlib.Core.List.{List, [], _∷_, map, map-map}
-use lib.ListN.{length, getD, length-append}
+use lib.ListN.{length, length-append}
 use Rattle.model.specs.Lists.{concat, upTo, total}
 use Rattle.model.specs.Bytes.{Bytes}
 use Rattle.model.specs.Oracle.{listSize}
 use Rattle.theory.specs.RangeLaws.{rest, rest-all, rest-step, rest-end}
 use Rattle.theory.specs.Members.{range→}
+use Rattle.words.specs.Halves.{half}
 use Rattle.emit.specs.Parts.{listSizes}
 use Rattle.emit.specs.PartLaws.{map-same}
 
 module _ (counts : List ℕ) (n : ℕ) where
   -- The size of the lists from list v on.
   abbrev pub left : ℕ → ℕ
-  left v = total (map (λ u. listSize (getD counts u 0)) (rest v n))
+  left v = total (map (λ u. listSize (half counts u)) (rest v n))
 
   pub sum-all : total (listSizes n counts) ≡ left 0
   unfolding listSizes
   sum-all = rw (← rest-all n)
 
-  pub sum-step : (v : ℕ) → v < n → left v ≡ listSize (getD counts v 0) + left (v + 1)
+  pub sum-step : (v : ℕ) → v < n → left v ≡ listSize (half counts v) + left (v + 1)
   unfolding total
   sum-step v h = rw (rest-step v n h)
 
@@ -35,7 +36,7 @@ unfolding concat total
 length-concat [] = refl
 length-concat (l ∷ ls) = omega (arith, length-append l (concat ls), length-concat ls)
 
-pub length-lists : (f : ℕ → Bytes) (n : ℕ) (counts : List ℕ) → ((v : ℕ) → v < n → length (f v) ≡ listSize (getD counts v 0))
+pub length-lists : (f : ℕ → Bytes) (n : ℕ) (counts : List ℕ) → ((v : ℕ) → v < n → length (f v) ≡ listSize (half counts v))
     → length (concat (map f (upTo n))) ≡ total (listSizes n counts)
 unfolding listSizes
 length-lists f n counts h =

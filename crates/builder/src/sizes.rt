@@ -17,9 +17,10 @@ use codec::records::VALUE_SIZE;
 use contents::NETWORK_HEAD;
 use contents::ORACLE_ENTRIES;
 use contents::ORACLE_HEAD;
+use words::halves::half_of;
 use words::regions::counts;
 
-// The size of n lists with these numbers of entries.
+// The size of n lists with these numbers of entries, two to a word.
 fn lists_size(counts: &[u32], n: usize) -> usize
     requires { ⌜ Counted n (now counts) ⌝ }
     ensures { λ r. ⌜ (r ≡ total (listSizes n (now (counts .entry)))) × (r ≤ listSize maxNodes * n) ⌝ }
@@ -27,7 +28,7 @@ fn lists_size(counts: &[u32], n: usize) -> usize
     let mut sum = 0;
     let mut v = 0;
     while v < n {
-        sum += list_size(counts[v] as usize);
+        sum += list_size(half_of(counts, v));
         v += 1;
     }
     sum

@@ -13,6 +13,7 @@ use Rattle.model.specs.Network.{maxNodes}
 use Rattle.model.specs.Oracle.{startSize, listSize}
 use Rattle.theory.specs.RangeLaws.{rest, rest-all, rest-step, rest-end}
 use Rattle.theory.specs.FileLaws.{nine}
+use Rattle.words.specs.Halves.{half}
 use Rattle.emit.specs.Parts.{entriesOf, headBytes, startsOf, listSizes}
 use Rattle.emit.specs.Records.{Wrote}
 use Rattle.emit.proofs.Writing.{Then}
@@ -23,7 +24,7 @@ use Rattle.theory.specs.Splices.{splice-byte, splice-then}
 module _ (counts : List ℕ) (n : ℕ) where
   -- The starts from list v on, which starts at `start`.
   abbrev pub startsFrom : ℕ → ℕ → Bytes
-  startsFrom start v = startsOf start (map (λ u. listSize (getD counts u 0)) (rest v n))
+  startsFrom start v = startsOf start (map (λ u. listSize (half counts u)) (rest v n))
 
   -- The latest start of list v.
   abbrev pub latest : ℕ → ℕ
@@ -33,12 +34,12 @@ module _ (counts : List ℕ) (n : ℕ) where
   unfolding listSizes
   starts-all = rw (← rest-all n)
 
-  module _ (v start size : ℕ) (e : size ≡ listSize (getD counts v 0)) where
+  module _ (v start size : ℕ) (e : size ≡ listSize (half counts v)) where
     pub starts-step : v < n → Then (startsFrom start v) (bytes32 start) (startsFrom (start + size) (v + 1))
     unfolding startsOf
     starts-step h = record { is = rw (rest-step v n h, e) }
 
-    pub start-latest : getD counts v 0 ≤ maxNodes → start ≤ latest v → start + size ≤ latest (v + 1)
+    pub start-latest : half counts v ≤ maxNodes → start ≤ latest v → start + size ≤ latest (v + 1)
     start-latest h l = omega arith
 
   pub starts-end : (v start : ℕ) → n ≤ v → startsFrom start v ≡ []

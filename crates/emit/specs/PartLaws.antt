@@ -15,6 +15,7 @@ use Rattle.theory.specs.Members.{range→}
 use Rattle.theory.specs.FileLaws.{nine, entries-step}
 use Rattle.theory.specs.ReadLaws.{length-concatMap, length-value, value-recoded}
 use Rattle.theory.specs.ReadLaws as read
+use Rattle.words.specs.Halves.{half}
 use Rattle.emit.specs.Parts.{entriesOf, headBytes, numbersBytes, timeBytes, rowBytes, startsOf, listSizes, indexedBytes, listBytesOf}
 
 -- ---- lists made number by number
@@ -93,7 +94,7 @@ starts-sizes at [] = refl
 starts-sizes at (l ∷ ls) = ap (λ (r : Bytes). bytes32 at ++ r) (starts-sizes (at + length l) ls)
 
 -- n lists with these numbers of entries.
-pub starts-lists : (f : ℕ → Bytes) (n : ℕ) (counts : List ℕ) → ((v : ℕ) → v < n → length (f v) ≡ listSize (getD counts v 0))
+pub starts-lists : (f : ℕ → Bytes) (n : ℕ) (counts : List ℕ) → ((v : ℕ) → v < n → length (f v) ≡ listSize (half counts v))
     → starts (startSize * n) (map f (upTo n)) ≡ startsOf (startSize * n) (listSizes n counts)
 unfolding listSizes
 starts-lists f n counts h =

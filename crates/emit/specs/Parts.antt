@@ -1,5 +1,5 @@
 -- The parts of an oracle as bytes, from the sizes of the bodies, the members of the sets and the times as words. Assumes nothing.
-use Prim.Native.Nat.{ℕ, suc, _+_, _<_, _≤_}
+use Prim.Native.Nat.{ℕ, suc, _+_, _*_, _<_, _≤_}
 use mathlib.Core.List.{List, [], _∷_, _++_, map}
 use lib.ListN.{length, getD}
 use Rattle.model.specs.Lists.{concatMap, indexOf, upTo}
@@ -8,6 +8,7 @@ use Rattle.model.specs.Contents.{entryAt}
 use Rattle.model.specs.Network.{maxNodes}
 use Rattle.model.specs.Oracle.{valueBytes, decoded, listSize}
 use Rattle.theory.specs.FileLaws.{nine}
+use Rattle.words.specs.Halves.{half}
 
 -- ---- the head of a file
 
@@ -38,13 +39,13 @@ unfoldable pub startsOf : ℕ → List ℕ → Bytes
 startsOf at [] = []
 startsOf at (s ∷ ss) = bytes32 at ++ startsOf (at + s) ss
 
--- The sizes of the first n lists.
+-- The sizes of the first n lists, from their numbers of entries, two to a word.
 unfoldable pub listSizes : ℕ → List ℕ → List ℕ
-listSizes n counts = map (λ v. listSize (getD counts v 0)) (upTo n)
+listSizes n counts = map (λ v. listSize (half counts v)) (upTo n)
 
 -- Each of the first n lists has a number of entries, which is at most that of all nodes.
 abbrev pub Counted : ℕ → List ℕ → Type 0
-Counted n counts = (n ≤ maxNodes) × (n ≤ length counts) × ((v : ℕ) → v < n → getD counts v 0 ≤ maxNodes)
+Counted n counts = (n ≤ maxNodes) × (n ≤ 2 * length counts) × ((v : ℕ) → v < n → half counts v ≤ maxNodes)
 
 -- An entry with this index for node a.
 unfoldable pub indexedBytes : List ℕ → ℕ → ℕ → Bytes

@@ -1,5 +1,6 @@
 -- The index laid into the lent words, and the lent words changed elsewhere. Assumes nothing.
 use Prim.Native.Nat.{ℕ, _+_, _-_, _<_, _≤_}
+use native.Mathlib.Decide.{decLe}
 use native.Mathlib.Omega.{arith}
 use mathlib.Core.Path.{_≡_, sym, ap, _∙_, subst}
 use mathlib.Core.Bool.{false}
@@ -8,16 +9,20 @@ use borrow.Rule.Slice.PartMut.{midOf, postOf, putMid, mid-len, take-put, drop-pu
 use lib.ListN.{length, take, drop}
 use lib.Seq.{length-take-le, take-at, drop-at}
 use Rattle.model.specs.Bytes.{Bytes}
-use Rattle.model.specs.Network.{someEdgeBroken}
+use Rattle.model.specs.Network.{edgeCount, someEdgeBroken}
 use Rattle.words.specs.Frames.{KeptFrom, OnlyIn, Enough}
 use Rattle.words.proofs.Stays.{kept-more}
 use Rattle.model.specs.Rules.{workWords}
 use Rattle.index.specs.Index.{Indexed, IndexOf, IndexedEdges}
-use Rattle.index.proofs.Listing.{cleared-index}
-use Rattle.words.specs.Regions.{indexAt, indexIn}
-use Rattle.index.proofs.Places.{no-word}
+use Rattle.index.proofs.Listing.{cleared-index, no-nodes}
+use Rattle.words.specs.Regions.{indexAt, indexWords, indexIn}
+use Rattle.index.proofs.Places.{no-word, not-linked}
 
--- The words ys are laid at a, the place of the index.
+-- The words that are lent from a on, the place of the index.
+pub part-length : (n a : ℕ) (w : List ℕ) → a ≡ indexAt n → 2 ≤ n → Enough n w → length (midOf a (workWords n - a) w) ≡ indexWords n
+part-length n a w e l h = mid-len a (workWords n) w h ∙ omega arith
+
+-- The words ys are laid there.
 laid-same : (n a : ℕ) (w ys : List ℕ) → a ≡ indexAt n → 2 ≤ n → Enough n w → length ys ≡ workWords n - a → indexIn n (putMid a (workWords n - a) w ys) ≡ ys
 unfolding indexIn
 laid-same n a w ys e l h size =
@@ -26,13 +31,14 @@ laid-same n a w ys e l h size =
     ∙ take-at ys (postOf a (workWords n - a) w) (workWords n - a) size
 
 module _ (edges : Bytes) (n : ℕ) (ends : someEdgeBroken n edges ≡ false) where
-  -- For one node.
+  -- For one node, and for none.
   pub no-index : (w : List ℕ) → Enough n w → n < 2 → IndexedEdges edges n w
-  no-index w h l = record {
-    ends = ends;
-    indexed = cleared-index n (indexIn n w)
-        (λ x p. no-word n w h l x ∙ omega arith, λ x p. no-word n w h l x) edges;
-  }
+  no-index w h l = record { ends = ends; indexed = pick (decLe 1 n) }
+    where
+      pick : Dec (1 ≤ n) → Indexed edges n w
+      pick (yes o) =
+          cleared-index edges n (indexIn n w) (not-linked n (edgeCount edges) o l) (λ x p. no-word n w h l x ∙ omega arith, λ x p. no-word n w h l x)
+      pick (no d) = no-nodes edges n (indexIn n w) (omega arith)
 
   pub laid-index : (a : ℕ) (w ys : List ℕ) → a ≡ indexAt n → 2 ≤ n → Enough n w → length ys ≡ length (midOf a (workWords n - a) w) → IndexOf edges n ys
       → IndexedEdges edges n (putMid a (workWords n - a) w ys)

@@ -1,6 +1,6 @@
--- The laws that the proofs cite; `Listing`, `Taken` and `Seeking` have those for callers.
+-- The laws that the proofs cite; `Listing`, `Taken`, `Seeking` and `Counting` have those for callers.
 pub mod Listing
 pub mod Taken
 pub mod Seeking
-mod Counting
+pub mod Counting
 mod Passing

@@ -5,8 +5,7 @@ use mathlib.Core.Path.{_≡_, refl, sym, ap, _∙_}
 use mathlib.Core.Logic.{_↔_, _⊎_, inl, inr, ⊎-elim}
 use mathlib.Core.Bool.{Bool, true, false, cond, false≢true}
 use mathlib.Core.List.{List, List·Memᴰ}
-use lib.ListN.{length, getD, drop, replicate}
-use lib.Seq.{getD-drop}
+use lib.ListN.{length, drop, replicate}
 use Rattle.model.specs.Bytes.{Bytes}
 use Rattle.model.specs.Network.{nodeCount}
 use Rattle.model.specs.Grid.{Cell}
@@ -17,12 +16,14 @@ use Rattle.grid.specs.declared.Grid.{Grid}
 use Rattle.crossing.specs.Sets.{either, ones}
 use Rattle.crossing.specs.Cells.{sameCell, firstOfCell, same-cell}
 use Rattle.crossing.specs.Ground.{cellsIn, Ground}
-use Rattle.words.specs.Regions.{regionAt, regionFlags, own, transit, counts, indexAt}
+use Rattle.words.specs.Halves.{halfWords}
+use Rattle.words.specs.Regions.{regionAt, regionFlags, own, transit, counts, countOf, indexAt}
 use Rattle.words.proofs.Windows.{flags-before}
 use Rattle.access.proofs.Flagging.{either-flagged}
 use Rattle.passes.specs.Building.{accessOf, transitIn, membersIn}
 use Rattle.passes.specs.Covered.{Covered, Beside, seen-none, seen-later, seen-all, to-all}
 use Rattle.passes.specs.Passed.{Told, CellsPassed}
+use Rattle.passes.proofs.Counting.{count-kept}
 use Rattle.passes.proofs.Listing.{flagged-member, count-members}
 use Rattle.passes.specs.BuildingLaws.{same-access, in-transit}
 use Rattle.passes.proofs.Taken.{transit-needed, members-transit}
@@ -48,8 +49,8 @@ module _ (b e : Bytes) (grid : Grid) (n : ℕ) where
       (mine : membersIn n own x ≡ accessOf b e grid u) (rest : KeptFrom (regionAt n transit) w x)
       (united : regionFlags n transit y ≡ either (regionFlags n own x) (regionFlags n transit x)) (apart : Only n transit x y)
       (k : ℕ) (count : k ≡ ones (regionFlags n own x))
-      (put : (v : ℕ) → v < n → getD z (regionAt n counts + v) 0 ≡ cond (sameCell cs u v) k (getD y (regionAt n counts + v) 0))
-      (alone : OnlyIn (regionAt n counts) n y z) where
+      (put : (v : ℕ) → v < n → countOf n z v ≡ cond (sameCell cs u v) k (countOf n y v))
+      (alone : OnlyIn (regionAt n counts) (halfWords n) y z) where
     joined : (a : ℕ) → List·Memᴰ a (membersIn n transit z) ↔ (List·Memᴰ a (accessOf b e grid u) ⊎ List·Memᴰ a (membersIn n transit w))
     joined a =
         let i = flagged-member n transit z a in
@@ -63,12 +64,12 @@ module _ (b e : Bytes) (grid : Grid) (n : ℕ) where
           λ m. i .0 (rw f (d .1 (⊎-elim (λ p. inl (j .1 p)) (λ p. inr (rw t (l .1 p))) m))),
         )
 
-    -- The words of the others stay.
-    stayed : (v : ℕ) → getD y (regionAt n counts + v) 0 ≡ getD w (regionAt n counts + v) 0
-    stayed v =
+    -- The counts of the others stay.
+    stayed : (v : ℕ) → v < n → countOf n y v ≡ countOf n w v
+    stayed =
         let r = kept-more (regionAt n transit) (regionAt n counts) w x (omega arith) rest in
         let s = after-kept _ _ x y apart (regionAt n counts) (omega arith) in
-        sym (getD-drop (regionAt n counts) y v 0) ∙ (ap (λ (l : List ℕ). getD l v 0) (s ∙ r) ∙ getD-drop (regionAt n counts) w v 0)
+        count-kept n w y (s ∙ r)
 
     -- A node of the cell of u, and one of another.
     told-same : (v : ℕ) → v < n → sameCell cs u v ≡ true → Told b e grid n z v
@@ -80,7 +81,7 @@ module _ (b e : Bytes) (grid : Grid) (n : ℕ) where
         }
 
     told-other : (v : ℕ) → v < n → sameCell cs u v ≡ false → Told b e grid n w v → Told b e grid n z v
-    told-other v l s t = record { counted = put v l ∙ rw s (stayed v ∙ t .counted); members = λ a m. joined a .1 (inr (t .members a m)) }
+    told-other v l s t = record { counted = put v l ∙ rw s (stayed v l ∙ t .counted); members = λ a m. joined a .1 (inr (t .members a m)) }
 
     told : (v : ℕ) → v < n → Covered cs u v ⊎ Beside cs u n v → Told b e grid n z v
     told v l d = pick (sameCell cs u v) refl d
@@ -102,7 +103,7 @@ module _ (b e : Bytes) (grid : Grid) (n : ℕ) where
 
   -- All nodes are passed.
   pub passed-all : Ground b e grid → n ≡ nodeCount b → (u : ℕ) (w : List ℕ) → n ≤ u → CellsPassed b e grid n u w
-      → (membersIn n transit w ≡ transitIn b e grid) × ((v : ℕ) → v < n → getD w (regionAt n counts + v) 0 ≡ length (accessOf b e grid v))
+      → (membersIn n transit w ≡ transitIn b e grid) × ((v : ℕ) → v < n → countOf n w v ≡ length (accessOf b e grid v))
   passed-all ground size u w l g =
       let t = seen-all cs (Told b e grid n w) n u l (g .seen) in (
         members-transit b e grid n size transit w (λ a m. let d = g .sound a m in in-transit b e grid n size (d .by) (d .below) a (d .listed))

@@ -1,12 +1,12 @@
 -- The first pass over the cells: what region TRANSIT and region COUNTS hold when the nodes below u are passed. Assumes nothing.
-use Prim.Native.Nat.{ℕ, _+_, _<_}
+use Prim.Native.Nat.{ℕ, _<_}
 use mathlib.Core.Path.{_≡_}
 use mathlib.Core.List.{List, List·Memᴰ}
-use lib.ListN.{length, getD}
+use lib.ListN.{length}
 use Rattle.model.specs.Bytes.{Bytes}
 use Rattle.grid.specs.declared.Grid.{Grid}
 use Rattle.crossing.specs.Ground.{cellsIn}
-use Rattle.words.specs.Regions.{regionAt, transit, counts}
+use Rattle.words.specs.Regions.{transit, countOf}
 use Rattle.passes.specs.Building.{accessOf, membersIn}
 use Rattle.passes.specs.Covered.{Seen}
 
@@ -17,9 +17,9 @@ module _ (b e : Bytes) (grid : Grid) (n : ℕ) where
     pub below : by < n
     pub listed : List·Memᴰ a (accessOf b e grid by)
 
-  -- v is seen to: its word is the number of its access nodes, and these are in region TRANSIT.
+  -- v is seen to: its count is the number of its access nodes, and these are in region TRANSIT.
   pub record Told (w : List ℕ) (v : ℕ) : Type 0 where
-    pub counted : getD w (regionAt n counts + v) 0 ≡ length (accessOf b e grid v)
+    pub counted : countOf n w v ≡ length (accessOf b e grid v)
     pub members : (a : ℕ) → List·Memᴰ a (accessOf b e grid v) → List·Memᴰ a (membersIn n transit w)
 
   pub record CellsPassed (u : ℕ) (w : List ℕ) : Type 0 where

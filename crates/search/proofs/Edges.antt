@@ -11,9 +11,10 @@ use Rattle.model.specs.Bytes.{Bytes}
 use Rattle.model.specs.Walk.{Arc}
 use Rattle.model.specs.Network.{edge, edgeCount, someEdgeBroken}
 use Rattle.model.specs.Oracle.{noWalk}
+use Rattle.theory.specs.Sound.{edge-fine}
 use Rattle.algorithms.specs.Dijkstra.{at, relax, relax-all, relax-all-le, relax-all-same, relax-append}
 use Rattle.heap.specs.Queue.{lowered}
-use Rattle.words.specs.Frames.{KeptFrom}
+use Rattle.words.specs.Frames.{Enough, KeptFrom}
 use Rattle.words.specs.Regions.{frontIn, timesIn, searchWords, indexAt}
 use Rattle.words.proofs.Parts.{front-is}
 use Rattle.words.proofs.Stays.{kept-more}
@@ -29,6 +30,10 @@ use Rattle.arcs.proofs.Kept.{edges-kept, passing-kept}
 use Rattle.arcs.proofs.Passes.{Other, left-some, over-more}
 use Rattle.arcs.proofs.Same.{passing-all, arcs-same→, →arcs-same}
 use Rattle.search.specs.Holds.{Holds, Relaxed, SettledWithin}
+
+-- Where there is an edge, there is room for a search.
+pub edge-room : (n : ℕ) (edges : Bytes) (i : ℕ) (w : List ℕ) → someEdgeBroken n edges ≡ false → i < edgeCount edges → Enough n w → searchWords n ≤ length w
+edge-room n edges i w ends h long = omega (arith, edge-fine n edges ends i h .first-in)
 
 -- ---- one edge i at u: s and v are its seconds and its other end, as the code has read them
 module _ (edges lines : Bytes) (n u i : ℕ) (ends : someEdgeBroken n edges ≡ false) (h : i < edgeCount edges) (end : EndAt edges lines u i)

@@ -51,7 +51,7 @@ module _ (b lines : Bytes) (n e u d : ℕ) (w₀ : List ℕ) where
     others = refl;
   }
 
-  -- An arc is relaxed: ys come back for the first 3 n words of w.
+  -- An arc is relaxed: ys come back for the words of the search in w.
   module _ (a : ArcAt) (k : ℕ) (w ys : List ℕ) (g : RelaxedArcs b lines n e u d w₀ a w k) (long : searchWords n ≤ length w)
       (same : length ys ≡ length (take (searchWords n) w)) where
     abbrev whole : List ℕ

@@ -14,8 +14,8 @@ use crate::rounds::finish;
 use crate::rounds::round;
 
 // Searches from s over the edges as the lines of a sheet leave them, among two nodes or more: one alone has no edge, and nothing is searched there. In the
-// first 3 n words then stand the times of all n nodes, and from position e of the order on the nodes that are reached, each once and the farthest first. The
-// others stay. Left open: which of equally far nodes stands first, and what the other words of the 3 n are.
+// words of a search then stand the times of all n nodes, and from position e of the order on the nodes that are reached, each once and the farthest first. The
+// others stay. Left open: which of equally far nodes stands first, and what the other words of the search are.
 pub fn search_front_under(edges: &[u8], lines: &[u8], n: usize, s: usize, work: &mut [u32]) -> usize
     requires { ⌜ (n ≤ maxNodes) × (s < n) × Enough n (now work) × (2 ≤ n) ⌝ }
     requires { ⌜ EdgesUnder (now edges) (now lines) n (now work) ⌝ }

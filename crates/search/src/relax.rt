@@ -23,10 +23,10 @@ use codec::records::NO_WALK;
 use codec::records::edge_first;
 use codec::records::edge_second;
 use sheet::spans::seconds_left;
-use words::regions::SEARCH;
+use words::regions::search_words;
 use words::times::time_of;
 
-// Relaxes the arcs out of u, than which no settled node is farther, in the first 3 n words. The number of nodes held.
+// Relaxes the arcs out of u, than which no settled node is farther, in the words of the search. The number of nodes held.
 fn relax_plain(edges: &[u8], work: &mut [u32], n: usize, k: usize, e: usize, u: usize) -> usize
     requires { ⌜ Holds n k e (frontIn n (now work)) × (u < n) × SettledWithin n (at (timesIn n (frontIn n (now work))) u) (frontIn n (now work)) ⌝ }
     requires { ⌜ EdgesUnder (now edges) [] n (now work) × Enough n (now work) ⌝ }
@@ -36,7 +36,7 @@ fn relax_plain(edges: &[u8], work: &mut [u32], n: usize, k: usize, e: usize, u: 
     ensures others { λ _. ⌜ KeptFrom (searchWords n) (now (work .entry)) (now (work .exit)) ⌝ }
 {
     let d = time_of(work, n, u) as u64;
-    let front = SEARCH * n;
+    let front = search_words(n);
     let mut held = k;
     let c = first_edge(edges, n, work, u);
     let mut a = arc_at(edges, n, u, c);
@@ -72,7 +72,7 @@ fn offer_edge(
         return k;
     }
     let v = other_end(edge_first(edges, i), edge_second(edges, i), u);
-    let front = SEARCH * n;
+    let front = search_words(n);
     offer_in(&mut work[..front], n, k, e, v, d + s as u64)
 }
 

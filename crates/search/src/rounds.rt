@@ -15,7 +15,7 @@ use crate::regions::plain_order;
 use crate::regions::reset;
 use crate::regions::settle_nearest;
 use crate::relax::relax;
-use words::regions::SEARCH;
+use words::regions::search_words;
 
 // Only s is reached, and no node is settled. The number of nodes held.
 pub fn begin(work: &mut [u32], n: usize, s: usize) -> usize
@@ -25,7 +25,7 @@ pub fn begin(work: &mut [u32], n: usize, s: usize) -> usize
     ensures settled { λ _. ⌜ settledIn n (frontIn n (now (work .exit))) ≡ replicate n 0 ⌝ }
     ensures others { λ _. ⌜ KeptFrom (searchWords n) (now (work .entry)) (now (work .exit)) ⌝ }
 {
-    let m = SEARCH * n;
+    let m = search_words(n);
     reset(&mut work[..m], n, s)
 }
 
@@ -37,18 +37,18 @@ pub fn round(edges: &[u8], lines: &[u8], n: usize, k: usize, e: usize, work: &mu
         (frontIn n (now (work .exit))) r ⌝ }
     ensures others { λ _. ⌜ KeptFrom (searchWords n) (now (work .entry)) (now (work .exit)) ⌝ }
 {
-    let m = SEARCH * n;
+    let m = search_words(n);
     let u = settle_nearest(&mut work[..m], n, k, e);
     relax(edges, lines, work, n, k - 1, e - 1, u)
 }
 
 // What a search leaves: the settled nodes alone, from position e on.
 pub fn finish(work: &mut [u32], n: usize, e: usize)
-    requires { ⌜ (searchWords n ≤ length (now work)) × (e ≤ n) ⌝ }
+    requires { ⌜ (n ≤ maxNodes) × (searchWords n ≤ length (now work)) × (e ≤ n) ⌝ }
     ensures times { λ _. ⌜ timesIn n (now (work .exit)) ≡ timesIn n (frontIn n (now (work .entry))) ⌝ }
     ensures order { λ _. ⌜ orderIn n e (now (work .exit)) ≡ settleOrder n e (frontIn n (now (work .entry))) ⌝ }
     ensures others { λ _. ⌜ KeptFrom (searchWords n) (now (work .entry)) (now (work .exit)) ⌝ }
 {
-    let m = SEARCH * n;
+    let m = search_words(n);
     plain_order(&mut work[..m], n, e);
 }

@@ -17,14 +17,14 @@ use crate::rounds::finish;
 use crate::rounds::round;
 use bitset::bits::contains;
 use heap::positions::HALF;
-use words::regions::SEARCH;
+use words::regions::search_words;
 
 // How many wanted nodes are lacking, where `left` were before the node at position e of the order was settled.
 fn left_then(work: &[u32], n: usize, e: usize, left: usize) -> usize
-    requires { ⌜ (e < n) × (0 < left) × Enough n (now work) × (low (getD (now work) (n + e) 0) < n) ⌝ }
+    requires { ⌜ (n ≤ maxNodes) × (e < n) × (0 < left) × Enough n (now work) × (low (getD (now work) (n + e) 0) < n) ⌝ }
     ensures { λ r. ⌜ r ≡ left - at (wantIn n (now (work .entry))) (low (getD (now (work .entry)) (n + e) 0)) ⌝ }
 {
-    let m = SEARCH * n;
+    let m = search_words(n);
     let u = (work[n + e] % HALF) as usize;
     if contains(&work[m..], u) {
         return left - 1;
@@ -33,9 +33,9 @@ fn left_then(work: &[u32], n: usize, e: usize, left: usize) -> usize
 }
 
 // Searches from s over the edges as the lines of a sheet leave them, among two nodes or more, until every wanted node is settled, of which there are at most
-// `left`, or no reached node is left. The wanted nodes are a set whose bits stand from 3 n on. In the first 3 n words then stand the times of the settled nodes
-// and of the wanted ones, and from position e of the order on the settled nodes, the farthest first. The others stay. Left open: which of equally far nodes
-// stands first, and what the other words of the 3 n are.
+// `left`, or no reached node is left. The wanted nodes are a set whose bits stand behind the words of the search. In those then stand the times of the settled
+// nodes and of the wanted ones, and from position e of the order on the settled nodes, the farthest first. The others stay. Left open: which of equally far
+// nodes stands first, and what the other words of the search are.
 pub fn search_wanted_under(
     edges: &[u8],
     lines: &[u8],

@@ -3,3 +3,4 @@ pub mod Stays
 pub mod Parts
 pub mod Windows
 pub mod TimeLaws
+pub mod HalfLaws

@@ -1,38 +1,65 @@
 -- Where the regions stand; the words of one of them changed, and the regions apart from it. Assumes nothing.
 use Prim.Native.Nat.{ℕ, zero, suc, _+_, _-_, _*_, _/_, _≤_, _<_}
 use native.Mathlib.Nat.{add-zero, suc-mul}
-use native.Mathlib.Decide.{decLt}
+use native.Mathlib.Decide.{ℕ-discrete, decLt, decLe}
 use native.Mathlib.Omega.{arith}
 use mathlib.Core.Path.{_≡_, sym, ap, _∙_}
 use mathlib.Core.List.{List, _++_}
+use borrow.Author.Tests.{le-leb, lt-leb}
+use lib.Dec.{leb}
 use borrow.Rule.Slice.PartMut.{midOf, postOf, putMid, take-put, drop-put, mid-len}
 use lib.ListN.{length, set, take, drop, replicate, length-drop}
 use lib.Seq.{length-take-le, take-at, drop-at, getD-take}
+use Rattle.model.specs.Rules.{workWords}
 use Rattle.bitset.specs.Bits.{setWords, isIn, insertIn, flags}
 use Rattle.bitset.proofs.Members.{flags-same, flags-insert, flags-none, insert-is, insert-from}
-use Rattle.words.specs.Regions.{searchWords, regionAt, region, regionFlags}
+use Rattle.words.specs.Halves.{halfWords}
+use Rattle.words.specs.Regions.{queueWords, searchWords, regionAt, region, regionFlags, counts, spansAt, indexAt, placeAt, indexWords}
 use Rattle.words.specs.Frames.{OnlyIn, Only, KeptFrom}
 use Rattle.words.proofs.Stays.{kept-more, before-kept, after-kept, only-set}
 
 -- ---- where the regions stand
-pub at-words : (n k : ℕ) → k < 3 → k * n ≡ regionAt n k
+pub at-words : (n k : ℕ) → k < 2 → k * n ≡ regionAt n k
 at-words n zero h = omega arith
 at-words n (suc zero) h = omega arith
-at-words n (suc (suc zero)) h = omega arith
-at-words n (suc (suc (suc k))) h = absurd (omega arith)
+at-words n (suc (suc k)) h = absurd (omega arith)
 
-pub at-sets : (n k : ℕ) → 3 ≤ k → searchWords n + (k - 3) * setWords n ≡ regionAt n k
+pub at-sets : (n k : ℕ) → 2 ≤ k → queueWords n + (k - 2) * setWords n ≡ regionAt n k
 at-sets n zero h = absurd (omega arith)
 at-sets n (suc zero) h = absurd (omega arith)
-at-sets n (suc (suc zero)) h = absurd (omega arith)
-at-sets n (suc (suc (suc k))) h = let e : suc (suc (suc k)) - 3 ≡ k = omega arith in rw e
+at-sets n (suc (suc k)) h = let e : suc (suc k) - 2 ≡ k = omega arith in rw e
+
+-- Whether k numbers of 16 bits fit into the index, as the code has it.
+pub fits-same : (n k : ℕ) → 0 < k → leb (k + 2 * placeAt n) (2 * workWords n) ≡ leb k (2 * indexWords n)
+fits-same n k h = pick (decLe (k + 2 * placeAt n) (2 * workWords n))
+  where
+    pick : Dec (k + 2 * placeAt n ≤ 2 * workWords n) → leb (k + 2 * placeAt n) (2 * workWords n) ≡ leb k (2 * indexWords n)
+    pick (yes l) = le-leb (k + 2 * placeAt n) (2 * workWords n) l ∙ sym (le-leb k (2 * indexWords n) (omega arith))
+    pick (no l) = lt-leb (k + 2 * placeAt n) (2 * workWords n) (omega arith) ∙ sym (lt-leb k (2 * indexWords n) (omega arith))
+
+-- From two nodes on the index has a word for each.
+pub index-fits : (n : ℕ) → 2 ≤ n → indexAt n + n ≤ workWords n
+index-fits n h = pick (ℕ-discrete n 2)
+  where
+    pick : Dec (n ≡ 2) → indexAt n + n ≤ workWords n
+    pick (yes e) = rw e (omega arith)
+    pick (no d) = omega (arith, d)
+
+-- From two nodes on there is room for what later requests take: beside the counts another number of 16 bits for each node (T-07), and in an opened oracle these
+-- numbers, two numbers of the grid (T-11) and a span.
+pub room-left : (n : ℕ) → 2 ≤ n → (regionAt n counts + 2 * halfWords n ≤ indexAt n) × (spansAt n + 2 + halfWords n < indexAt n)
+room-left n h = (omega arith, pick (ℕ-discrete n 2) (ℕ-discrete n 3))
+  where
+    pick : Dec (n ≡ 2) → Dec (n ≡ 3) → spansAt n + 2 + halfWords n < indexAt n
+    pick (yes e) d = rw e (omega arith)
+    pick (no d) (yes e) = rw e (omega arith)
+    pick (no d) (no e) = omega (arith, d, e)
 
 -- The set in a region ends before the next region begins.
 set-end : (n j : ℕ) → 0 < n → regionAt n j + setWords n ≤ regionAt n (suc j)
 set-end n zero h = omega arith
 set-end n (suc zero) h = omega arith
-set-end n (suc (suc zero)) h = omega arith
-set-end n (suc (suc (suc j))) h = omega (arith, suc-mul j (setWords n))
+set-end n (suc (suc j)) h = omega (arith, suc-mul j (setWords n))
 
 before : (n j i : ℕ) → 0 < n → regionAt n j + setWords n ≤ regionAt n (suc j + i)
 before n j zero h = rw (add-zero (suc j)) (set-end n j h)
@@ -123,6 +150,12 @@ module _ (n j k : ℕ) (w w′ : List ℕ) (differ : j ≡ k → ⊥) (o : Only 
   pub flags-kept : regionFlags n j w′ ≡ regionFlags n j w
   flags-kept = flags-same n (drop (regionAt n j) w′) (drop (regionAt n j) w) (λ v h. in-kept v h)
 
--- A set behind the words of a search, which leaves the words from there on.
+-- The sets behind the words of a search, which leaves the words from there on.
+behind-search : (n k : ℕ) → 3 ≤ k → searchWords n ≤ regionAt n k
+behind-search n zero h = absurd (omega arith)
+behind-search n (suc zero) h = absurd (omega arith)
+behind-search n (suc (suc zero)) h = absurd (omega arith)
+behind-search n (suc (suc (suc k))) h = omega (arith, suc-mul k (setWords n))
+
 pub region-later : (n k : ℕ) (w w′ : List ℕ) → 3 ≤ k → KeptFrom (searchWords n) w w′ → region n k w′ ≡ region n k w
-region-later n k w w′ h e = ap (take (setWords n)) (kept-more (searchWords n) (regionAt n k) w w′ (omega (arith, at-sets n k h)) e)
+region-later n k w w′ h e = ap (take (setWords n)) (kept-more (searchWords n) (regionAt n k) w w′ (behind-search n k h) e)

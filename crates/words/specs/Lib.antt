@@ -1,3 +1,4 @@
+pub mod Halves
 pub mod Regions
 pub mod Frames
 pub mod Times

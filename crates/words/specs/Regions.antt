@@ -1,32 +1,32 @@
 -- What stands where in the working words, document 01's "8 × N words of 32 bits" (`workWords n` of them, model Rules). Assumes nothing.
---   0              a time for each node
---   n              the queue of a search, and its settle order when it has ended
---   2 n            the settled set of a search, and after it the marks
---   3 n            sets of nodes, one bit a node: wanted, own, gathered, transit; an opened oracle has its grid behind the wanted set, and a day sheet's
---                  spans behind the grid, up to the index
---   3 n + 4 sets   a number for each node
---   behind it      the index of the edges
-use Prim.Native.Nat.{ℕ, zero, suc, _+_, _-_, _*_}
+--   0                a time for each node
+--   n                the queue of a search, and its settle order when it has ended
+--   2 n              sets of nodes, one bit a node: settled, and after a search the marks; wanted; own; gathered; transit
+--   2 n + 5 sets     a number of 16 bits for each node, two to a word: the counts
+--   behind them      room that is not in use
+--   indexAt n        the index of the edges, up to the end
+-- An opened oracle has its grid behind the wanted set, and a day sheet's spans behind the grid, up to the index.
+use Prim.Native.Nat.{ℕ, zero, suc, _+_, _-_, _*_, min}
 use mathlib.Core.List.{List}
 use lib.ListN.{take, drop}
 use Rattle.model.specs.Rules.{workWords}
 use Rattle.bitset.specs.Bits.{setWords, flags}
+use Rattle.words.specs.Halves.{halfWords, half, putHalf}
 
 -- ---- where parts begin
 
--- The words of a search's queue, and all that a search is lent.
+-- The words of a search's queue, and all that a search is lent: behind the queue the settled set.
 abbrev pub queueWords : ℕ → ℕ
 queueWords n = 2 * n
 
 abbrev pub searchWords : ℕ → ℕ
-searchWords n = 3 * n
+searchWords n = queueWords n + setWords n
 
 -- Where region k begins.
 abbrev pub regionAt : ℕ → ℕ → ℕ
 regionAt n zero = 0
 regionAt n (suc zero) = n
-regionAt n (suc (suc zero)) = queueWords n
-regionAt n (suc (suc (suc k))) = searchWords n + k * setWords n
+regionAt n (suc (suc k)) = queueWords n + k * setWords n
 
 -- The regions' numbers, as in the code.
 abbrev pub marks : ℕ
@@ -47,17 +47,29 @@ transit = 6
 abbrev pub counts : ℕ
 counts = 7
 
--- Where the numbers of an opened oracle's grid stand, and where the index does.
+-- Where the numbers of an opened oracle's grid stand.
 abbrev pub gridAt : ℕ → ℕ
 gridAt n = searchWords n + setWords n
 
 abbrev pub gridWords : ℕ
 gridWords = 4
 
-abbrev pub indexAt : ℕ → ℕ
-indexAt n = 4 * n + 4 * setWords n
+-- Where the index stands, and how many words it has. Before it there is room for T-07's number of 16 bits for each node, and for T-11's two numbers of the grid
+-- with a span behind them: from two nodes on, three words more than a word a node. For one node there is no room, and no index.
+abbrev pub spareWords : ℕ → ℕ
+spareWords n = min 3 (3 * (n - 1))
 
--- Where the spans of a day sheet's lines stand, between the two, and how many there are. One node alone has none.
+abbrev pub indexAt : ℕ → ℕ
+indexAt n = 3 * n + 5 * setWords n + spareWords n
+
+-- The same from two nodes on, as the code has it.
+abbrev pub placeAt : ℕ → ℕ
+placeAt n = 3 * n + 5 * setWords n + 3
+
+abbrev pub indexWords : ℕ → ℕ
+indexWords n = workWords n - indexAt n
+
+-- Where the spans of a day sheet's lines stand, between the grid and the index, and how many there are. One node alone has none.
 abbrev pub spansAt : ℕ → ℕ
 spansAt n = gridAt n + gridWords
 
@@ -99,9 +111,16 @@ region n k work = take (setWords n) (drop (regionAt n k) work)
 abbrev pub regionFlags : ℕ → ℕ → List ℕ → List ℕ
 regionFlags n k work = flags n (drop (regionAt n k) work)
 
--- A number for each node.
+-- The words of the counts, and the count of node v.
 abbrev pub countsIn : ℕ → List ℕ → List ℕ
-countsIn n work = take n (drop (regionAt n counts) work)
+countsIn n work = take (halfWords n) (drop (regionAt n counts) work)
+
+unfoldable pub countOf : ℕ → List ℕ → ℕ → ℕ
+countOf n work v = half work (2 * regionAt n counts + v)
+
+-- The words with k as the count of node v.
+abbrev pub putCount : ℕ → List ℕ → ℕ → ℕ → List ℕ
+putCount n work v k = putHalf work (2 * regionAt n counts + v) k
 
 -- The spans of a day sheet's lines.
 unfoldable pub spansIn : ℕ → List ℕ → List ℕ
@@ -109,4 +128,4 @@ spansIn n work = take (spanCount n) (drop (spansAt n) work)
 
 -- The words of the index.
 unfoldable pub indexIn : ℕ → List ℕ → List ℕ
-indexIn n work = take (workWords n - indexAt n) (drop (indexAt n) work)
+indexIn n work = take (indexWords n) (drop (indexAt n) work)

@@ -1,3 +1,4 @@
-// The working words: what stands where, a node's time, and sets of nodes.
+// The working words: what stands where, a node's time, sets of nodes, and numbers of 16 bits.
+pub mod halves;
 pub mod regions;
 pub mod times;

@@ -1,22 +1,24 @@
-// The regions of the working words: three of a word a node each, sets of nodes of one bit a node, and a word a node for counts. The words after them are an
-// index's, and every function over the regions keeps them.
+// The regions of the working words: two of a word a node each, sets of nodes of one bit a node, and 16 bits a node for counts. The last words are an index's,
+// and every function over the regions keeps them.
 ghost use mathlib.Core.Path.{_≡_};
-ghost use Prim.Native.Nat.{_+_, _<_, _≤_};
+ghost use Prim.Native.Nat.{_+_, _*_, _<_, _≤_};
+ghost use lib.Dec.{leb};
 ghost use lib.ListN.{length, set, take, drop, replicate};
 ghost use Rattle.model.specs.Network.{maxNodes};
 ghost use Rattle.bitset.specs.Bits.{setWords, isIn};
 ghost use Rattle.bitset.specs.Members.{HasBits};
-ghost use Rattle.words.specs.Regions.{regionAt, region, regionFlags, counts, countsIn, gridAt, indexAt, spansAt, spanCount};
-ghost use Rattle.words.specs.Frames.{Only};
+ghost use Rattle.words.specs.Halves.{halfWords};
+ghost use Rattle.words.specs.Regions.{searchWords, regionAt, region, regionFlags, counts, countsIn, putCount};
+ghost use Rattle.words.specs.Regions.{gridAt, placeAt, indexWords, spansAt, spanCount};
+ghost use Rattle.words.specs.Frames.{Enough, Only};
+use crate::halves::put_half;
 use bitset::bits::contains;
 use bitset::bits::insert_at;
 use bitset::bits::set_words;
 use bitset::words::fill;
 
-// Working words for each node: in all, those that a search is lent, and those of them that its queue is lent.
+// Working words for each node: in all, and those that a search's queue is lent.
 pub const WORDS: usize = 8;
-
-pub const SEARCH: usize = 3;
 
 pub const QUEUE: usize = 2;
 
@@ -39,21 +41,40 @@ pub const GATHERED: usize = 5;
 // The transit nodes.
 pub const TRANSIT: usize = 6;
 
-// A number for each node.
+// A number of 16 bits for each node.
 pub const COUNTS: usize = 7;
 
 // The numbers of an opened oracle's grid.
 pub const GRID_WORDS: usize = 4;
+
+// The words that are left free before the index, beyond a word a node with the counts.
+const SPARE: usize = 3;
 
 // Where region k begins.
 pub fn region_at(n: usize, k: usize) -> usize
     requires { ⌜ regionAt n k < 18446744073709551616 ⌝ }
     ensures { λ r. ⌜ r ≡ regionAt n k ⌝ }
 {
-    if k < WANT {
+    if k < MARKS {
         return k * n;
     }
-    SEARCH * n + (k - WANT) * set_words(n)
+    QUEUE * n + (k - MARKS) * set_words(n)
+}
+
+// The words that a search is lent: those of its queue, and the settled set.
+pub fn search_words(n: usize) -> usize
+    requires { ⌜ n ≤ maxNodes ⌝ }
+    ensures { λ r. ⌜ r ≡ searchWords n ⌝ }
+{
+    QUEUE * n + set_words(n)
+}
+
+// The words of a number of 16 bits for each node.
+fn half_words(n: usize) -> usize
+    requires { ⌜ n ≤ maxNodes ⌝ }
+    ensures { λ r. ⌜ r ≡ halfWords n ⌝ }
+{
+    (n + 1) / 2
 }
 
 // Where the numbers of an opened oracle's grid stand: behind the wanted set of a search.
@@ -61,15 +82,23 @@ pub fn grid_at(n: usize) -> usize
     requires { ⌜ n ≤ maxNodes ⌝ }
     ensures { λ r. ⌜ r ≡ gridAt n ⌝ }
 {
-    SEARCH * n + set_words(n)
+    search_words(n) + set_words(n)
 }
 
-// Where the index begins.
+// Where the index begins, from two nodes on.
 pub fn index_at(n: usize) -> usize
     requires { ⌜ n ≤ maxNodes ⌝ }
-    ensures { λ r. ⌜ r ≡ indexAt n ⌝ }
+    ensures { λ r. ⌜ r ≡ placeAt n ⌝ }
 {
-    4 * n + 4 * set_words(n)
+    3 * n + 5 * set_words(n) + SPARE
+}
+
+// Whether k numbers of 16 bits fit into it, where it begins at `at`. Without a difference, so that one node needs no test of its own.
+pub fn index_fits(n: usize, at: usize, k: usize) -> bool
+    requires { ⌜ (at ≡ placeAt n) × (n ≤ maxNodes) × (0 < k) × (k < 9223372036854775808) ⌝ }
+    ensures { λ r. ⌜ r ≡ leb k (2 * indexWords n) ⌝ }
+{
+    k + 2 * at <= 2 * (WORDS * n)
 }
 
 // Where the spans of a day sheet's lines begin, and how many there are.
@@ -106,10 +135,18 @@ pub fn region(work: &[u32], n: usize, k: usize) -> &[u32]
 
 // The words of region COUNTS.
 pub fn counts(work: &[u32], n: usize) -> &[u32]
-    requires { ⌜ regionAt n counts + n ≤ length (now work) ⌝ }
+    requires { ⌜ (n ≤ maxNodes) × (regionAt n counts + halfWords n ≤ length (now work)) ⌝ }
     ensures { λ r. ⌜ now r ≡ countsIn n (now (work .entry)) ⌝ }
 {
-    part(work, region_at(n, COUNTS), n)
+    part(work, region_at(n, COUNTS), half_words(n))
+}
+
+// Makes k the count of v.
+pub fn put_count(work: &mut [u32], n: usize, v: usize, k: usize)
+    requires { ⌜ (n ≤ maxNodes) × (v < n) × (k < 65536) × Enough n (now work) ⌝ }
+    ensures { λ _. ⌜ now (work .exit) ≡ putCount n (now (work .entry)) v k ⌝ }
+{
+    put_half(work, 2 * region_at(n, COUNTS) + v, k);
 }
 
 // Whether v is in region k.

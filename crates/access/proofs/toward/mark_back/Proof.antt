@@ -23,7 +23,8 @@ loop-holds : tie.Need-loop-holds Inv-loop μ-loop
 loop-holds c =
     let s = c .before .before .before .before .before .before in
     let a = s .args in
-    first _ (a .n) (a .e) _ (search needs) (a .work .now) (search needs) (c .before .before .clear .ensures .1) (c .before .before .clear .ensures .0)
+    first _ (a .n) (a .e) _ (s .pre .0 .4) (search needs) (a .work .now) (search needs) (c .before .before .clear .ensures .1)
+    (c .before .before .clear .ensures .0)
     (s .pre .0 .3)
 
 mark-at-requires : tie.Need-mark-at-requires Inv-loop μ-loop
@@ -33,7 +34,7 @@ mark-at-requires c κs =
     let l = c .before .before .loop in
     let a = s .args in
     let k = clear .kept .0 in (
-      (search needs, search needs, omega (arith, l .inv .size, k), node-in _ _ _ _ (omega (arith, k)) (l .i) (l .work) (l .inv) (search needs)),
+      (search needs, search needs, omega (arith, l .inv .size, k), node-in _ _ _ _ (s .pre .0 .4) (omega (arith, k)) (l .i) (l .work) (l .inv) (search needs)),
       roads-only (a .edges .now) (a .n) (a .work .now) (l .work) _ _ (omega arith)
           (only-then _ _ (a .work .now) _ (l .work) (clear .ensures .1) (l .inv .others)) (s .pre .1),
     )
@@ -49,8 +50,8 @@ loop-again c =
     let s = c .before .before .before .before .before .before .before .before .before .before .before .before in
     let a = s .args in
     let l = c .before .before .before .before .before .loop in
-    next _ _ _ _ (omega (arith, c .before .before .before .before .before .before .before .before .clear .kept .0)) (l .i) (l .work) (l .inv) (search needs)
-    (arcs-positive (a .n) (a .edges .now) (s .pre .1 .ends)) _ (search needs) (c .before .before .mark-at .ensures .1)
+    next _ _ _ _ (s .pre .0 .4) (omega (arith, c .before .before .before .before .before .before .before .before .clear .kept .0)) (l .i) (l .work) (l .inv)
+    (search needs) (arcs-positive (a .n) (a .edges .now) (s .pre .1 .ends)) _ (search needs) (c .before .before .mark-at .ensures .1)
     (c .before .before .mark-at .ensures .0)
 
 same-length : tie.Need-same-length Inv-loop μ-loop
@@ -59,9 +60,10 @@ same-length c = search needs
 returns : tie.Need-returns Inv-loop μ-loop
 returns c =
     let clear = c .before .before .before .before .clear in
-    let a = c .before .before .before .before .before .before .before .before .args in
+    let s = c .before .before .before .before .before .before .before .before in
+    let a = s .args in
     let l = c .before .loop in
-    last _ _ _ _ (omega (arith, clear .kept .0)) (l .i) (a .work .now) (l .work) (search needs) (clear .ensures .1) (l .inv)
+    last _ _ _ _ (s .pre .0 .4) (omega (arith, clear .kept .0)) (l .i) (a .work .now) (l .work) (search needs) (clear .ensures .1) (l .inv)
 
 pub mark-back-spec : {M : Type 1} → statement M
 mark-back-spec =

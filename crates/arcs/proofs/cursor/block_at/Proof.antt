@@ -5,39 +5,36 @@ use borrow.Author.Needs.{needs}
 use Rattle.arcs.proofs.cursor.block_at.Statement.{statement}
 use Rattle.arcs.proofs.cursor.block_at.Tie as tie
 
-block-in-requires : tie.Need-block-in-requires
-block-in-requires c κs = search needs
+entry-in-requires : tie.Need-entry-in-requires
+entry-in-requires c κs = search needs
 
 mul-start : tie.Need-mul-start
-mul-start c = let h = mul-le-mul {n₁ = c .block-in .result} {m₁ = c .before .before .args .size} {n₂ = 65536} {m₂ = 65536} (omega arith) (omega arith) in omega
-    arith
-
-next-in-requires : tie.Need-next-in-requires
-next-in-requires c κs = search needs
+mul-start c =
+    let low = c .before .entry-in .ensures .low in
+    let h = mul-le-mul {n₁ = c .before .entry-in .result .block} {m₁ = c .before .before .before .args .size} {n₂ = 65536} {m₂ = 65536} (omega arith)
+    (omega arith) in
+    omega arith
 
 lower-requires : tie.Need-lower-requires
 lower-requires c κs = search needs
 
 add-lower : tie.Need-add-lower
 add-lower c =
-    let h = mul-le-mul {n₁ = c .before .before .block-in .result} {m₁ = c .before .before .before .before .args .size} {n₂ = 65536} {m₂ = 65536} (omega arith)
-    (omega arith) in
+    let low = c .before .before .entry-in .ensures .low in
+    let h = mul-le-mul {n₁ = c .before .before .entry-in .result .block} {m₁ = c .before .before .before .before .args .size} {n₂ = 65536} {m₂ = 65536}
+    (omega arith) (omega arith) in
     omega arith
 
 lower-requires-2 : tie.Need-lower-requires-2
 lower-requires-2 c κs = search needs
 
 returns : tie.Need-returns
-returns c = rw (c .before .lower .ensures, c .lower2 .ensures, c .before .before .before .block-in .ensures .0, c .before .before .next-in .ensures .0)
+returns c = rw (
+  c .before .lower .ensures,
+  c .lower2 .ensures,
+  c .before .before .before .entry-in .ensures .block,
+  c .before .before .before .entry-in .ensures .next,
+)
 
 pub block-at-spec : {M : Type 1} → statement M
-block-at-spec =
-    tie.close
-    (tie.spec
-    block-in-requires
-    mul-start
-    next-in-requires
-    lower-requires
-    add-lower
-    lower-requires-2
-    returns)
+block-at-spec = tie.close (tie.spec entry-in-requires mul-start lower-requires add-lower lower-requires-2 returns)

@@ -1,4 +1,4 @@
--- `cursor::listed` meets its contract: the entry's word.
+-- `cursor::listed` meets its contract: the entry tells its edge.
 use native.Mathlib.Omega.{arith}
 use mathlib.Core.Path.{refl}
 use borrow.Author.Needs.{needs}
@@ -10,17 +10,14 @@ returns : tie.Need-returns
 unfolding edgeCount
 returns c = record { ended = λ l. refl; entry = λ l. absurd (omega arith) }
 
-block-in-requires : tie.Need-block-in-requires
-block-in-requires c κs = (search needs, search needs, c .before .before .before .pre .1 (c .if1 .left))
+link-in-requires : tie.Need-link-in-requires
+link-in-requires c κs = let p = c .before .before .before .pre in (p .0 .0, p .0 .1, p .0 .2, p .1 (c .if1 .left))
 
-next-in-requires : tie.Need-next-in-requires
-next-in-requires c κs = (search needs, search needs, c .before .before .before .before .pre .1 (c .before .if1 .left))
-
-add-t10 : tie.Need-add-t10
-add-t10 c = search needs
+add-t11 : tie.Need-add-t11
+add-t11 c = search needs
 
 returns-2 : tie.Need-returns-2
-returns-2 c = record { ended = λ l. absurd (omega arith); entry = λ l. rw (← c .before .block-in .ensures .0, ← c .next-in .ensures .0) }
+returns-2 c = record { ended = λ l. absurd (omega arith); entry = λ l. rw (← c .link-in .ensures .0) }
 
 pub listed-spec : {M : Type 1} → statement M
-listed-spec = tie.close (tie.spec returns block-in-requires next-in-requires add-t10 returns-2)
+listed-spec = tie.close (tie.spec returns link-in-requires add-t11 returns-2)

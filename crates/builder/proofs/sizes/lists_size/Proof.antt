@@ -20,17 +20,11 @@ abbrev μ-loop : tie.MeasureT-loop
 loop-holds : tie.Need-loop-holds Inv-loop μ-loop
 loop-holds c = (search needs, search needs, omega (arith, sum-all (c .before .args .counts .now) (c .before .args .n)))
 
-mul-list-size : tie.Need-mul-list-size Inv-loop μ-loop
-mul-list-size c = search needs
-
-shared-slice-read-list-size : tie.Need-shared-slice-read-list-size Inv-loop μ-loop
-shared-slice-read-list-size c = search needs
-
-cast-list-size : tie.Need-cast-list-size Inv-loop μ-loop
-cast-list-size c = omega (arith, c .before .before .before .before .pre .2 (c .before .before .loop .v) (c .before .loop-test .taken))
+half-of-requires : tie.Need-half-of-requires Inv-loop μ-loop
+half-of-requires c κs = search needs
 
 list-size-requires : tie.Need-list-size-requires Inv-loop μ-loop
-list-size-requires c κs = omega (arith, c .before .before .before .before .pre .2 (c .before .before .loop .v) (c .before .loop-test .taken))
+list-size-requires c κs = search needs
 
 add-sum : tie.Need-add-sum Inv-loop μ-loop
 add-sum c = omega (
@@ -68,9 +62,7 @@ lists-size-spec =
     Inv-loop
     μ-loop
     loop-holds
-    mul-list-size
-    shared-slice-read-list-size
-    cast-list-size
+    half-of-requires
     list-size-requires
     add-sum
     add-v

@@ -4,10 +4,10 @@ use Rattle.emit.proofs.Offsets.{startsFrom, latest, starts-all, starts-
 use Rattle.emit.proofs.Writing.{Written, written-start, written-next, written-end}
 use Rattle.emit.specs.PartLaws.{length-startsOf, length-sizes}
 use Rattle.emit.specs.Parts.{startsOf, listSizes}
-use Rattle.model.specs.Oracle.{startSize}
+use Rattle.model.specs.Oracle.{startSize, listSize}
 use lib.ListN.{length}
 use native.Mathlib.Omega.{arith}
-use mathlib.Core.Path.{_≡_}
+use mathlib.Core.Path.{_≡_, ap, _∙_}
 use Prim.Native.Nat.{_*_, _≤_, _-_}
 use borrow.Author.Needs.{needs}
 use Rattle.emit.proofs.starts.write_starts.Statement.{statement}
@@ -46,17 +46,11 @@ cast-write32 c = search needs
 write32-requires : tie.Need-write32-requires Inv-loop μ-loop
 write32-requires c κs = search needs
 
-mul-list-size : tie.Need-mul-list-size Inv-loop μ-loop
-mul-list-size c = search needs
-
-shared-slice-read-list-size : tie.Need-shared-slice-read-list-size Inv-loop μ-loop
-shared-slice-read-list-size c = search needs
-
-cast-list-size : tie.Need-cast-list-size Inv-loop μ-loop
-cast-list-size c = omega (arith, c .shared-slice-known2 .given (c .before .before .before .before .before .before .loop .v))
+half-of-requires : tie.Need-half-of-requires Inv-loop μ-loop
+half-of-requires c κs = search needs
 
 list-size-requires : tie.Need-list-size-requires Inv-loop μ-loop
-list-size-requires c κs = omega (arith, c .shared-slice-known2 .given (c .before .before .before .before .before .before .loop .v))
+list-size-requires c κs = search needs
 
 add-start : tie.Need-add-start Inv-loop μ-loop
 add-start c =
@@ -64,7 +58,8 @@ add-start c =
     let a = s .args in
     let l = c .before .before .before .before .before .before .before .loop in
     let h = c .before .before .before .before .before .before .loop-test .taken in
-    omega (arith, start-latest (a .counts .now) (a .n) (l .v) (l .start) _ (c .list-size .ensures) (s .pre .0 .2 (l .v) h) (l .inv .1))
+    let size = c .list-size .ensures ∙ ap listSize (c .before .half-of .ensures .0) in
+    omega (arith, start-latest (a .counts .now) (a .n) (l .v) (l .start) _ size (s .pre .0 .2 (l .v) h) (l .inv .1))
 
 add-v : tie.Need-add-v Inv-loop μ-loop
 add-v c = search needs
@@ -78,8 +73,9 @@ loop-again c =
     let a = s .args in
     let h = c .before .before .before .before .before .before .loop-test .taken in
     let l = c .before .before .before .before .before .before .before .loop in
-    let more = start-latest (a .counts .now) (a .n) _ _ _ (c .list-size .ensures) (s .pre .0 .2 _ h) (l .inv .1) in
-    let next = starts-step (a .counts .now) (a .n) _ _ _ (c .list-size .ensures) h in
+    let size = c .list-size .ensures ∙ ap listSize (c .before .half-of .ensures .0) in
+    let more = start-latest (a .counts .now) (a .n) _ _ _ size (s .pre .0 .2 _ h) (l .inv .1) in
+    let next = starts-step (a .counts .now) (a .n) _ _ _ size h in
     (search needs, more, search needs, written-next next (l .inv .3) (start-wrote _ _ _ _ (c .before .before .before .before .write32 .ensures)))
 
 same-length : tie.Need-same-length Inv-loop μ-loop
@@ -101,9 +97,7 @@ write-starts-spec =
     mul-write32
     cast-write32
     write32-requires
-    mul-list-size
-    shared-slice-read-list-size
-    cast-list-size
+    half-of-requires
     list-size-requires
     add-start
     add-v

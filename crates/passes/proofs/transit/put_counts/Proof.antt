@@ -1,4 +1,4 @@
--- `transit::put_counts` meets its contract: the nodes below v have their words.
+-- `transit::put_counts` meets its contract: the nodes below v have their counts.
 use Prim.Native.Nat.{_-_}
 use native.Mathlib.Omega.{arith}
 use borrow.Author.Needs.{needs}
@@ -20,8 +20,8 @@ cell-square-requires c κs = search needs
 loop-holds : tie.Need-loop-holds Inv-loop μ-loop
 loop-holds c = first _ _ _ _
 
-put-count-requires : tie.Need-put-count-requires Inv-loop μ-loop
-put-count-requires c κs = search needs
+put-beside-requires : tie.Need-put-beside-requires Inv-loop μ-loop
+put-beside-requires c κs = search needs
 
 add-v : tie.Need-add-v Inv-loop μ-loop
 add-v c = search needs
@@ -32,8 +32,8 @@ loop-less c = search needs
 loop-again : tie.Need-loop-again Inv-loop μ-loop
 loop-again c =
     let l = c .before .before .before .before .before .loop in
-    next _ _ _ _ (l .v) (l .work) (l .inv) (c .before .before .before .before .loop-test .taken) (omega (arith, l .inv .size)) _
-    (c .before .before .put-count .ensures)
+    next _ _ _ _ (l .v) (l .work) (l .inv) (c .before .before .before .before .loop-test .taken) (omega (arith, l .inv .size)) (search needs) _
+    (c .before .before .put-beside .ensures)
 
 same-length : tie.Need-same-length Inv-loop μ-loop
 same-length c = search needs
@@ -49,7 +49,7 @@ put-counts-spec =
     μ-loop
     cell-square-requires
     loop-holds
-    put-count-requires
+    put-beside-requires
     add-v
     loop-less
     loop-again

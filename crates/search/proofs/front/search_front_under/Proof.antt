@@ -68,7 +68,7 @@ loop-again c =
     )
 
 finish-requires : tie.Need-finish-requires Inv-loop μ-loop
-finish-requires c κs = (search needs, c .before .before .loop .inv .2 .holds .queue .room)
+finish-requires c κs = (search needs, search needs, c .before .before .loop .inv .2 .holds .queue .room)
 
 same-length : tie.Need-same-length Inv-loop μ-loop
 same-length c = search needs

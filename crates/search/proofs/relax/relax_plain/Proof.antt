@@ -24,21 +24,21 @@ time-of-requires c κs = search needs
 cast-d : tie.Need-cast-d Inv-loop μ-loop
 cast-d c = search needs
 
-mul-front : tie.Need-mul-front Inv-loop μ-loop
-mul-front c = search needs
+search-words-requires : tie.Need-search-words-requires Inv-loop μ-loop
+search-words-requires c κs = c .before .before .before .before .pre .0 .0 .queue .positioned .few
 
 first-edge-requires : tie.Need-first-edge-requires Inv-loop μ-loop
 first-edge-requires c κs =
-    let p = c .before .before .before .before .before .pre in
+    let p = c .before .before .before .before .before .before .pre in
     ((p .0 .0 .queue .positioned .few, p .1 .1, p .0 .1), p .1 .0 .roads)
 
 arc-at-requires : tie.Need-arc-at-requires Inv-loop μ-loop
-arc-at-requires c κs = (c .before .before .before .before .before .before .pre .1 .0 .roads .ends, λ l. c .first-edge .ensures .valid .here l .end)
+arc-at-requires c κs = (c .before .before .before .before .before .before .before .pre .1 .0 .roads .ends, λ l. c .first-edge .ensures .valid .here l .end)
 
 loop-holds : tie.Need-loop-holds Inv-loop μ-loop
 loop-holds c =
-    let s = c .before .before .before .before .before .before .before in
-    let time-of = c .before .before .before .time-of in
+    let s = c .before .before .before .before .before .before .before .before in
+    let time-of = c .before .before .before .before .time-of in
     let a = s .args in
     let p = s .pre in (
       refl,
@@ -50,14 +50,15 @@ loop-holds c =
 
 slice-relend-prefix-offer-in : tie.Need-slice-relend-prefix-offer-in Inv-loop μ-loop
 slice-relend-prefix-offer-in c =
-    let p = c .before .before .before .before .before .before .before .before .before .before .pre in
-    omega (arith, c .before .before .loop .inv .0, p .1 .1)
+    let p = c .before .before .before .before .before .before .before .before .before .before .before .pre in
+    omega (arith, c .before .before .before .before .before .before .search-words .ensures, c .before .before .loop .inv .0, p .1 .1)
 
 slice-aggregate-offer-in : tie.Need-slice-aggregate-offer-in Inv-loop μ-loop
 slice-aggregate-offer-in c =
-    let s = c .before .before .before .before .before .before .before .before .before .before .before in
+    let s = c .before .before .before .before .before .before .before .before .before .before .before .before in
     let l = c .before .before .before .loop in
-    sym (length-take-le (3 * s .args .n) (l .work) (omega (arith, l .inv .0, s .pre .1 .1)))
+    sym (length-take-le (c .before .before .before .before .before .before .before .search-words .result) (l .work)
+    (omega (arith, c .before .before .before .before .before .before .before .search-words .ensures, l .inv .0, s .pre .1 .1)))
 
 add-offer-in : tie.Need-add-offer-in Inv-loop μ-loop
 add-offer-in c = omega (arith, c .before .before .before .before .loop .inv .1 .passes .low)
@@ -67,25 +68,27 @@ offer-in-requires c κs =
     let l = c .before .before .before .before .loop in
     let g = l .inv .1 in
     let i = c .before .before .if1 .taken in
+    rw (c .before .before .before .before .before .before .before .before .search-words .ensures)
     (g .relaxed .holds, i, λ h. omega (arith, g .within (l .a .to) i h))
 
 next-arc-requires : tie.Need-next-arc-requires Inv-loop μ-loop
 next-arc-requires c κs =
-    let s = c .before .before .before .before .before .before .before .before .before .before .before .before .before .before .before .before in
+    let s = c .before .before .before .before .before .before .before .before .before .before .before .before .before .before .before .before .before in
     let offer-in = c .before .before .before .offer-in in
     let a = s .args in
     let p = s .pre in
     let l = c .before .before .before .before .before .before .before .before .loop in
     let ys = offer-in .last .0 in
-    let k = offer-in .kept .0 in
-    let d = c .before .before .before .before .before .before .before .before .before .before .before .before .time-of .result in (
+    let e = c .before .before .before .before .before .before .before .before .before .before .before .before .search-words .ensures in
+    let k = rw e at (offer-in .kept .0) in
+    let d = c .before .before .before .before .before .before .before .before .before .before .before .before .before .time-of .result in (
       (p .0 .0 .queue .positioned .few, search needs, p .0 .1),
       (
-        turn-edges (a .edges .now) [] (a .n) (a .e) (a .u) d (a .work .now) (l .a) (l .held)
-            (l .work) ys (l .inv .1) (omega (arith, l .inv .0, p .1 .1)) k .roads,
+        rw e (turn-edges (a .edges .now) [] (a .n) (a .e) (a .u) d (a .work .now) (l .a) (l .held)
+            (l .work) ys (l .inv .1) (omega (arith, l .inv .0, p .1 .1)) k .roads),
         (
-          turn-passes (a .edges .now) [] (a .n) (a .e) (a .u) d (a .work .now)
-              (l .a) (l .held) (l .work) ys (l .inv .1) (omega (arith, l .inv .0, p .1 .1)) k .valid,
+          rw e (turn-passes (a .edges .now) [] (a .n) (a .e) (a .u) d (a .work .now)
+              (l .a) (l .held) (l .work) ys (l .inv .1) (omega (arith, l .inv .0, p .1 .1)) k .valid),
           c .before .before .before .before .before .before .if1 .taken,
         ),
       ),
@@ -96,14 +99,16 @@ loop-less c = c .next-arc .ensures .less
 
 loop-again : tie.Need-loop-again Inv-loop μ-loop
 loop-again c =
-    let s = c .before .before .before .before .before .before .before .before .before .before .before .before .before .before .before .before .before in
+    let s = c .before .before .before .before .before .before .before .before .before .before .before .before .before .before .before .before .before .before in
     let offer-in = c .before .before .before .before .offer-in in
     let a = s .args in
     let l = c .before .before .before .before .before .before .before .before .before .loop in
-    let d = c .before .before .before .before .before .before .before .before .before .before .before .before .before .time-of .result in (
+    let e = c .before .before .before .before .before .before .before .before .before .before .before .before .before .search-words .ensures in
+    let d = c .before .before .before .before .before .before .before .before .before .before .before .before .before .before .time-of .result in (
       search needs,
-      passed-next (a .edges .now) [] (a .n) (a .e) (a .u) d (a .work .now) (l .a) (l .held) (l .work) (offer-in .last .0)
-          (l .inv .1) (omega (arith, l .inv .0, s .pre .1 .1)) (offer-in .kept .0) _ (offer-in .ensures) _ (c .next-arc .ensures),
+      rw e (passed-next (a .edges .now) [] (a .n) (a .e) (a .u) d (a .work .now) (l .a) (l .held) (l .work) (offer-in .last .0)
+          (l .inv .1) (omega (arith, l .inv .0, s .pre .1 .1)) (rw e at (offer-in .kept .0)) _ (rw e at (offer-in .ensures)) _
+          (rw e at (c .next-arc .ensures))),
     )
 
 same-length : tie.Need-same-length Inv-loop μ-loop
@@ -111,8 +116,8 @@ same-length c = search needs
 
 returns : tie.Need-returns Inv-loop μ-loop
 returns c =
-    let s = c .before .before .before .before .before .before .before .before .before .before in
-    let time-of = c .before .before .before .before .before .before .time-of in
+    let s = c .before .before .before .before .before .before .before .before .before .before .before in
+    let time-of = c .before .before .before .before .before .before .before .time-of in
     let a = s .args in
     let l = c .before .before .loop in (
       rw (time-read (a .n) (a .u) (a .work .now) (s .pre .0 .1) _ (time-of .ensures .0))
@@ -129,7 +134,7 @@ relax-plain-spec =
     μ-loop
     time-of-requires
     cast-d
-    mul-front
+    search-words-requires
     first-edge-requires
     arc-at-requires
     loop-holds

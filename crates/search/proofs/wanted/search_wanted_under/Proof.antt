@@ -73,6 +73,7 @@ left-then-requires c κs =
     let l = c .before .before .before .before .before .before .before .loop in
     let h = l .inv .2 .standing .holds .queue in
     let t = c .before .before .before .round .ensures in (
+      p .0 .0,
       omega (arith, h .held, h .room, test .taken),
       ltb-true 0 (l .lacking) (c .before .before .before .before .before .if1 .taken),
       search needs,
@@ -102,7 +103,7 @@ loop-again c =
     )
 
 finish-requires : tie.Need-finish-requires Inv-loop μ-loop
-finish-requires c κs = (search needs, c .before .before .loop .inv .2 .standing .holds .queue .room)
+finish-requires c κs = (search needs, search needs, c .before .before .loop .inv .2 .standing .holds .queue .room)
 
 same-length : tie.Need-same-length Inv-loop μ-loop
 same-length c = search needs
