@@ -2,6 +2,7 @@
 //! (the relative neighbourhood graph: about 1.3 roads a node, all in one piece).
 
 use crate::files::{Edge, Network};
+use std::collections::HashSet;
 
 /// A small generator of numbers (splitmix64), so that a seed gives one network everywhere.
 #[derive(Clone, Debug)]
@@ -25,6 +26,12 @@ impl Random {
     pub fn once_in(&mut self, n: u64) -> bool {
         self.below(n) == 0
     }
+
+    pub fn shuffle<T>(&mut self, list: &mut [T]) {
+        for i in (1..list.len()).rev() {
+            list.swap(i, self.below(i as u64 + 1) as usize);
+        }
+    }
 }
 
 /// Metres between neighbouring nodes, about.
@@ -34,9 +41,7 @@ const SPACING: i64 = 900;
 fn scatter(n: usize, random: &mut Random) -> Vec<(i32, i32)> {
     let side = (1..).find(|s| s * s >= n).unwrap();
     let mut patches: Vec<usize> = (0..side * side).collect();
-    for i in (1..patches.len()).rev() {
-        patches.swap(i, random.below(i as u64 + 1) as usize);
-    }
+    random.shuffle(&mut patches);
     patches.truncate(n);
     patches.sort_unstable();
     let middle = side as i64 * SPACING / 2;
@@ -68,10 +73,21 @@ fn neighbours(nodes: &[(i32, i32)], u: usize) -> Vec<usize> {
     others
 }
 
+/// The road from u to v, by their distance.
+fn road(nodes: &[(i32, i32)], u: usize, v: usize, random: &mut Random) -> Edge {
+    // Main roads at 22 metres a second, others at 9 to 15.
+    let speed = if random.once_in(5) { 22 } else { 9 + random.below(7) as i64 };
+    let metres = (square(nodes[u], nodes[v]) as f64).sqrt() as i64;
+    Edge { first: u as u16, second: v as u16, seconds: (metres / speed).clamp(1, 100_000) as u32 }
+}
+
 /// A network of n nodes, 1 to 4,096.
 pub fn network(n: usize, seed: u64) -> Network {
-    let mut random = Random(seed);
-    let nodes = scatter(n, &mut random);
+    joined(n, &mut Random(seed))
+}
+
+fn joined(n: usize, random: &mut Random) -> Network {
+    let nodes = scatter(n, random);
     let near: Vec<Vec<usize>> = (0..n).map(|u| neighbours(&nodes, u)).collect();
     let mut edges = Vec::new();
     for u in 0..n {
@@ -79,12 +95,34 @@ pub fn network(n: usize, seed: u64) -> Network {
             let d = square(nodes[u], nodes[v]);
             let between = near[u].iter().any(|&w| w != v && square(nodes[u], nodes[w]) < d && square(nodes[v], nodes[w]) < d);
             if !between {
-                // Main roads at 22 metres a second, others at 9 to 15.
-                let speed = if random.once_in(5) { 22 } else { 9 + random.below(7) as i64 };
-                let seconds = ((d as f64).sqrt() as i64 / speed).clamp(1, 100_000) as u32;
-                edges.push(Edge { first: u as u16, second: v as u16, seconds });
+                edges.push(road(&nodes, u, v, random));
             }
         }
     }
+    Network { nodes, edges }
+}
+
+/// Metres between nodes that a further road may join, at the most.
+const NEAR: i64 = 4000;
+
+/// All pairs of nodes that are near each other.
+fn near_pairs(nodes: &[(i32, i32)]) -> Vec<(usize, usize)> {
+    let all = (0..nodes.len()).flat_map(|u| (u + 1..nodes.len()).map(move |v| (u, v)));
+    all.filter(|&(u, v)| square(nodes[u], nodes[v]) <= NEAR * NEAR).collect()
+}
+
+/// `network` with more roads, so many in all, or its own where these are more already; all of them in random order. The further ones join nodes that are near
+/// each other, and the same two nodes again only where all such pairs have a road. A single node has none.
+pub fn unordered(n: usize, roads: usize, seed: u64) -> Network {
+    let mut random = Random(seed);
+    let Network { nodes, mut edges } = joined(n, &mut random);
+    let taken: HashSet<(usize, usize)> = edges.iter().map(|e| (e.first as usize, e.second as usize)).collect();
+    let mut pairs = near_pairs(&nodes);
+    random.shuffle(&mut pairs);
+    // Those without a road come first.
+    pairs.sort_by_key(|pair| taken.contains(pair));
+    let further = roads.saturating_sub(edges.len());
+    edges.extend(pairs.iter().cycle().take(further).map(|&(u, v)| road(&nodes, u, v, &mut random)));
+    random.shuffle(&mut edges);
     Network { nodes, edges }
 }

@@ -1,114 +1,21 @@
-//! Networks that try the index of the roads at each place, which the core keeps in what its working words have left over: there it lists roads one by one,
-//! in blocks where there are too many of them, or not at all. So: as many roads as fit, one less and one more, and many times as many; many between
-//! two places, or all at one; in all positions some that are as quick as can be, so that one that is passed over shows; in any order.
+//! Networks that try the index of the roads at each place, which the core keeps in what its working words have left over. There each road has a link for each
+//! of its ends; with too many roads for that, places list the blocks of roads that have one of theirs, in blocks as small as fit; with two places in all
+//! not even these fit. So: as many roads as fit, one less and one more, and many times as many; many between two places, or all at one; in all positions
+//! some that are as quick as can be, so that one that is passed over shows; in any order. No answer may tell which form the index has.
 
 mod common;
 
 use common::networks::Plan;
 use common::reference::{self, Built, Outcome, SIDE};
+use common::roads::{chain, lattice, line, plan, scattered, shuffled, side_by_side, sorted, star, with_quick, Quick, Road, QUICK};
 use common::{check_audit, check_build, NetworkCase, OracleCase};
 use jukesogbi::plain;
-use jukesogbi::sample::Random;
 
 const PLACES: usize = 4_096;
 const ROADS: usize = 16_384;
-const MOST: usize = 100_000;
 
 /// A grid without far pairs for its number, one without far pairs for its squares, and two with.
 const GRIDS: [u32; 4] = [1, 3, 16, 64];
-
-/// Two ends and seconds.
-type Road = (usize, usize, usize);
-
-// ---- Roads ----
-
-/// Seconds that differ from road to road, or mostly.
-fn seconds(random: &mut Random) -> usize {
-    if random.once_in(3) { 1_000 } else { 2 + random.below(MOST as u64 - 1) as usize }
-}
-
-fn scattered(n: usize, count: usize) -> Vec<Road> {
-    let mut random = Random((n * count) as u64);
-    let ends = |random: &mut Random| {
-        let u = random.below(n as u64) as usize;
-        (u, (u + 1 + random.below(n as u64 - 1) as usize) % n)
-    };
-    (0..count).map(|_| ends(&mut random)).collect::<Vec<_>>().into_iter().map(|(u, v)| (u, v, seconds(&mut random))).collect()
-}
-
-fn sorted(n: usize, count: usize) -> Vec<Road> {
-    let mut roads = scattered(n, count);
-    roads.sort_by_key(|&(u, v, _)| (u.min(v), u.max(v)));
-    roads
-}
-
-/// In both directions, each quicker than all before it.
-fn side_by_side(a: usize, b: usize, count: usize) -> Vec<Road> {
-    (0..count).map(|i| if i % 2 == 0 { (a, b, MOST - i) } else { (b, a, MOST - i) }).collect()
-}
-
-/// From each place to the next, again and again.
-fn chain(n: usize, count: usize) -> Vec<Road> {
-    (0..count).map(|i| (i % (n - 1), i % (n - 1) + 1, 1 + i % 7)).collect()
-}
-
-/// From the hub to each other place, so many times.
-fn star(n: usize, hub: usize, times: usize) -> Vec<Road> {
-    let spokes = (0..n).filter(|&v| v != hub);
-    spokes.flat_map(|v| (0..times).map(move |k| if k % 2 == 0 { (hub, v, 9 + v % 100 + k) } else { (v, hub, 9 + v % 50 + k) })).collect()
-}
-
-fn shuffled(mut roads: Vec<Road>) -> Vec<Road> {
-    let mut random = Random(roads.len() as u64);
-    for i in (1..roads.len()).rev() {
-        roads.swap(i, random.below(i as u64 + 1) as usize);
-    }
-    roads
-}
-
-// ---- Quick roads ----
-
-/// Which of the roads take a second.
-#[derive(Clone, Copy, Debug)]
-enum Quick {
-    None,
-    Some,
-    First,
-    Last,
-    EverySecond,
-    All,
-}
-
-const QUICK: [Quick; 6] = [Quick::None, Quick::Some, Quick::First, Quick::Last, Quick::EverySecond, Quick::All];
-
-/// The roads, those in these positions as quick as can be. Their number is as it was.
-fn with_quick(mut roads: Vec<Road>, quick: Quick) -> Vec<Road> {
-    let count = roads.len();
-    let is_quick = |i: usize| match quick {
-        Quick::None => false,
-        Quick::Some => i * 7_919 % 5 == 0,
-        Quick::First => i == 0 || i < count / 8,
-        Quick::Last => i == count - 1 || i >= count - count / 8,
-        Quick::EverySecond => i % 2 == 1,
-        Quick::All => true,
-    };
-    roads.iter_mut().enumerate().filter(|(i, _)| is_quick(*i)).for_each(|(_, road)| road.2 = 1);
-    roads
-}
-
-/// Over a square, by rows.
-fn lattice(n: usize) -> Vec<(i32, i32)> {
-    let side = (1..).find(|s| s * s >= n).unwrap();
-    (0..n).map(|u| (100 * (u % side) as i32, 100 * (u / side) as i32)).collect()
-}
-
-fn line(n: usize) -> Vec<(i32, i32)> {
-    (0..n as i32).map(|k| (100 * k, 0)).collect()
-}
-
-fn plan(places: Vec<(i32, i32)>, roads: Vec<Road>) -> Plan {
-    Plan { places, roads: roads.iter().map(|&(u, v, seconds)| (u as u16, v as u16, seconds as u32)).collect() }
-}
 
 // ---- Questions ----
 
@@ -149,16 +56,29 @@ fn build_and_ask(name: &str, plan: &Plan, grids: &[u32], pairs: &[(usize, usize)
     }
 }
 
-// ---- As many roads as the index can list one by one, and about multiples of that ----
+// ---- As many roads as have links, and about multiples of that ----
 
-/// The words behind the lists' heads; each road takes two of them where it is listed by itself.
-fn listed_at_most(n: usize) -> usize {
-    (3 * n - 4 * (n / 32 + 1)) / 2
+/// The words of the index with n places, 2 or more of them.
+fn index_words(n: usize) -> usize {
+    5 * n - 5 * (n / 32 + 1) - 3
 }
 
+/// Half a word is for each place, and half a word for each end of a road.
+fn linked_at_most(n: usize) -> usize {
+    (2 * index_words(n) - n) / 2
+}
+
+/// Blocks whose roads all lead between the same two places: a word is for each place, and one for each of the two and each block. With two places in all
+/// there are none; with more a single block with all roads always fits, whatever places they are at.
+fn blocks_at_most(n: usize) -> usize {
+    (index_words(n) - n) / 2
+}
+
+/// About the most roads with links, some multiples of that, about the most in blocks of 4 and of 16, and the most there can be.
 fn counts(n: usize) -> Vec<usize> {
-    let fit = listed_at_most(n);
-    let mut all: Vec<usize> = [1, 2, 4, 64].iter().flat_map(|k| [k * fit - 1, k * fit, k * fit + 1]).chain([ROADS - 1, ROADS]).collect();
+    let (links, blocks) = (linked_at_most(n), blocks_at_most(n));
+    let mut all = vec![links - 1, links, links + 1, 2 * links, 8 * links, ROADS - 1, ROADS];
+    all.extend([4, 16].iter().flat_map(|size| [size * blocks, size * blocks + 1]));
     all.retain(|&count| count <= ROADS);
     all.sort_unstable();
     all.dedup();
@@ -168,23 +88,30 @@ fn counts(n: usize) -> Vec<usize> {
 /// Roads of one kind, so many over n places.
 type Kind = (&'static str, fn(usize, usize) -> Vec<Road>);
 
-const KINDS: [Kind; 4] = [("scattered", scattered), ("sorted", sorted), ("chain", chain), ("side by side", |n, count| side_by_side(0, n - 1, count))];
+const KINDS: [Kind; 6] = [
+    ("scattered", scattered),
+    ("sorted", sorted),
+    ("shuffled", |n, count| shuffled(sorted(n, count))),
+    ("chain", chain),
+    ("side by side", |n, count| side_by_side(0, n - 1, count)),
+    ("star", |n, count| star(n, n / 2, count.div_ceil(n - 1)).into_iter().take(count).collect()),
+];
 
-/// Each count of each kind, with quick roads in a position that goes round; the first three counts with all.
+/// Each count of each kind, with quick roads in a position that goes round; those about the most with links with all.
 fn about_what_fits(n: usize) {
-    let mut turn = n;
-    for (at, &count) in counts(n).iter().enumerate() {
+    let (mut turn, links) = (n, linked_at_most(n));
+    for count in counts(n) {
         for (kind, roads) in KINDS {
-            for _ in 0..if at < 3 { QUICK.len() } else { 1 } {
+            for round in 0..if count.abs_diff(links) <= 1 { QUICK.len() } else { 1 } {
                 turn += 1;
                 let quick = QUICK[turn % QUICK.len()];
                 let plan = plan(lattice(n), with_quick(roads(n, count), quick));
                 let name = format!("{kind}, quick: {quick:?}");
-                // A search may look at all roads for each place here: then there are none but those of the questions.
-                if n * n * count > 2_000_000 {
-                    build_and_ask(&name, &plan, &[GRIDS[turn % 2]], &pairs(n, 2));
-                } else {
+                // In blocks, a search may look at all roads for each place: where that takes long, there are no searches but those of the questions.
+                if n * n * count <= 5_000_000 || (round == 0 && count <= links) {
                     build_and_ask(&name, &plan, &[GRIDS[turn % 2], GRIDS[2 + turn / 2 % 2]], &pairs(n, 4));
+                } else {
+                    build_and_ask(&name, &plan, &[GRIDS[turn % 2]], &pairs(n, 2));
                 }
             }
         }
@@ -214,6 +141,48 @@ fn about_100_places() {
 #[test]
 fn about_257_places() {
     about_what_fits(257);
+}
+
+// ---- Many places ----
+
+/// Each kind of roads, so many, under a grid without far pairs.
+fn many(n: usize, count: usize, kinds: &[Kind]) {
+    for (at, (kind, roads)) in kinds.iter().enumerate() {
+        let quick = QUICK[(at + count) % QUICK.len()];
+        build_and_ask(&format!("{kind}, quick: {quick:?}"), &plan(lattice(n), with_quick(roads(n, count), quick)), &[GRIDS[count % 2]], &pairs(n, 2));
+    }
+}
+
+#[test]
+fn about_1024_and_2048_places() {
+    for n in [1_024, 2_048] {
+        let links = linked_at_most(n);
+        [links - 1, links, links + 1].into_iter().for_each(|count| many(n, count, &KINDS));
+    }
+}
+
+/// With so many places as still have links for the most roads, and one less.
+#[test]
+fn most_roads_about_what_fits() {
+    let n = (2..).find(|&n| linked_at_most(n) >= ROADS).unwrap();
+    [n - 1, n].into_iter().for_each(|n| many(n, ROADS, &KINDS[..2]));
+}
+
+#[test]
+fn most_places_and_roads() {
+    many(PLACES, ROADS, &KINDS[..2]);
+}
+
+/// A town with most places in one cell, and a line of the others far from it and without a road to it: the oracle has far pairs, but few searches build it.
+#[test]
+fn a_town_and_a_line_of_the_most() {
+    let (outside, town): (Vec<usize>, Vec<usize>) = (0..PLACES).partition(|u| u % 40 == 0);
+    let within = |places: &[usize], roads: Vec<Road>| roads.into_iter().map(|(u, v, seconds)| (places[u], places[v], seconds)).collect::<Vec<_>>();
+    let along = chain(outside.len(), 3 * outside.len());
+    let roads = [within(&town, scattered(town.len(), ROADS - along.len())), within(&outside, along)].concat();
+    let places = (0..PLACES as i32).map(|u| if u % 40 == 0 { (100 * u, 0) } else { (u % 64, 300_000 + u / 64) }).collect();
+    let plan = plan(places, with_quick(shuffled(roads), Quick::Some));
+    build_and_ask("a town and a line", &plan, &[16, 64], &[(0, 4_080), (4_000, 400), (1, 4_001), (2_345, 7), (0, 1)]);
 }
 
 // ---- One and two places ----
@@ -287,7 +256,7 @@ fn great_stars() {
     }
 }
 
-/// Blocks that each have roads of most places.
+/// One place has a part in every road, wherever it stands.
 #[test]
 fn a_great_star_in_no_order() {
     let plan = plan(lattice(PLACES), with_quick(shuffled(star(PLACES, 17, 4)), Quick::None));

@@ -238,21 +238,35 @@ fn the_listing_is_that_of_the_listing_program() {
 
 // ---- The benchmark ----
 
+/// How many lines begin with a row's name.
+fn rows(text: &str, name: &str) -> usize {
+    text.lines().filter(|line| line.starts_with(&format!("| {name} |"))).count()
+}
+
+/// A build, local answers and ways with each number of roads in random order, of this size under this grid, and of no other.
+fn has_roads_in_random_order(text: &str, n: usize, g: u32) {
+    for density in ["1.4", "2", "2.8", "3.3", "4"] {
+        let counts = ["build", "local answers", "ways"].map(|what| rows(text, &format!("{what}, N {n}, {density} roads a place, g {g}")));
+        assert_eq!(counts, [1, 1, 1], "{density}: {text}");
+    }
+    assert_eq!(text.matches(" roads a place, ").count(), 15, "{text}");
+}
+
 /// One size under one grid: the questions are asked on its oracle, under which something is far, or nothing.
 #[test]
 fn bench_of_one_size_and_grid() {
     let f = Folder::new("messages_bench_one");
-    for (args, far) in [("30 16", 1), ("30 1", 0)] {
-        let ran = f.run(&format!("bench {args}"));
+    for (n, g, far) in [(30, 16, 1), (30, 1, 0), (2, 8, 1)] {
+        let ran = f.run(&format!("bench {n} {g}"));
         assert_eq!((ran.code, ran.err.as_str()), (0, ""));
-        let named = format!(", N {} |", args.replace(' ', ", g "));
-        let rows = |what: &str| ran.text().lines().filter(|l| l.starts_with(&format!("| {what}")) && l.contains(&named)).count();
+        let rows = |what: &str| rows(&ran.text(), &format!("{what}, N {n}, g {g}"));
         assert_eq!(["build", "check an oracle", "far answers", "local answers", "ways", "block of 144"].map(rows), [1, 1, far, 1, 1, 2], "{}", ran.text());
         for (count, what) in [10, 1000].into_iter().flat_map(|count| ["times", "ways"].map(|what| (count, what))) {
             let counts = ["far", "local"].map(|kind| rows(&format!("{kind} {what} under {count} lines")));
             assert_eq!(counts, [far, 1], "{}", ran.text());
         }
-        assert_eq!(["1000 legs,", "1000 legs with the check,"].map(rows), [1, 1], "{}", ran.text());
+        assert_eq!(["1000 legs", "1000 legs with the check"].map(rows), [1, 1], "{}", ran.text());
+        has_roads_in_random_order(&ran.text(), n, g);
     }
 }
 
@@ -263,14 +277,22 @@ fn bench_of_a_small_size() {
         let ran = Folder::new(&format!("messages_bench_{n}")).run(&format!("bench {n}"));
         assert_eq!((ran.code, ran.err.as_str()), (0, ""));
         let text = ran.text();
-        let rows = |start: String| text.lines().filter(|l| l.starts_with(&start)).count();
         for g in [16, 32, 64] {
-            assert_eq!(rows(format!("| build, N {n}, g {g} |")), 1, "{text}");
+            assert_eq!(rows(&text, &format!("build, N {n}, g {g}")), 1, "{text}");
         }
-        assert_eq!((rows(format!("| local answers, N {n}, g 32 |")), rows(format!("| block of 144, N {n}, g 32 |"))), (1, 2), "{text}");
-        assert!(text.starts_with("| what | core | plain | unit | core's time / plain's |\n|---|---|---|---|---|\n"));
-        assert!(text.contains("\n\n| what | block | single answers | unit | block's time / single answers' |\n|---|---|---|---|---|\n"));
-        assert!(text.contains("\n\n| what | under a sheet | ways without it | unit | time under the sheet / ways' |\n|---|---|---|---|---|\n"));
-        assert!(text.contains("\n\n| what | wages | single answers | unit | wages' time / single answers' |\n|---|---|---|---|---|\n"));
+        assert_eq!(["local answers", "block of 144"].map(|what| rows(&text, &format!("{what}, N {n}, g 32"))), [1, 2], "{text}");
+        let tables: Vec<&str> = text.split("\n\n").collect();
+        let heads = [
+            "| what | core | plain | unit | core's time / plain's |",
+            "| what | block | single answers | unit | block's time / single answers' |",
+            "| what | under a sheet | ways without it | unit | time under the sheet / ways' |",
+            "| what | wages | single answers | unit | wages' time / single answers' |",
+            "| what | core | plain | unit | core's time / plain's |",
+        ];
+        assert_eq!(tables.len(), heads.len(), "{text}");
+        for (table, head) in tables.iter().zip(heads) {
+            assert!(table.starts_with(&format!("{head}\n|---|---|---|---|---|")), "{table}");
+        }
+        has_roads_in_random_order(tables[4], n, 32);
     }
 }

@@ -11,6 +11,7 @@ pub mod networks;
 pub mod program;
 pub mod random_sheets;
 pub mod reference;
+pub mod roads;
 pub mod sheets;
 pub mod stored;
 pub mod tables;

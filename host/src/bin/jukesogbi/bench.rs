@@ -1,6 +1,7 @@
-//! The benchmark: the proved core beside plain Rust, its block and its wages beside single answers, and answers under a sheet beside ways, in one run on
-//! one machine.
+//! The benchmark: the proved core beside plain Rust, its block and its wages beside single answers, answers under a sheet beside ways, and the core beside
+//! plain Rust where roads are in random order, in one run on one machine.
 
+mod roads;
 mod sheets;
 mod wages;
 
@@ -8,6 +9,7 @@ use crate::args::Call;
 use crate::making::sample_size;
 use crate::output::Output;
 use crate::stop::{slip, Done, Stop};
+use jukesogbi::files::Network;
 use jukesogbi::form::{MAX_GRID, MAX_NODES, NUMBER_SIZE};
 use jukesogbi::oracle::Oracle;
 use jukesogbi::plain::{self, Cells, Graph, Search, Tables};
@@ -27,6 +29,9 @@ fn timed(times: usize, mut one: impl FnMut(), mut other: impl FnMut()) -> (Durat
     }
     least
 }
+
+/// The columns of a table that has the core beside plain Rust.
+const BESIDE_PLAIN: &str = "| what | core | plain | unit | core's time / plain's |";
 
 fn head(out: &mut Output, columns: &str) -> Done {
     out.say(format_args!("{columns}\n|---|---|---|---|---|"))
@@ -52,21 +57,29 @@ struct Case {
     name: String,
 }
 
-/// Builds with both, and says where they differ.
-fn building(out: &mut Output, n: usize, g: u32) -> Result<Case, Stop> {
-    let network = sample::network(n, 1).to_bytes();
+/// How often a build is timed: the longer it takes, the less often.
+fn build_timings(net: &Network) -> usize {
+    match net.edges.len() {
+        0..=2048 => 9,
+        2049..=8192 => 3,
+        _ => 1,
+    }
+}
+
+/// Builds with both, and stops where they differ.
+fn building(out: &mut Output, net: &Network, name: &str, g: u32) -> Result<Case, Stop> {
+    let network = net.to_bytes();
     let mut work = vec![0; files::words_needed(&network)];
     let mut oracle = vec![0; files::most_room(&network)];
-    let times = if n <= 1024 { 9 } else { 3 };
     let (mut size, mut beside) = (0, Vec::new());
     let (core, plain) = timed(
-        times,
+        build_timings(net),
         || size = core::build(&network, g, &mut work, &mut oracle).expect("a sample is accepted").size,
         || beside = plain::build(&network, g),
     );
     oracle.truncate(size);
     assert!(oracle == beside, "the two oracles differ");
-    let name = format!("N {n}, g {g}");
+    let name = format!("{name}, g {g}");
     spent(out, &format!("build, {name}"), core, plain)?;
     Ok(Case { oracle, name })
 }
@@ -181,25 +194,34 @@ fn block(out: &mut Output, case: &Case) -> Result<(String, Duration, Duration), 
 /// The sizes that are measured by default, as far as the number of nodes given.
 const SIZES: [usize; 3] = [256, 1024, MAX_NODES];
 
+/// The grids under which is built by default, and that of them under which is asked.
+const GRIDS: [u32; 3] = [16, ASKED, 64];
+const ASKED: u32 = 32;
+
+/// Those sizes that are up to n; n alone where it is below them all, or a grid is given.
+fn sizes_up_to(n: usize, grid: Option<u32>, sizes: &[usize]) -> Vec<usize> {
+    if grid.is_some() || n < sizes[0] { vec![n] } else { sizes.iter().copied().filter(|&size| size <= n).collect() }
+}
+
 /// Sizes up to that given, or that one where it is below them all, with three grids; with a grid given, that size alone with that one.
 pub fn run(call: &mut Call) -> Done {
     let (n, grid) = (call.number_if(0)?, call.number_if(1)?);
     let n = sample_size(n.unwrap_or(MAX_NODES as u32))?;
-    let (sizes, grids) = match grid {
-        Some(g) if !(1..=MAX_GRID).contains(&g) => return slip(format!("a grid has 1 to {MAX_GRID} cells a side")),
-        Some(g) => (vec![n], vec![g]),
-        None if n < SIZES[0] => (vec![n], vec![16, 32, 64]),
-        None => (SIZES.into_iter().filter(|&size| size <= n).collect(), vec![16, 32, 64]),
-    };
-    measure(call.out, &sizes, &grids, grid.unwrap_or(32))
+    if grid.is_some_and(|g| !(1..=MAX_GRID).contains(&g)) {
+        return slip(format!("a grid has 1 to {MAX_GRID} cells a side"));
+    }
+    let grids = grid.map_or(GRIDS.to_vec(), |g| vec![g]);
+    measure(call.out, &sizes_up_to(n, grid, &SIZES), &grids, grid.unwrap_or(ASKED))?;
+    call.out.say("")?;
+    roads::table(call.out, n, grid)
 }
 
 /// Builds under all grids, and asks under one.
 fn measure(out: &mut Output, sizes: &[usize], grids: &[u32], asked: u32) -> Done {
-    head(out, "| what | core | plain | unit | core's time / plain's |")?;
+    head(out, BESIDE_PLAIN)?;
     let (mut blocks, mut under, mut legs) = (Vec::new(), Vec::new(), Vec::new());
     for (&n, &g) in sizes.iter().flat_map(|n| grids.iter().map(move |g| (n, g))) {
-        let case = building(out, n, g)?;
+        let case = building(out, &sample::network(n, 1), &format!("N {n}"), g)?;
         if g == asked {
             asking(out, &case)?;
             blocks.push(block(out, &case)?);

@@ -156,6 +156,8 @@ const COMMANDS: &[Command] = &[
         does: "measure the core beside plain Rust, with up to N places (4096)",
         more: &[
             "Sizes are 256, 1024 and 4096 as far as N, or N alone where it is below 256; grids are 16, 32 and 64.",
+            "Networks with 1.4 to 4 roads a place in random order have 1024 and 2048 places as far as N, or N alone where it is below 1024; the grid is 32.",
+            "With N 4096 one more has 4096 places and 16384 roads, the most there can be; its grid is 64.",
             "With G it measures N places under a grid of G x G cells alone.",
         ],
         run: bench::run,
