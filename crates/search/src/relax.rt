@@ -2,7 +2,7 @@
 ghost use mathlib.Core.Path.{_≡_};
 ghost use mathlib.Core.Bool.{false};
 ghost use mathlib.Core.List.{[]};
-ghost use Prim.Native.Nat.{_*_, _<_};
+ghost use Prim.Native.Nat.{_<_};
 ghost use Rattle.algorithms.specs.Dijkstra.{at, relax-all};
 ghost use Rattle.model.specs.Network.{edgeCount, someEdgeBroken};
 ghost use Rattle.sheet.specs.ArcsUnder.{arcsUnder, arcsLeft};

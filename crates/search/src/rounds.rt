@@ -1,6 +1,6 @@
 // The beginning, a round and the end of a search, in the first of more words than it needs.
 ghost use mathlib.Core.Path.{_≡_};
-ghost use Prim.Native.Nat.{_*_, _<_, _≤_};
+ghost use Prim.Native.Nat.{_<_, _≤_};
 ghost use lib.ListN.{length, set, replicate};
 ghost use Rattle.model.specs.Network.{maxNodes};
 ghost use Rattle.model.specs.Oracle.{noWalk};

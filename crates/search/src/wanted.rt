@@ -1,6 +1,6 @@
 // Dijkstra's method (document 002, 2.1) from one node, up to the wanted nodes.
 ghost use mathlib.Core.Path.{_≡_};
-ghost use Prim.Native.Nat.{_+_, _-_, _*_, _<_, _≤_};
+ghost use Prim.Native.Nat.{_+_, _-_, _<_, _≤_};
 ghost use lib.ListN.{getD, replicate};
 ghost use Rattle.model.specs.Network.{maxNodes};
 ghost use Rattle.algorithms.specs.Dijkstra.{at};

@@ -1,7 +1,6 @@
 -- `positions::head_in` meets its contract: for one node there is no word.
 use native.Mathlib.Omega.{arith}
 use Rattle.index.proofs.Places.{heads-fit, read-none}
-use borrow.Author.Needs.{needs}
 use Rattle.index.proofs.positions.head_in.Statement.{statement}
 use Rattle.index.proofs.positions.head_in.Tie as tie
 

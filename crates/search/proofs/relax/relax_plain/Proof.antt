@@ -1,5 +1,4 @@
 -- `relax::relax_plain` meets its contract: the arcs that the walk has passed are relaxed, and at its end those are all.
-use Prim.Native.Nat.{_*_}
 use native.Mathlib.Omega.{arith}
 use mathlib.Core.Path.{_≡_, refl, sym}
 use borrow.Author.Needs.{needs}
