@@ -24,7 +24,8 @@ int main(void) {
     printf("audit: rule %u\n", jukesogbi_audit(oracle, built.size, work, 24));
 
     jukesogbi_reply reply = jukesogbi_time(oracle, built.size, 0, 2, work, 24);
-    printf("time 0 to 2: %u seconds, %s, %u pairs\n", reply.seconds, reply.kind == JUKESOGBI_FAR ? "far" : "local", reply.pairs);
+    const char *kind = reply.kind == JUKESOGBI_FAR ? "far" : "local";
+    printf("time 0 to 2: %u seconds by %u roads, %s, %u pairs\n", reply.seconds, reply.roads, kind, reply.pairs);
 
     jukesogbi_route route = jukesogbi_way(oracle, built.size, 0, 2, work, 24, nodes, sizeof nodes);
     printf("way 0 to 2:");
@@ -36,7 +37,8 @@ int main(void) {
     const uint32_t starts[] = {0, 1}, ends[] = {2, 1, 0};
     jukesogbi_times block = jukesogbi_block(oracle, built.size, starts, 2, ends, 3, work, 24);
     for (int i = 0; i < 2; i++) {
-        printf("times from %u to 2, 1, 0: %u %u %u\n", starts[i], block.times[i][0], block.times[i][1], block.times[i][2]);
+        const uint32_t *times = block.times[i], *roads = block.roads[i];
+        printf("times from %u to 2, 1, 0: %u %u %u, roads %u %u %u\n", starts[i], times[0], times[1], times[2], roads[0], roads[1], roads[2]);
     }
 
     jukesogbi_part list = jukesogbi_list(oracle, built.size, 0);
@@ -44,6 +46,6 @@ int main(void) {
     printf("too few words: rule %u\n", jukesogbi_time(oracle, built.size, 0, 2, work, 23).rule);
 
     reply = jukesogbi_far(oracle, built.size, 2, 0);
-    printf("far 2 to 0: %u seconds; 0 to 1: rule %u\n", reply.seconds, jukesogbi_far(oracle, built.size, 0, 1).rule);
+    printf("far 2 to 0: %u seconds by %u roads; 0 to 1: rule %u\n", reply.seconds, reply.roads, jukesogbi_far(oracle, built.size, 0, 1).rule);
     return 0;
 }

@@ -14,8 +14,8 @@ pub fn rule_text(rule: u32) -> &'static str {
     texts.into_iter().find(|(number, _)| number.parse() == Ok(rule)).map_or("no such rule", |(_, text)| text)
 }
 
-/// The rule that a file with closed roads breaks, in every call but the converter's.
-pub const CLOSED_ROADS: u32 = 21;
+/// The rule that a file of another edition breaks, or of another kind.
+pub const CONTENTS: u32 = 1;
 
 impl fmt::Display for Refused {
     fn fmt(&self, f: &mut fmt::Formatter<'_>) -> fmt::Result {
@@ -39,12 +39,32 @@ impl fmt::Display for Kind {
     }
 }
 
+/// The time of a walk: its seconds and its number of roads. They are compared by seconds, then by fewer roads.
+#[derive(Clone, Copy, Debug, PartialEq, Eq, PartialOrd, Ord)]
+pub struct Time {
+    pub seconds: u32,
+    pub roads: u32,
+}
+
+impl Time {
+    /// The time that two such numbers stand for: `NO_WALK` is none.
+    pub fn of(number: u32, roads: u32) -> Option<Time> {
+        seconds(number).map(|seconds| Time { seconds, roads })
+    }
+}
+
 /// A time (or none), with the kind of the pair and the pairs tried.
 #[derive(Clone, Copy, Debug, PartialEq, Eq)]
 pub struct Answer {
-    pub seconds: Option<u32>,
+    pub time: Option<Time>,
     pub kind: Kind,
     pub pairs: u32,
+}
+
+impl Answer {
+    pub fn seconds(&self) -> Option<u32> {
+        self.time.map(|time| time.seconds)
+    }
 }
 
 /// The size of an oracle in bytes, and its number of transit nodes.
@@ -57,17 +77,19 @@ pub struct Built {
 /// The most nodes that either side of a block may name.
 pub const SIDE: usize = 12;
 
-/// All times between the starts and the ends of a call: a row for each start, a column for each end.
+/// All times between the starts and the ends of a call: a row for each start, a column for each end; and the like for roads.
 #[derive(Clone, Copy, Debug, PartialEq, Eq)]
 pub struct Block {
-    /// As the core has them: `NO_WALK` for none, 0 in unused squares.
+    /// The seconds as the core has them: `NO_WALK` for none, 0 in unused squares.
     pub times: [[u32; SIDE]; SIDE],
+    /// The numbers of roads likewise: `NO_ROADS` for none.
+    pub roads: [[u32; SIDE]; SIDE],
 }
 
 impl Block {
     /// From start i to end j, by their positions in the call.
-    pub fn seconds(&self, i: usize, j: usize) -> Option<u32> {
-        seconds(self.times[i][j])
+    pub fn time(&self, i: usize, j: usize) -> Option<Time> {
+        Time::of(self.times[i][j], self.roads[i][j])
     }
 }
 
@@ -89,6 +111,7 @@ pub mod raw {
         pub rule: u32,
         pub kind: u32,
         pub seconds: u32,
+        pub roads: u32,
         pub pairs: u32,
     }
 
@@ -112,6 +135,7 @@ pub mod raw {
     pub struct Times {
         pub rule: u32,
         pub times: [[u32; SIDE]; SIDE],
+        pub roads: [[u32; SIDE]; SIDE],
     }
 
     /// Of a call that writes output: how many bytes its result takes. A sheet may take more than 32 bits can tell.
@@ -173,7 +197,10 @@ pub mod raw {
 /// In `raw::Answer`, a block's squares and the times of legs, and in an oracle's bodies 6 and 7: no walk.
 pub const NO_WALK: u32 = u32::MAX;
 
-/// The time that such a number stands for.
+/// The number of roads beside it, wherever there is one.
+pub const NO_ROADS: u32 = u16::MAX as u32;
+
+/// The seconds that such a number stands for.
 pub fn seconds(number: u32) -> Option<u32> {
     (number != NO_WALK).then_some(number)
 }
@@ -189,7 +216,7 @@ pub(crate) fn squares(b: raw::Times) -> Result<Block, Refused> {
     if b.rule != 0 {
         return Err(Refused(b.rule));
     }
-    Ok(Block { times: b.times })
+    Ok(Block { times: b.times, roads: b.roads })
 }
 
 pub(crate) fn written(o: raw::Output) -> Result<usize, Refused> {
@@ -204,7 +231,7 @@ pub(crate) fn answer(a: raw::Answer) -> Result<Answer, Refused> {
         return Err(Refused(a.rule));
     }
     Ok(Answer {
-        seconds: seconds(a.seconds),
+        time: Time::of(a.seconds, a.roads),
         kind: if a.kind == 1 { Kind::Far } else { Kind::Local },
         pairs: a.pairs,
     })

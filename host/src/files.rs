@@ -103,10 +103,10 @@ impl Kind {
     }
 }
 
-/// Whether a file begins as one of this kind does. It may be damaged otherwise.
+/// Whether a file begins as one of this kind does, in its edition or one before. It may be damaged otherwise.
 pub fn looks_like(f: &[u8], kind: Kind) -> bool {
-    let bodies = kind.bodies();
-    f.len() >= entry_at(bodies) && f[0] == kind.edition() && f[1] as usize == bodies && (0..bodies).all(|k| f[entry_at(k)] == kind.first() + k as u8)
+    let (editions, bodies) = (1..=kind.edition(), kind.bodies());
+    f.len() >= entry_at(bodies) && editions.contains(&f[0]) && f[1] as usize == bodies && (0..bodies).all(|k| f[entry_at(k)] == kind.first() + k as u8)
 }
 
 /// The number of nodes that a file shows, as far as it can be read; at most as many as a network may have.
@@ -145,9 +145,16 @@ pub fn numbers(b: &[u8]) -> Vec<u16> {
     b.chunks_exact(NUMBER_SIZE).map(|c| read16(c, 0)).collect()
 }
 
+/// A value of the lists and the table as it stands there: seconds and a number of roads.
+pub type Value = (u32, u16);
+
+pub fn value(b: &[u8], at: usize) -> Value {
+    (read32(b, at), read16(b, at + SECONDS_SIZE))
+}
+
 /// The entries of an access list, its count included: an index and a value each.
-pub fn list_entries(list: &[u8]) -> impl Iterator<Item = (u16, u32)> + '_ {
-    list[COUNT_SIZE..].chunks_exact(LIST_ENTRY_SIZE).map(|e| (read16(e, 0), read32(e, NUMBER_SIZE)))
+pub fn list_entries(list: &[u8]) -> impl Iterator<Item = (u16, Value)> + '_ {
+    list[COUNT_SIZE..].chunks_exact(LIST_ENTRY_SIZE).map(|e| (read16(e, 0), value(e, NUMBER_SIZE)))
 }
 
 /// The grid number of an oracle.

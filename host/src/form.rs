@@ -2,12 +2,13 @@
 //! itself, and the tests' reference has numbers of its own.
 
 pub const NETWORK_EDITION: u8 = 1;
-pub const ORACLE_EDITION: u8 = 1;
+pub const ORACLE_EDITION: u8 = 2;
 pub const SHEET_EDITION: u8 = 1;
 
 /// The edition and the number of entries, then the entries: kind, offset, length.
 pub const HEAD_SIZE: usize = 2;
 pub const ENTRY_SIZE: usize = 9;
+pub const LENGTH_SIZE: usize = 4;
 
 /// The bodies of a network, and those that an oracle has beside them. That of closed edges is empty but in old files, which the converter alone takes.
 pub const NODES: usize = 0;
@@ -32,20 +33,21 @@ pub const COORDINATE_SIZE: usize = 4;
 pub const NODE_SIZE: usize = 2 * COORDINATE_SIZE;
 pub const EDGE_SIZE: usize = 8;
 pub const NUMBER_SIZE: usize = 2;
+pub const SECONDS_SIZE: usize = 4;
 pub const GRID_SIZE: usize = 2;
 
-/// In the access body: where a list starts, its count, and an entry, which is an index and a value.
+/// In the access body: where a list starts, its count, and an entry, which is an index and a value: seconds, and a number of roads.
 pub const START_SIZE: usize = 4;
 pub const COUNT_SIZE: usize = 2;
-pub const VALUE_SIZE: usize = 4;
+pub const VALUE_SIZE: usize = SECONDS_SIZE + NUMBER_SIZE;
 pub const LIST_ENTRY_SIZE: usize = NUMBER_SIZE + VALUE_SIZE;
 
 /// A line of a sheet: its first byte, a number, and seconds.
-pub const LINE_SIZE: usize = 1 + NUMBER_SIZE + VALUE_SIZE;
+pub const LINE_SIZE: usize = 1 + NUMBER_SIZE + SECONDS_SIZE;
 pub const CLOSED_LINE: u8 = 1;
 pub const DELAYED_LINE: u8 = 2;
 
-/// A leg is two numbers. Behind the times of all legs stand how many have no walk, and the total.
+/// A leg is two numbers. Behind the seconds of all legs stand how many have no walk, and the total.
 pub const LEG_SIZE: usize = 2 * NUMBER_SIZE;
 pub const NONE_SIZE: usize = 4;
 pub const TOTAL_SIZE: usize = 8;
@@ -54,10 +56,11 @@ pub const MAX_LEGS: usize = 1000;
 pub const MAX_NODES: usize = 4096;
 pub const MAX_EDGES: usize = 16_384;
 pub const MAX_METRES: i32 = 1_000_000;
-pub const MIN_SECONDS: u32 = 1;
 pub const MAX_SECONDS: u32 = 100_000;
 pub const MAX_GRID: u32 = 64;
-pub const MAX_VALUE: u32 = (MAX_NODES as u32 - 1) * MAX_SECONDS;
+/// A least walk comes by no node twice.
+pub const MAX_VALUE_ROADS: u32 = MAX_NODES as u32 - 1;
+pub const MAX_VALUE_SECONDS: u32 = MAX_VALUE_ROADS * MAX_SECONDS;
 
 /// Working words for each node.
 pub const WORDS: usize = 8;

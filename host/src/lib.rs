@@ -11,4 +11,5 @@ pub mod plain;
 pub mod reading;
 pub mod sample;
 pub mod sheet;
+pub mod text;
 pub mod wages;

@@ -1,22 +1,13 @@
 //! The text of the listing program.
 
-use crate::core::{self, Refused};
+use crate::core::Refused;
 use crate::files;
 use crate::oracle::Oracle;
+use crate::text;
 use std::io::{self, Write};
 
 /// As many bytes of an oracle are read, the first, if it is longer (document 01, the listing program). `write` itself lists an oracle of any size.
 pub const READ: usize = 28_672;
-
-/// A time as text, `-` for none.
-pub fn seconds_text(seconds: Option<u32>) -> String {
-    seconds.map_or("-".to_string(), |s| s.to_string())
-}
-
-/// One answer as text: seconds or `-`, and the kind.
-pub fn answer_text(a: &core::Answer) -> String {
-    format!("{} {}", seconds_text(a.seconds), a.kind)
-}
 
 /// Writes the listing, or `refused R`. The inner result is the refusal.
 pub fn write(oracle: &[u8], out: &mut impl Write) -> io::Result<Result<(), Refused>> {
@@ -32,7 +23,7 @@ pub fn write(oracle: &[u8], out: &mut impl Write) -> io::Result<Result<(), Refus
     for s in 0..n {
         for t in s + 1..n {
             match opened.time(s, t) {
-                Ok(a) => writeln!(out, "{s} {t} {}", answer_text(&a))?,
+                Ok(a) => writeln!(out, "{s} {t} {} {}", text::number(a.seconds()), a.kind)?,
                 Err(refused) => return Ok(Err(refused)),
             }
         }

@@ -1,25 +1,51 @@
 //! Building in plain Rust with all the memory it likes, to measure the proved core against: adjacency lists, a binary heap, one search per crossing
 //! node that ends when every wanted node is settled, backward marks. It serves the benchmark alone.
 
+use crate::core::{Time, NO_ROADS, NO_WALK};
 use crate::files::{self, Network};
 use crate::form::*;
 use std::cmp::Reverse;
 use std::collections::BinaryHeap;
 
-pub const NONE: u32 = u32::MAX;
+/// Seconds and a number of roads in one number, which is compared as they are: by the one, then by the other.
+pub type Key = u64;
 
-/// The edges at each node.
+const ROADS_BITS: u32 = u16::BITS;
+
+const fn key(seconds: u32, roads: u32) -> Key {
+    (seconds as Key) << ROADS_BITS | roads as Key
+}
+
+pub const NONE: Key = key(NO_WALK, NO_ROADS);
+
+/// Of a time of the core's.
+pub fn key_of(time: Option<Time>) -> Key {
+    time.map_or(NONE, |time| key(time.seconds, time.roads))
+}
+
+fn key_at(b: &[u8], at: usize) -> Key {
+    let (seconds, roads) = files::value(b, at);
+    key(seconds, roads as u32)
+}
+
+/// As a value of the lists and the table.
+fn value_bytes(key: Key) -> [u8; VALUE_SIZE] {
+    let bytes = key.to_le_bytes();
+    [bytes[2], bytes[3], bytes[4], bytes[5], bytes[0], bytes[1]]
+}
+
+/// The edges at each node: where each leads, and what it costs.
 pub struct Graph {
     pub start: Vec<usize>,
-    pub arcs: Vec<(u32, u32)>,
+    pub arcs: Vec<(u32, Key)>,
 }
 
 impl Graph {
     pub fn of(net: &Network) -> Graph {
         let mut lists = vec![Vec::new(); net.nodes.len()];
         for e in &net.edges {
-            lists[e.first as usize].push((e.second as u32, e.seconds));
-            lists[e.second as usize].push((e.first as u32, e.seconds));
+            lists[e.first as usize].push((e.second as u32, key(e.seconds, 1)));
+            lists[e.second as usize].push((e.first as u32, key(e.seconds, 1)));
         }
         let mut start = vec![0];
         let mut arcs = Vec::new();
@@ -30,16 +56,16 @@ impl Graph {
         Graph { start, arcs }
     }
 
-    pub fn at(&self, u: usize) -> &[(u32, u32)] {
+    pub fn at(&self, u: usize) -> &[(u32, Key)] {
         &self.arcs[self.start[u]..self.start[u + 1]]
     }
 }
 
 /// A search's memory: times, and the nodes in the order in which they were settled.
 pub struct Search {
-    pub times: Vec<u32>,
+    pub times: Vec<Key>,
     pub order: Vec<u32>,
-    heap: BinaryHeap<Reverse<(u32, u32)>>,
+    heap: BinaryHeap<Reverse<(Key, u32)>>,
 }
 
 impl Search {
@@ -158,7 +184,7 @@ pub fn build(network: &[u8], g: u32) -> Vec<u8> {
         lists.extend((list.len() as u16).to_le_bytes());
         for &a in list {
             lists.extend(index[a as usize].to_le_bytes());
-            lists.extend(search.times[a as usize].to_le_bytes());
+            lists.extend(value_bytes(search.times[a as usize]));
         }
     }
     starts.extend(lists);
@@ -167,7 +193,7 @@ pub fn build(network: &[u8], g: u32) -> Vec<u8> {
     for &a in &transit {
         search.all(&graph, a as usize);
         for &b in &transit {
-            table.extend(search.times[b as usize].to_le_bytes());
+            table.extend(value_bytes(search.times[b as usize]));
         }
     }
     bodies.push(table);
@@ -205,8 +231,9 @@ fn rising(body: &[u8], limit: usize) -> bool {
     body.len().is_multiple_of(NUMBER_SIZE) && numbers().zip(numbers().skip(1)).all(|(a, b)| a < b) && numbers().next_back().is_none_or(|k| (k as usize) < limit)
 }
 
-fn in_range(seconds: u32) -> bool {
-    seconds <= MAX_VALUE || seconds == NONE
+fn in_range((seconds, roads): files::Value) -> bool {
+    let roads = roads as u32;
+    seconds <= MAX_VALUE_SECONDS && roads <= MAX_VALUE_ROADS || (seconds, roads) == (NO_WALK, NO_ROADS)
 }
 
 /// The size of the list at a position, its count included.
@@ -259,9 +286,7 @@ fn bodies_sound<'a>(body: impl Fn(usize) -> &'a [u8]) -> bool {
     let (nodes, edges, table) = (body(NODES), body(EDGES), body(TABLE));
     let (n, m, transit) = (nodes.len() / NODE_SIZE, edges.len() / EDGE_SIZE, body(TRANSIT).len() / NUMBER_SIZE);
     let end = |e: &[u8], at: usize| files::read16(e, at) as usize;
-    let sound = |e: &[u8]| {
-        end(e, 0) < n && end(e, 2) < n && end(e, 0) != end(e, 2) && (MIN_SECONDS..=MAX_SECONDS).contains(&files::read32(e, 4))
-    };
+    let sound = |e: &[u8]| end(e, 0) < n && end(e, 2) < n && end(e, 0) != end(e, 2) && files::read32(e, 4) <= MAX_SECONDS;
     nodes.len().is_multiple_of(NODE_SIZE)
         && (1..=MAX_NODES).contains(&n)
         && nodes.chunks_exact(COORDINATE_SIZE).all(|c| (-MAX_METRES..=MAX_METRES).contains(&(files::read32(c, 0) as i32)))
@@ -274,7 +299,7 @@ fn bodies_sound<'a>(body: impl Fn(usize) -> &'a [u8]) -> bool {
         && rising(body(TRANSIT), n)
         && lists_sound(body(ACCESS), n, transit)
         && table.len() == VALUE_SIZE * transit * transit
-        && table.chunks_exact(VALUE_SIZE).all(|c| in_range(files::read32(c, 0)))
+        && table.chunks_exact(VALUE_SIZE).all(|c| in_range(files::value(c, 0)))
 }
 
 // ---- Answers ----
@@ -292,29 +317,30 @@ impl<'a> Tables<'a> {
         Tables { access: body(ACCESS), table: body(TABLE), transit: files::transit_nodes(oracle).len() }
     }
 
-    fn list(&self, u: usize) -> impl Iterator<Item = (usize, u32)> + '_ {
+    fn list(&self, u: usize) -> impl Iterator<Item = (usize, Key)> + '_ {
         let at = files::read32(self.access, START_SIZE * u) as usize;
-        files::list_entries(&self.access[at..][..list_size(self.access, at)]).map(|(index, value)| (index as usize, value))
+        files::list_entries(&self.access[at..][..list_size(self.access, at)]).map(|(index, (seconds, roads))| (index as usize, key(seconds, roads as u32)))
     }
 
-    pub fn far(&self, s: usize, t: usize) -> Option<u32> {
+    /// `NONE` for none.
+    pub fn far(&self, s: usize, t: usize) -> Key {
         let mut least = NONE;
-        let entering: Vec<(usize, u32)> = self.list(t).filter(|e| e.1 != NONE).collect();
+        let entering: Vec<(usize, Key)> = self.list(t).filter(|e| e.1 != NONE).collect();
         for (i, a) in self.list(s).filter(|e| e.1 != NONE) {
             for &(j, b) in &entering {
-                let between = files::read32(self.table, VALUE_SIZE * (i * self.transit + j));
+                let between = key_at(self.table, VALUE_SIZE * (i * self.transit + j));
                 if between != NONE {
                     least = least.min(a + between + b);
                 }
             }
         }
-        (least != NONE).then_some(least)
+        least
     }
 }
 
 /// All times between starts and ends, row by row, `NONE` for none. A start has one search, which ends when its local ends are settled, or none where
 /// all its ends are far.
-pub fn block(graph: &Graph, cells: &Cells, tables: &Tables, search: &mut Search, starts: &[u32], ends: &[u32]) -> Vec<u32> {
+pub fn block(graph: &Graph, cells: &Cells, tables: &Tables, search: &mut Search, starts: &[u32], ends: &[u32]) -> Vec<Key> {
     let mut times = Vec::with_capacity(starts.len() * ends.len());
     for s in starts.iter().map(|&s| s as usize) {
         let mut local: Vec<u32> = ends.iter().copied().filter(|&t| !cells.far(s, t as usize)).collect();
@@ -327,7 +353,7 @@ pub fn block(graph: &Graph, cells: &Cells, tables: &Tables, search: &mut Search,
                 left == 0
             });
         }
-        times.extend(ends.iter().map(|&t| t as usize).map(|t| if cells.far(s, t) { tables.far(s, t).unwrap_or(NONE) } else { search.times[t] }));
+        times.extend(ends.iter().map(|&t| t as usize).map(|t| if cells.far(s, t) { tables.far(s, t) } else { search.times[t] }));
     }
     times
 }

@@ -126,3 +126,29 @@ pub fn unordered(n: usize, roads: usize, seed: u64) -> Network {
     random.shuffle(&mut edges);
     Network { nodes, edges }
 }
+
+/// Metres between the two nodes of a wide junction, at the most.
+const WIDE: u64 = 20;
+
+/// A network of n nodes in which about two of five are halves of wide junctions: of two nodes near each other, joined by a road of no time, each with some of
+/// the roads that meet there.
+pub fn junctions(n: usize, seed: u64) -> Network {
+    let mut random = Random(seed);
+    let whole = n - n / 5;
+    let Network { mut nodes, mut edges } = joined(whole, &mut random);
+    let mut widened: Vec<usize> = (0..whole).collect();
+    random.shuffle(&mut widened);
+    for &u in &widened[..n - whole] {
+        let (half, (x, y)) = (nodes.len() as u16, nodes[u]);
+        nodes.push((x + 1 + random.below(WIDE) as i32, y));
+        for edge in &mut edges {
+            for end in [&mut edge.first, &mut edge.second] {
+                if *end as usize == u && random.once_in(2) {
+                    *end = half;
+                }
+            }
+        }
+        edges.push(Edge { first: u as u16, second: half, seconds: 0 });
+    }
+    Network { nodes, edges }
+}

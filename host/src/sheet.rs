@@ -84,7 +84,7 @@ impl Sheet {
             return false;
         }
         self.0.extend(line.bytes());
-        self.0[start - VALUE_SIZE..start].copy_from_slice(&size.to_le_bytes());
+        self.0[start - LENGTH_SIZE..start].copy_from_slice(&size.to_le_bytes());
         true
     }
 

@@ -35,10 +35,10 @@ pub fn legs(pairs: &[(u16, u16)]) -> Vec<u8> {
 
 /// The bytes that the result of these legs takes.
 pub fn size(legs: &[u8]) -> usize {
-    VALUE_SIZE * (legs.len() / LEG_SIZE) + NONE_SIZE + TOTAL_SIZE
+    SECONDS_SIZE * (legs.len() / LEG_SIZE) + NONE_SIZE + TOTAL_SIZE
 }
 
-/// A time for each leg in the order entered, how many have none, and the total of the others.
+/// A time for each leg in the order entered, in seconds, how many have none, and the total of the others.
 #[derive(Clone, Debug, PartialEq, Eq)]
 pub struct Wages {
     pub times: Vec<Option<u32>>,
@@ -50,9 +50,9 @@ impl Wages {
     /// From all that the core has written.
     pub fn of(written: &[u8]) -> Wages {
         let (times, end) = written.split_at(written.len() - NONE_SIZE - TOTAL_SIZE);
-        let (low, high) = (files::read32(end, NONE_SIZE), files::read32(end, NONE_SIZE + VALUE_SIZE));
+        let (low, high) = (files::read32(end, NONE_SIZE), files::read32(end, NONE_SIZE + TOTAL_SIZE / 2));
         Wages {
-            times: times.chunks_exact(VALUE_SIZE).map(|time| core::seconds(files::read32(time, 0))).collect(),
+            times: times.chunks_exact(SECONDS_SIZE).map(|time| core::seconds(files::read32(time, 0))).collect(),
             none: files::read32(end, 0),
             total: (high as u64) << u32::BITS | low as u64,
         }

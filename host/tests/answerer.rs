@@ -11,9 +11,9 @@ use std::time::Duration;
 #[test]
 fn an_answer_for_each_pair() {
     let f = Folder::with_files("answerer_pairs");
-    f.run_with("time fork.oracle", b"0 4\n0 3\n\n  4\t0  \n1 1").says("11 far 4\n10 local 0\n11 far 4\n0 local 0\n");
-    f.run_with("time fork.oracle", b"0 4\r\n \r\n4 0\r\n").says("11 far 4\n11 far 4\n");
-    f.run_with("far fork.oracle", b"0 4\n4 0\n").says("11 far 4\n11 far 4\n");
+    f.run_with("time fork.oracle", b"0 4\n0 3\n\n  4\t0  \n1 1").says("11 3 far 4\n10 2 local 0\n11 3 far 4\n0 0 local 0\n");
+    f.run_with("time fork.oracle", b"0 4\r\n \r\n4 0\r\n").says("11 3 far 4\n11 3 far 4\n");
+    f.run_with("far fork.oracle", b"0 4\n4 0\n").says("11 3 far 4\n11 3 far 4\n");
     f.run_with("way fork.oracle", b"0 4\n3 3\n").says("0 1 3 4\n3\n");
     for command in ["time", "far", "way"] {
         f.run_with(&format!("{command} fork.oracle"), b"").says("");
@@ -27,7 +27,7 @@ fn refused_pairs() {
     let f = Folder::with_files("answerer_refused");
     f.run_with("far fork.oracle", b"0 4\n0 3\n\n0 5\n4 0\n").does(
         1,
-        "11 far 4\nrefused 13\nrefused 12\n11 far 4\n",
+        "11 3 far 4\nrefused 13\nrefused 12\n11 3 far 4\n",
         "line 2: 0 3: rule 13: the far question on a local pair\nline 4: 0 5: rule 12: a place number in the call not below N\n",
     );
     let short = "line 2: 0 2: rule 15: output shorter than the whole result\n";
@@ -51,10 +51,10 @@ fn refused_oracles() {
             }
         }
     }
-    f.run_with("time line.oracle --words 24", b"0 2\n").says("16 far 1\n");
+    f.run_with("time line.oracle --words 24", b"0 2\n").says("16 2 far 1\n");
     f.run_with("way line.oracle --words 24", b"0 2\n").says("0 1 2\n");
     // This question takes no words.
-    f.run_with("far line.oracle --words 0", b"0 2\n").says("16 far 1\n");
+    f.run_with("far line.oracle --words 0", b"0 2\n").says("16 2 far 1\n");
     // The command ends while its input stays open.
     let mut child = f.command(words("time line.net")).spawn().unwrap();
     let stdin = child.stdin.take();
@@ -72,11 +72,11 @@ fn wrong_lines() {
     for wrong in ["0", "0 1 2", "a b", "0 -1", "0 4294967296", "0;1", "0 1.5", "\u{b2} 1"] {
         let ran = f.run_with("time fork.oracle", format!("0 4\n\n{wrong}\n0 3\n").as_bytes());
         let shown: String = wrong.bytes().map(|b| b.escape_ascii().to_string()).collect();
-        ran.does(2, "11 far 4\nwrong\n10 local 0\n", &format!("line 3: {}\n", no_pair(&shown)));
+        ran.does(2, "11 3 far 4\nwrong\n10 2 local 0\n", &format!("line 3: {}\n", no_pair(&shown)));
     }
     // A wrong line weighs more than a refused pair.
     let ran = f.run_with("far fork.oracle", b"x\n0 3\n0 4\n");
-    assert_eq!((ran.code, ran.text().as_str(), ran.err.lines().count()), (2, "wrong\nrefused 13\n11 far 4\n", 2));
+    assert_eq!((ran.code, ran.text().as_str(), ran.err.lines().count()), (2, "wrong\nrefused 13\n11 3 far 4\n", 2));
     // Bytes that are no text, control characters, and the last line without its end.
     f.run_with("way fork.oracle", b"0 \xff4\n0 4\n\x1b[2J\n0 4 0").does(
         2,
@@ -95,7 +95,7 @@ fn very_long_lines() {
     let input = [&long(4096)[..], b"\n", &long(4097), b"\n", &long(1_000_000), b"\n4 0\n", &long(100_000)].concat();
     let ran = f.run_with("time fork.oracle", &input);
     let cause = |line: usize| format!("line {line}: longer than 4096 bytes\n");
-    ran.does(2, "11 far 4\nwrong\nwrong\n11 far 4\nwrong\n", &[2, 3, 5].map(cause).concat());
+    ran.does(2, "11 3 far 4\nwrong\nwrong\n11 3 far 4\nwrong\n", &[2, 3, 5].map(cause).concat());
     assert!(f.run("time --help").text().contains("longer than 4096 bytes"));
 }
 
@@ -109,7 +109,7 @@ fn a_line_without_an_end() {
         stdin.write_all(&[b'1'; 100_000]).unwrap();
     }
     assert!(touched(&child) < 20_000, "{} kB", touched(&child));
-    finish(child, b"\n0 4\n").does(2, "wrong\n11 far 4\n", "line 1: longer than 4096 bytes\n");
+    finish(child, b"\n0 4\n").does(2, "wrong\n11 3 far 4\n", "line 1: longer than 4096 bytes\n");
 }
 
 // ---- A conversation ----
@@ -150,8 +150,8 @@ impl Talk {
 fn each_answer_as_it_comes() {
     let f = Folder::with_files("answerer_talk");
     for (command, [first, second, third]) in [
-        ("time", ["11 far 4\n", "11 far 4\n", "refused 12\n"]),
-        ("far", ["11 far 4\n", "11 far 4\n", "refused 12\n"]),
+        ("time", ["11 3 far 4\n", "11 3 far 4\n", "refused 12\n"]),
+        ("far", ["11 3 far 4\n", "11 3 far 4\n", "refused 12\n"]),
         ("way", ["0 1 3 4\n", "4 3 1 0\n", "refused 12\n"]),
     ] {
         let mut talk = Talk::with(&f, &format!("{command} fork.oracle"));

@@ -11,7 +11,7 @@ use common::reference;
 #[test]
 fn build_writes_the_oracle() {
     let f = Folder::with_files("build");
-    f.run("build line.net 6 new").says("built 143 bytes, 1 transit\n");
+    f.run("build line.net 6 new").says("built 149 bytes, 1 transit\n");
     assert_eq!(f.read("new"), f.read("line.oracle"));
     f.run("build fork.net 6 new").says(&format!("built {} bytes, 2 transit\n", f.read("fork.oracle").len()));
     assert_eq!(f.read("new"), f.read("fork.oracle"));
@@ -22,10 +22,10 @@ fn build_writes_the_oracle() {
 #[test]
 fn build_from_and_to_standard_streams() {
     let f = Folder::with_files("streams");
-    f.run_with("build - 6 new", &f.read("line.net")).says("built 143 bytes, 1 transit\n");
+    f.run_with("build - 6 new", &f.read("line.net")).says("built 149 bytes, 1 transit\n");
     assert_eq!(f.read("new"), f.read("line.oracle"));
     let ran = f.run("build line.net 6 -");
-    assert_eq!((ran.code, ran.err.as_str()), (0, "built 143 bytes, 1 transit\n"));
+    assert_eq!((ran.code, ran.err.as_str()), (0, "built 149 bytes, 1 transit\n"));
     assert_eq!(ran.out, f.read("line.oracle"));
     let ran = f.run_with("build - 6 -", &f.read("fork.net"));
     assert_eq!((ran.code, ran.out), (0, f.read("fork.oracle")));
@@ -44,7 +44,7 @@ fn build_refuses_by_number() {
     refused(Plan { places: vec![], ..line.clone() }.bytes(), 3);
     refused(Plan { places: vec![(0, 0), (1_000_001, 0), (60, 0)], ..line.clone() }.bytes(), 4);
     refused(Plan { roads: vec![(0, 1, 1); 16_385], ..line.clone() }.bytes(), 5);
-    refused(Plan { roads: vec![(0, 1, 0)], ..line.clone() }.bytes(), 6);
+    refused(Plan { roads: vec![(0, 1, 100_001)], ..line.clone() }.bytes(), 6);
     refused(Old::of(line.clone(), [2]).bytes(), 7);
     refused(Old::of(line.clone(), [1]).bytes(), 21);
     f.write("net", b"");
@@ -86,15 +86,15 @@ fn audit_accepts_and_refuses() {
 #[test]
 fn time_of_one_pair() {
     let f = Folder::with_files("time");
-    f.run("time line.oracle 0 2").says("16 far 1\n");
-    f.run("time line.oracle 0 1").says("7 local 0\n");
-    f.run("time line.oracle 1 1").says("0 local 0\n");
-    f.run("time fork.oracle 0 4").says("11 far 4\n");
-    f.run("time fork.oracle 0 3").says("10 local 0\n");
-    f.run("time without.oracle 0 4").says("- far 0\n");
-    f.run("time two.oracle 0 5").says("- far 4\n");
-    f.run("time two.oracle 0 3").says("- local 0\n");
-    f.run_with("time - 0 4", &f.read("fork.oracle")).says("11 far 4\n");
+    f.run("time line.oracle 0 2").says("16 2 far 1\n");
+    f.run("time line.oracle 0 1").says("7 1 local 0\n");
+    f.run("time line.oracle 1 1").says("0 0 local 0\n");
+    f.run("time fork.oracle 0 4").says("11 3 far 4\n");
+    f.run("time fork.oracle 0 3").says("10 2 local 0\n");
+    f.run("time without.oracle 0 4").says("- - far 0\n");
+    f.run("time two.oracle 0 5").says("- - far 4\n");
+    f.run("time two.oracle 0 3").says("- - local 0\n");
+    f.run_with("time - 0 4", &f.read("fork.oracle")).says("11 3 far 4\n");
     f.run("time line.oracle 0 3").is_refused(12);
     f.run("time line.oracle 4294967295 0").is_refused(12);
     f.run("time line.net 0 1").is_refused(1);
@@ -103,10 +103,10 @@ fn time_of_one_pair() {
 #[test]
 fn far_of_one_pair() {
     let f = Folder::with_files("far");
-    f.run("far line.oracle 0 2").says("16 far 1\n");
-    f.run("far fork.oracle 4 0").says("11 far 4\n");
-    f.run("far without.oracle 0 4").says("- far 0\n");
-    f.run_with("far - 0 2", &f.read("line.oracle")).says("16 far 1\n");
+    f.run("far line.oracle 0 2").says("16 2 far 1\n");
+    f.run("far fork.oracle 4 0").says("11 3 far 4\n");
+    f.run("far without.oracle 0 4").says("- - far 0\n");
+    f.run_with("far - 0 2", &f.read("line.oracle")).says("16 2 far 1\n");
     f.run("far fork.oracle 0 3").is_refused(13);
     f.run("far fork.oracle 0 5").is_refused(12);
 }
@@ -125,14 +125,14 @@ fn way_of_one_pair() {
 #[test]
 fn list_of_a_place() {
     let f = Folder::with_files("list");
-    f.run("list line.oracle 0").says("0 7\n");
+    f.run("list line.oracle 0").says("0 7 1\n");
     f.run("list line.oracle 1").says("");
-    f.run("list line.oracle 2").says("0 9\n");
-    f.run("list fork.oracle 4").says("0 6\n1 6\n");
+    f.run("list line.oracle 2").says("0 9 1\n");
+    f.run("list fork.oracle 4").says("0 6 2\n1 6 2\n");
     // Index 0 is place 1 and index 1 is place 4: each line's own has a time, the other none.
-    f.run("list two.oracle 0").says("0 7\n1 -\n");
-    f.run("list two.oracle 5").says("0 -\n1 100000\n");
-    f.run_with("list - 0", &f.read("line.oracle")).says("0 7\n");
+    f.run("list two.oracle 0").says("0 7 1\n1 - -\n");
+    f.run("list two.oracle 5").says("0 - -\n1 100000 1\n");
+    f.run_with("list - 0", &f.read("line.oracle")).says("0 7 1\n");
     f.run("list line.oracle 3").is_refused(12);
 }
 
@@ -147,6 +147,39 @@ fn block_of_times() {
     f.run_with("block - 4 0,1", &f.read("fork.oracle")).says("11 6\n");
     f.run("block line.oracle 2,2,2,2,2,2,2,2,2,2,2,2 1").says(&"9\n".repeat(12));
     f.run("block line.oracle 1 0,0,0,0,0,0,0,0,0,0,0,0").says("7 7 7 7 7 7 7 7 7 7 7 7\n");
+}
+
+/// The block of roads, with the option before, between and behind the words.
+#[test]
+fn block_of_roads() {
+    let f = Folder::with_files("block_roads");
+    f.run("block line.oracle 0,1,2 2,1,0,2 --roads").says("2 1 0 2\n1 0 1 1\n0 1 2 0\n");
+    f.run("--roads block fork.oracle 0,4 3,4").says("2 3\n1 0\n");
+    f.run("block --roads without.oracle 0,4 3,4").says("2 -\n- 0\n");
+    f.run("block two.oracle 0,0,3 --roads 5,3,2").says("- - 2\n- - 2\n2 0 -\n");
+    f.run_with("block - 4 0,1 --roads --words 40", &f.read("fork.oracle")).says("3 2\n");
+    f.run("block line.oracle 0,3 1 --roads").is_refused(12);
+    f.run("block line.oracle '' 1 --roads").is_refused(17);
+}
+
+/// A junction of two places joined by 0 seconds, from the network to the picture.
+#[test]
+fn roads_of_no_time() {
+    let f = Folder::new("no_time");
+    f.write("net", &networks::junction().bytes());
+    f.run("build net 6 oracle").says("built 171 bytes, 1 transit\n");
+    f.run("audit oracle").says("accepted\n");
+    f.run("time oracle 1 2").says("0 1 local 0\n");
+    f.run("time oracle 0 3").says("16 3 far 1\n");
+    f.run("way oracle 0 3").says("0 1 2 3\n");
+    f.run("list oracle 3").says("0 9 2\n");
+    f.run("block oracle 0,1 2,3").says("7 16\n0 9\n");
+    f.run("block oracle 0,1 2,3 --roads").says("2 3\n1 2\n");
+    f.run("listing oracle").says("places 4 transit 1\n0 1 7 local\n0 2 7 local\n0 3 16 far\n1 2 0 local\n1 3 9 local\n2 3 9 local\n");
+    f.run_with("wages oracle", b"1 2\n0 3\n2 2\n").says("0\n16\n0\nnone 0 total 16\n");
+    f.run("draw oracle picture 0 3").says("drawn 4 places\n");
+    let picture = String::from_utf8(f.read("picture")).unwrap();
+    assert!(picture.contains("way of 4 places, 3 roads") && picture.contains("total 16 s (0:00:16)"), "{picture}");
 }
 
 #[test]
@@ -188,10 +221,10 @@ fn listing_of_all_pairs() {
 #[test]
 fn words_and_room_that_are_lent() {
     let f = Folder::with_files("lent");
-    f.run("build line.net 6 new --words 24 --room 143").says("built 143 bytes, 1 transit\n");
+    f.run("build line.net 6 new --words 24 --room 149").says("built 149 bytes, 1 transit\n");
     assert_eq!(f.read("new"), f.read("line.oracle"));
     f.run("build line.net 6 other --words 23").is_refused(14);
-    f.run("--room 142 build line.net 6 other").is_refused(15);
+    f.run("--room 148 build line.net 6 other").is_refused(15);
     f.run("build --words 23 line.net --room 0 6 other").is_refused(14);
     assert!(!f.has("other"));
     f.run("audit line.oracle --words 24").says("accepted\n");

@@ -121,7 +121,7 @@ fn as_before(name: &str, old: &Old, g: u32) -> usize {
         assert_eq!(case.far(s, t).result, before.far(s, t).result, "{at}");
         let room = 2 * n as usize;
         assert_eq!(case.way(s, t, words, room), before.way(s, t, words, room), "{at}");
-        none += time.unwrap().seconds.is_none() as usize;
+        none += time.unwrap().time.is_none() as usize;
     }
     none
 }
@@ -185,7 +185,7 @@ fn the_most_places_and_roads() {
         let before = Network::old(old.bytes());
         for (s, t) in [(7, 9), (0, 4_095), (2_000, 3_333)] {
             let time = case.time(s, t, case.words()).result.unwrap();
-            assert_eq!(time.seconds, before.map().unwrap().d(s as usize, t as usize), "closed: {position}, {s} to {t}");
+            assert_eq!(time.time, before.map().unwrap().d(s as usize, t as usize), "closed: {position}, {s} to {t}");
             assert!(case.long_way(s, t, 2 * PLACES).result.is_ok());
         }
         assert!(files::most_room(&new) >= left.without_transit(1).len());

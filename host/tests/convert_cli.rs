@@ -1,22 +1,25 @@
-//! The program's converter: both commands, standard streams, refusals and their messages. And each other command, which sends an old file back by 21 and
-//! names the converter.
+//! The program's converter: both commands, standard streams, refusals and their messages. And each other command, which sends a file with closed roads back
+//! by 21 and names the converter; and an oracle of edition 1, which is that of an old network too, by 1 and says to build it again.
 
 mod common;
 
 use common::networks::{self, Old};
 use common::program::{Folder, Ran};
 use common::reference::sheets::{sheet, CLOSED, DELAYED};
+use common::tables::Tables;
 
 const CLOSED_ROADS: &str =
     "rule 21: closed roads in body 3, which must be empty: `jukesogbi convert NETWORK NEW` (jukesogbi_convert) leaves them out of a network\n";
-const OLD_ORACLE: &str = "this is an old oracle: `jukesogbi build` makes another, of the converted network\n";
+const OLD_ORACLE: &str = "rule 1: fewer than 2 bytes, a wrong edition, a wrong entry count or an incomplete contents\n\
+    this is an oracle of an older edition: `jukesogbi build` builds it again from its network\n";
 
-/// With Fork's files, and those of Fork with roads 1 and 3 closed: network, oracle, and sheets of it.
+/// With Fork's files, and those of Fork with roads 1 and 3 closed: network, oracle, as it was and as it would be in today's edition, and sheets of it.
 fn folder(name: &str) -> Folder {
     let f = Folder::with_files(name);
     let old = Old::of(networks::fork(), [1, 3]);
     f.write("old.net", &old.bytes());
-    f.write("old.oracle", &old.oracle(6));
+    f.write("closed.oracle", &old.oracle(6));
+    f.write("old.oracle", &Tables::of(&old.oracle(6), 5).edition_1(old.bodies(), 6));
     f.write("left.net", &old.left_out().bytes());
     f.write("old.sheet", &sheet(&[(DELAYED, 4, 6), (CLOSED, 3, 0), (CLOSED, 2, 0), (DELAYED, 1, 9), (DELAYED, 4, 5)]));
     f.write("left.sheet", &sheet(&[(DELAYED, 2, 6), (CLOSED, 1, 0), (DELAYED, 2, 5)]));
@@ -50,9 +53,9 @@ fn a_network() {
         assert_eq!(f.read("same"), bytes);
     }
     // The converted network is built, audited and asked.
-    f.run("build new.net 6 new.oracle").says("built 179 bytes, 1 transit\n");
+    f.run("build new.net 6 new.oracle").says("built 185 bytes, 1 transit\n");
     f.run("audit new.oracle").says("accepted\n");
-    f.run("time new.oracle 0 4").says("11 far 1\n");
+    f.run("time new.oracle 0 4").says("11 3 far 1\n");
     f.run("way new.oracle 0 2").does(0, "\n", "no way leads from 0 to 2\n");
 }
 
@@ -65,7 +68,7 @@ fn the_closed_trial() {
     f.run("convert closed.net new.net").says("converted 101 bytes\n");
     assert_eq!(f.read("new.net"), f.read("without.net"));
     assert_eq!(f.run("build new.net 6 new.oracle").code, 0);
-    f.run("time new.oracle 0 4").says("- far 0\n");
+    f.run("time new.oracle 0 4").says("- - far 0\n");
 }
 
 #[test]
@@ -170,10 +173,9 @@ fn an_old_network_elsewhere() {
     assert!(!f.has("new"));
 }
 
-#[test]
-fn an_old_oracle() {
-    let f = folder("convert_old_oracle");
-    let told = format!("{CLOSED_ROADS}{OLD_ORACLE}");
+/// The commands that read this oracle send it back so.
+fn sent_back(f: &Folder, name: &str, rule: u32, told: &str) {
+    let (refused, of) = (format!("refused {rule}\n"), |call: &str| call.replace("old.oracle", name));
     for call in [
         "audit old.oracle", "audit old.oracle --words 0", "time old.oracle 0 4", "time old.oracle 0 9", "time old.oracle", "far old.oracle 0 4",
         "far old.oracle", "time old.oracle 0 4 --sheet left.sheet", "time old.oracle --sheet left.sheet", "time old.oracle 0 4 --sheet old.net",
@@ -181,15 +183,38 @@ fn an_old_oracle() {
         "block old.oracle 0,1 4", "block old.oracle '' 0", "wages old.oracle", "listing old.oracle", "draw old.oracle p.svg", "draw old.oracle p.svg 0 4",
         "draw old.oracle - 0 4", "draw old.oracle p.svg --sheet left.sheet",
     ] {
-        f.run(call).does(1, "refused 21\n", &told);
+        f.run(&of(call)).does(1, &refused, told);
     }
     for call in ["time old.oracle", "far old.oracle", "way old.oracle", "wages old.oracle", "time old.oracle --sheet left.sheet"] {
-        f.run_with(call, b"0 4\n1 2\n").does(1, "refused 21\n", &told);
+        f.run_with(&of(call), b"0 4\n1 2\n").does(1, &refused, told);
     }
     for call in ["audit -", "time - 0 4", "way - 0 4", "list - 0", "listing -", "draw - p.svg"] {
-        f.run_with(call, &f.read("old.oracle")).does(1, "refused 21\n", &told);
+        f.run_with(call, &f.read(name)).does(1, &refused, told);
     }
     assert!(!f.has("p.svg"));
+}
+
+#[test]
+fn an_oracle_with_closed_roads() {
+    sent_back(&folder("convert_closed_oracle"), "closed.oracle", 21, CLOSED_ROADS);
+}
+
+/// With closed roads and without.
+#[test]
+fn an_oracle_of_edition_1() {
+    let f = folder("convert_old_oracle");
+    f.write("older.oracle", &Tables::of(&f.read("fork.oracle"), 5).edition_1(networks::fork().bodies(), 6));
+    for name in ["old.oracle", "older.oracle"] {
+        sent_back(&f, name, 1, OLD_ORACLE);
+        // It is no network either.
+        let ran = f.run(&format!("build {name} 6 new"));
+        ran.is_refused(1);
+        assert!(ran.err.ends_with("this looks like an oracle: the network that it is of is wanted\n") && !f.has("new"), "{}", ran.err);
+    }
+    // Built again it is accepted.
+    f.run("convert old.net new.net").says("converted 93 bytes\n");
+    assert_eq!(f.run("build new.net 6 old.oracle").code, 0);
+    f.run("audit old.oracle").says("accepted\n");
 }
 
 /// The old network of the README: Fork with road 1 closed.

@@ -129,11 +129,12 @@ fn every_fault_of_the_network() {
         (3, places(vec![])), (3, places(vec![(0, 0); 4_097])), (3, bodies(0, 1)), (3, bodies(0, 4)),
         (4, places(vec![(0, 0), (1_000_001, 0), (60, 0)])), (4, places(vec![(0, 0), (30, 0), (60, -1_000_001)])),
         (5, bodies(1, 1)), (5, bodies(1, 4)), (5, roads(vec![(0, 1, 1); 16_385])),
-        (6, roads(vec![(0, 3, 1)])), (6, roads(vec![(3, 0, 1)])), (6, roads(vec![(1, 1, 1)])), (6, roads(vec![(0, 1, 0)])), (6, roads(vec![(0, 1, 100_001)])),
+        (6, roads(vec![(0, 3, 1)])), (6, roads(vec![(3, 0, 1)])), (6, roads(vec![(1, 1, 1)])), (6, roads(vec![(0, 1, 100_001)])), (6, roads(vec![(1, 1, 0)])),
         (7, bodies(2, 1)), (7, bodies(2, 2)), (7, closed(&[2])), (7, closed(&[0, 0])), (7, closed(&[1, 0])), (7, closed(&[0, 1, 1])), (7, closed(&[256])),
         (7, closed(&[0, 65_535])),
-        // As much as may be.
-        (0, closed(&[0, 1])), (0, roads(vec![(0, 1, 100_000); 16_384])), (0, places(vec![(1_000_000, -1_000_000); 4_096])),
+        // As much as may be, and as little.
+        (0, closed(&[0, 1])), (0, roads(vec![(0, 1, 100_000); 16_384])), (0, roads(vec![(0, 1, 0)])),
+        (0, places(vec![(1_000_000, -1_000_000); 4_096])),
     ] {
         let case = converter(bytes);
         let expected = (rule > 0).then_some(rule);

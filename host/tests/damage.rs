@@ -4,7 +4,7 @@
 mod common;
 
 use common::networks::{self, between, pick, Old, Plan};
-use common::reference::{self, bytes_16, bytes_32, MOST_SECONDS, NO_WALK, WORDS};
+use common::reference::{self, bytes_16, bytes_32, Block, Pair, Value, MOST_ROADS, MOST_SECONDS, NO_ROADS, NO_WALK, WORDS};
 use common::tables::Tables;
 use common::{NetworkCase, Opened, OracleCase};
 use jukesogbi::plain;
@@ -28,7 +28,9 @@ impl Given {
     }
 }
 
-/// The small networks of document 01 and one with two pieces, each with a grid number.
+const NONE: Value = (NO_WALK, NO_ROADS);
+
+/// The small networks of document 01, one with two pieces, and two with roads of no time, each with a grid number.
 fn small() -> Vec<(&'static str, Plan, u32)> {
     vec![
         ("Line", networks::line(), 6),
@@ -36,6 +38,8 @@ fn small() -> Vec<(&'static str, Plan, u32)> {
         ("Fork without road 4", networks::fork_without_4(), 6),
         ("one place", networks::one_place(), 64),
         ("two lines", networks::two_lines(), 6),
+        ("junction", networks::junction(), 6),
+        ("ring", networks::ring(), 6),
     ]
 }
 
@@ -212,7 +216,7 @@ fn bodies_shortened_and_lengthened() {
             };
             for (kind, body) in bodies.iter().enumerate() {
                 for at in 0..=body.len() {
-                    for size in [1, 2, 4, 6, 8] {
+                    for size in [1, 2, 4, 6, 8, 10] {
                         let (front, rest) = (&body[..at], &body[at..]);
                         if size <= rest.len() {
                             attempt(kind, at, "without", size, [front, &rest[size..]].concat());
@@ -404,7 +408,16 @@ fn random_lists_and_tables() {
     assert!(several > 10_000, "only {several} far pairs with several sums");
 }
 
-/// 'No walk', and values at and about the limits, put in the place of each value of built oracles in turn.
+/// 'No walk', and values at and about the limits of both numbers.
+fn about_the_limits() -> [Value; 15] {
+    [
+        NONE, (NO_WALK - 1, NO_ROADS), (NO_WALK, NO_ROADS - 1), (NO_WALK, MOST_ROADS), (NO_WALK, 0), (0, NO_ROADS), (MOST_SECONDS, MOST_ROADS),
+        (MOST_SECONDS + 1, MOST_ROADS), (MOST_SECONDS, MOST_ROADS + 1), (MOST_SECONDS + 1, 0), (0, MOST_ROADS + 1), (1 << 31, 1), (7, 1 << 15), (0, MOST_ROADS),
+        (0, 0),
+    ]
+}
+
+/// These put in the place of each value of built oracles in turn.
 #[test]
 fn each_value_replaced() {
     let mut given = Given::default();
@@ -418,10 +431,10 @@ fn each_value_replaced() {
         let mut tables = Tables::of(&oracle_of(&plan, g), n);
         assert_eq!(tables.oracle(&plan, g), oracle_of(&plan, g), "{name}");
         for k in 0..tables.values().len() {
-            for value in [NO_WALK, NO_WALK - 1, MOST_SECONDS, MOST_SECONDS + 1, 1 << 31, 0] {
+            for value in about_the_limits() {
                 let old = std::mem::replace(tables.values()[k], value);
                 let text = name.clone();
-                ask(move || format!("{text}, value {k} replaced by {value}"), tables.oracle(&plan, g), n, &[0, n as u32 - 1], &mut given);
+                ask(move || format!("{text}, value {k} replaced by {value:?}"), tables.oracle(&plan, g), n, &[0, n as u32 - 1], &mut given);
                 *tables.values()[k] = old;
             }
         }
@@ -456,7 +469,7 @@ fn oracles_of_random_networks() {
             let numbers = (to - from) / size;
             if numbers > 0 {
                 let at = from + size * random.below(numbers as u64) as usize;
-                let limits = [0, 65, n, plan.roads.len(), 65_535, 100_001, 1_000_001, MOST_SECONDS as usize + 1, NO_WALK as usize - 1];
+                let limits = [0, 65, n, plan.roads.len(), 4_095, 4_096, 65_535, 100_001, 1_000_001, MOST_SECONDS as usize + 1, NO_WALK as usize - 1];
                 let mut bytes = oracle.clone();
                 bytes[at..at + size].copy_from_slice(&bytes_32(pick(&mut random, &limits))[..size]);
                 damaged.push(bytes);
@@ -468,7 +481,7 @@ fn oracles_of_random_networks() {
             let mut values = tables.values();
             if !values.is_empty() {
                 let k = random.below(values.len() as u64) as usize;
-                *values[k] = pick(&mut random, &[NO_WALK, MOST_SECONDS, small]);
+                *values[k] = pick(&mut random, &[NONE, (MOST_SECONDS, MOST_ROADS), (small, 1 + small % 7)]);
             }
         }
         damaged.push(tables.oracle(&plan, g));
@@ -479,16 +492,17 @@ fn oracles_of_random_networks() {
     given.assert_met(&[0, 1, 2, 4, 6, 8, 9, 10, 11, 13, 16]);
 }
 
-/// The greatest sum: three greatest values. It is not a refusal and does not come round.
+/// The greatest sum: three greatest values. It is not a refusal and does not come round, and its roads may be more than an entry holds.
 #[test]
 fn the_greatest_sum() {
     let plan = networks::line();
     let mut tables = Tables::of(&oracle_of(&plan, 6), 3);
-    tables.values().into_iter().for_each(|v| *v = MOST_SECONDS);
+    tables.values().into_iter().for_each(|v| *v = (MOST_SECONDS, MOST_ROADS));
     let case = OracleCase::new(|| "Line with the greatest values".to_string(), tables.oracle(&plan, 6));
-    assert_eq!(case.far(0, 2).result.unwrap().seconds, Some(1_228_500_000));
-    assert_eq!(case.time(2, 0, 24).result.unwrap().seconds, Some(1_228_500_000));
-    assert_eq!(case.block(&[0, 2], &[2], 24).result.unwrap().map(|row| row[0])[..3], [1_228_500_000, 0, 0]);
+    let greatest = Some(Pair { seconds: 1_228_500_000, roads: 12_285 });
+    assert_eq!(case.far(0, 2).result.unwrap().time, greatest);
+    assert_eq!(case.time(2, 0, 24).result.unwrap().time, greatest);
+    assert_eq!(case.block(&[0, 2], &[2], 24).result, Ok(Block::of([[(1_228_500_000, 12_285)], [(0, 0)]])));
     assert_eq!(case.audit(24).result, Err(16));
 }
 
@@ -542,17 +556,21 @@ fn bodies_changed_together() {
                     attempt("an entry in another list", plan, g, &moved);
                 }
             }
-            // One second more in each list and two less in the table: most sums stay.
+            // One second more in each list and two less in the table: most sums stay. The same with roads.
             let mut shifted = tables.clone();
-            shifted.lists.iter_mut().flatten().filter(|e| e.1 < MOST_SECONDS).for_each(|e| e.1 += 1);
-            shifted.table.iter_mut().flatten().filter(|v| (2..=MOST_SECONDS).contains(*v)).for_each(|v| *v -= 2);
+            shifted.lists.iter_mut().flatten().filter(|e| e.1.0 < MOST_SECONDS).for_each(|e| e.1.0 += 1);
+            shifted.table.iter_mut().flatten().filter(|v| (2..=MOST_SECONDS).contains(&v.0)).for_each(|v| v.0 -= 2);
             attempt("seconds moved from the table to the lists", plan, g, &shifted);
+            let mut shifted = tables.clone();
+            shifted.lists.iter_mut().flatten().filter(|e| e.1.1 < MOST_ROADS).for_each(|e| e.1.1 += 1);
+            shifted.table.iter_mut().flatten().filter(|v| (2..=MOST_ROADS).contains(&v.1)).for_each(|v| v.1 -= 2);
+            attempt("roads moved from the table to the lists", plan, g, &shifted);
         }
         // A place that is no transit place put among them, with exact times.
         if let Some(new) = (0..n).find(|u| !tables.transit.contains(u)) {
             let network = reference::Network::of(plan.bytes());
             let map = network.map().unwrap();
-            let time = |a: usize, b: usize| map.d(a, b).map_or(NO_WALK, |s| s as u32);
+            let time = |a: usize, b: usize| reference::value(map.d(a, b));
             let at = tables.transit.iter().filter(|&&a| a < new).count();
             let mut more = tables.clone();
             more.transit.insert(at, new);
@@ -676,7 +694,7 @@ fn noise() {
         let mut bytes: Vec<u8> = (0..size).map(|_| random.number() as u8).collect();
         let entries = pick(&mut random, &[3, 7]);
         if random.once_in(2) && size >= 2 {
-            (bytes[0], bytes[1]) = (1, entries);
+            (bytes[0], bytes[1]) = (if entries == 3 { 1 } else { 2 }, entries);
         }
         if random.once_in(3) {
             // Noise in the bodies only.

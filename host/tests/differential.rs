@@ -80,8 +80,8 @@ fn all_pairs(case: &OracleCase, ways: bool, met: &mut Met) {
             met.refusal(&far.result);
             met.pairs += 1;
             met.far += answer.far as u64;
-            met.far_none += (answer.far && answer.seconds.is_none()) as u64;
-            met.local_none += (!answer.far && answer.seconds.is_none()) as u64;
+            met.far_none += (answer.far && answer.time.is_none()) as u64;
+            met.local_none += (!answer.far && answer.time.is_none()) as u64;
             met.several_tried += (answer.pairs > 1) as u64;
             if ways {
                 case.way(s, t, words, 2 * n as usize).result.unwrap();
@@ -144,14 +144,14 @@ fn block(case: &OracleCase, random: &mut Random, met: &mut Met) {
     for (i, &s) in starts.iter().enumerate() {
         for (j, &t) in ends.iter().enumerate() {
             let single = core::time(o, s, t, &mut work).unwrap();
-            assert_eq!(block.seconds(i, j), single.seconds, "{}: square {i}, {j} of {starts:?} and {ends:?}", (case.input.name)());
+            assert_eq!(block.time(i, j), single.time, "{}: square {i}, {j} of {starts:?} and {ends:?}", (case.input.name)());
             met.squares += 1;
             met.squares_far += (single.kind == core::Kind::Far) as u64;
-            met.squares_none += single.seconds.is_none() as u64;
+            met.squares_none += single.time.is_none() as u64;
             met.squares_equal += (s == t) as u64;
         }
     }
-    assert!((0..12).all(|i| (0..12).all(|j| i < rows && j < columns || block.times[i][j] == 0)), "an unused square is not zero");
+    assert!((0..12).all(|i| (0..12).all(|j| i < rows && j < columns || (block.times[i][j], block.roads[i][j]) == (0, 0))), "an unused square is not zero");
 }
 
 /// Sides of 0, 1, 12 and 13 names, with words enough and too few: 17 comes before 14.

@@ -111,10 +111,15 @@ fn total_is_the_time() {
         let drawn: Vec<_> = case.picture.lines("way").iter().map(|(line, _)| *line).collect();
         let expected: Vec<_> = case.way.windows(2).map(|w| (points[w[0] as usize], points[w[1] as usize])).collect();
         assert!(drawn == expected, "the way is drawn as {drawn:?}");
-        assert_eq!(case.picture.total(), answer.seconds.map(u64::from));
-        assert_eq!(case.picture.says("no way between them"), answer.seconds.is_none());
+        assert_eq!(case.picture.total(), answer.seconds().map(u64::from));
+        assert_eq!(case.picture.says("no way between them"), answer.time.is_none());
+        if let Some(time) = answer.time {
+            let count = |number: u32, what: &str| format!("{number} {what}{}", if number == 1 { "" } else { "s" });
+            let passed = format!("way of {}, {}", count(time.roads + 1, "place"), count(time.roads, "road"));
+            assert!(case.picture.says(&passed), "the legend has no {passed}");
+        }
         far += (answer.kind == core::Kind::Far) as u32;
-        none += answer.seconds.is_none() as u32;
+        none += answer.time.is_none() as u32;
     }
     assert!(far > 50 && none > 20, "{far} far, {none} without a way");
     // The quickest of the open roads side by side counts.

@@ -20,15 +20,15 @@ fn the_c_example_runs() {
     assert!(compiled.status.success(), "{}", String::from_utf8_lossy(&compiled.stderr));
     let run = Command::new(&program).output().unwrap();
     assert!(run.status.success());
-    let text = "built: rule 0, 143 bytes, 1 transit\n\
+    let text = "built: rule 0, 149 bytes, 1 transit\n\
         audit: rule 0\n\
-        time 0 to 2: 16 seconds, far, 1 pairs\n\
+        time 0 to 2: 16 seconds by 2 roads, far, 1 pairs\n\
         way 0 to 2: 0 1 2\n\
-        times from 0 to 2, 1, 0: 16 7 0\n\
-        times from 1 to 2, 1, 0: 9 0 7\n\
-        list of 0: 8 bytes from 121 on\n\
+        times from 0 to 2, 1, 0: 16 7 0, roads 2 1 0\n\
+        times from 1 to 2, 1, 0: 9 0 7, roads 1 0 1\n\
+        list of 0: 10 bytes from 121 on\n\
         too few words: rule 14\n\
-        far 2 to 0: 16 seconds; 0 to 1: rule 13\n";
+        far 2 to 0: 16 seconds by 2 roads; 0 to 1: rule 13\n";
     assert_eq!(String::from_utf8_lossy(&run.stdout), text);
 }
 

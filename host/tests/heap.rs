@@ -33,9 +33,9 @@ fn star(n: usize, seconds: impl Fn(usize) -> usize) -> Vec<Road> {
 }
 
 /// Places by rows, each joined to the next in its row and to the one below.
-fn mesh(n: usize) -> Vec<Road> {
+fn mesh(n: usize, seconds: usize) -> Vec<Road> {
     let side = side(n);
-    let joined = |u: usize| [(u, u + 1, 5), (u, u + side, 5)].into_iter().filter(move |&(_, v, _)| v < n && (v != u + 1 || v % side != 0));
+    let joined = |u: usize| [(u, u + 1, seconds), (u, u + side, seconds)].into_iter().filter(move |&(_, v, _)| v < n && (v != u + 1 || v % side != 0));
     (0..n).flat_map(joined).collect()
 }
 
@@ -94,6 +94,15 @@ fn lowered_one(n: usize) -> Vec<Road> {
     star(n, |v| 20_000 + v).into_iter().chain((0..again).map(|i| (0, n - 1, 20_000 - i))).collect()
 }
 
+/// All but few places held by a walk of many roads, most of them of no time; then each is lowered by one that is as quick and has two roads.
+fn lowered_in_roads(n: usize) -> Vec<Road> {
+    let many = (n / 4).min(9);
+    let chain = (0..many).map(|u| (u, u + 1, 0));
+    let other = many + 1;
+    let held = (other + 1..n).flat_map(|v| [(many, v, 9), (v, other, 7)]);
+    chain.chain((other < n).then_some((0, other, 2))).chain(held).collect()
+}
+
 /// Each place joined to the four after it.
 fn band(n: usize, seconds: impl Fn(usize) -> usize) -> Vec<Road> {
     let pairs = (0..n).flat_map(|u| (u + 1..n.min(u + 5)).map(move |v| (u, v)));
@@ -115,7 +124,7 @@ fn networks(n: usize) -> Vec<(&'static str, Vec<Road>)> {
     vec![
         // All times equal.
         ("star of equal times", star(n, |_| 7)),
-        ("mesh of equal times", mesh(n)),
+        ("mesh of equal times", mesh(n, 5)),
         ("layers of equal times, each twice the one before", (1..n).map(|v| (v, (v - 1) / 2, 9)).collect()),
         ("all joined in equal times", all_joined(n)),
         // Times falling.
@@ -131,6 +140,13 @@ fn networks(n: usize) -> Vec<(&'static str, Vec<Road>)> {
         ("star of rising times, from the last place on", reversed(star(n, |v| MOST - v))),
         ("band of rising times", band(n, |i| 1 + i)),
         ("chain of rising times", chain(|v| v)),
+        // No time, so that roads alone tell which is nearer.
+        ("star of no time", star(n, |_| 0)),
+        ("mesh of no time", mesh(n, 0)),
+        ("chain of no time, from both ends", from_both_ends(n).windows(2).map(|w| (w[0], w[1], 0)).collect()),
+        ("band of no time", band(n, |_| 0)),
+        ("lowered in roads alone", lowered_in_roads(n)),
+        ("no time or a second at random", scattered(n, 3 * n, |random| random.below(2) as usize)),
         // The largest sums.
         ("chain of the longest roads", reversed(chain(|_| MOST))),
         ("chain of the longest roads, from both ends", from_both_ends(n).windows(2).map(|w| (w[1], w[0], MOST)).collect()),

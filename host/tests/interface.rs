@@ -26,7 +26,7 @@ fn output_of(source: &Path, program: &str) -> String {
 fn allowed(call: &str) -> usize {
     let (text, bytes) = match call {
         "way" | "way_under" => ("jukesogbi_way and jukesogbi_way_under take at most 12,288", 12_288),
-        "block" => ("jukesogbi_block 4,096", 4_096),
+        "block" => ("jukesogbi_block 8,192", 8_192),
         _ => ("every other call 2,048", 2_048),
     };
     assert!(HEADER.contains(text), "{text}");
@@ -80,7 +80,7 @@ fn the_longest_way_in_a_small_thread() {
     std::thread::scope(|scope| {
         let small = std::thread::Builder::new().stack_size(64 * 1024);
         let asked = small.spawn_scoped(scope, || (oracle.time_under(&sheet, 0, last), oracle.way_under(&sheet, 0, last, &mut nodes))).unwrap();
-        let time = core::Answer { seconds: Some(5 * last), kind: core::Kind::Local, pairs: 0 };
+        let time = core::Answer { time: core::Time::of(5 * last, last), kind: core::Kind::Local, pairs: 0 };
         assert_eq!(asked.join().unwrap(), (Ok(time), Ok(form::MAX_NODES)));
     });
 }

@@ -87,5 +87,5 @@ fn ignored_signals_stay_ignored() {
     std::thread::sleep(Duration::from_millis(20));
     send(&child, HANG_UP);
     assert!(child.wait().unwrap().success());
-    f.run("time new 0 512").says("5 far 2\n");
+    f.run("time new 0 512").says("5 1 far 2\n");
 }

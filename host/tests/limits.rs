@@ -4,8 +4,9 @@
 mod common;
 
 use common::networks::{self, Old, Plan};
-use common::reference::{self, bytes_16, bytes_32, Answer, Outcome, Times, NO_WALK, SIDE, WORDS};
-use common::{check_block, check_time, check_way, Input, NetworkCase, OracleCase};
+use common::reference::{self, bytes_16, bytes_32, value_bytes, Answer, Block, Built, Outcome, Pair, Value, NO_ROADS, NO_WALK, SIDE, WORDS};
+use common::{check_audit, check_block, check_build, check_time, check_way, Input, NetworkCase, OracleCase};
+use jukesogbi::plain;
 use jukesogbi::sample::Random;
 
 const PLACES: usize = 4_096;
@@ -48,7 +49,7 @@ fn one_place_under_every_grid() {
             let asked = all_calls("one place", &plan, g, &[(0, 0)]);
             assert_eq!(asked.reference.bytes.len(), 81);
             assert_eq!(asked.list(1).result, Err(12));
-            assert_eq!(asked.block(&[0; SIDE], &[0; SIDE], 8).result, Ok([[0; SIDE]; SIDE]));
+            assert_eq!(asked.block(&[0; SIDE], &[0; SIDE], 8).result, Ok(Block::of([[(0, 0); SIDE]; SIDE])));
             assert_eq!(asked.block(&[0; SIDE], &[0; SIDE], 7).result, Err(14));
             assert_eq!(asked.block(&[0; SIDE + 1], &[0; SIDE], 8).result, Err(17));
         }
@@ -104,9 +105,15 @@ fn spread_out() -> [u32; SIDE] {
     std::array::from_fn(|i| (i * (PLACES - 1) / (SIDE - 1)) as u32)
 }
 
-/// The times of the pairs of two sides of twelve.
-fn squares(starts: [u32; SIDE], ends: [u32; SIDE], time: impl Fn(u32, u32) -> u32) -> Times {
-    starts.map(|s| ends.map(|t| time(s, t)))
+/// The block of the pairs of two sides of twelve.
+fn squares(starts: [u32; SIDE], ends: [u32; SIDE], time: impl Fn(u32, u32) -> Value) -> Block {
+    Block::of(starts.map(|s| ends.map(|t| time(s, t))))
+}
+
+const NONE: Value = (NO_WALK, NO_ROADS);
+
+fn local(seconds: u64, roads: u64, words: usize) -> Outcome<Answer> {
+    Outcome { result: Ok(Answer { far: false, time: Some(Pair { seconds, roads }), pairs: 0 }), zeroed: words, written: vec![] }
 }
 
 #[test]
@@ -123,7 +130,7 @@ fn most_places_without_roads() {
         // T is 0: far and local alike, there is a time from a place to itself alone.
         assert_eq!(reference::body(&asked.reference.bytes, 5).len(), 0);
         let names = spread_out();
-        assert_eq!(asked.block(&names, &names, 32_768).result, Ok(squares(names, names, |s, t| if s == t { 0 } else { NO_WALK })));
+        assert_eq!(asked.block(&names, &names, 32_768).result, Ok(squares(names, names, |s, t| if s == t { (0, 0) } else { NONE })));
     }
 }
 
@@ -141,26 +148,26 @@ fn most_places_with_few_roads() {
     let plan = Old::of(Plan { places: lattice(), roads }, [3]).left_out();
     let asked = all_calls("most places, few roads", &plan, 64, &[(0, last as u32), (last as u32, 1), (10, 30), (5, 4_000)]);
     assert!(reference::body(&asked.reference.bytes, 5).len() > 2);
-    assert_eq!(asked.time(0, last as u32, asked.words()).result.unwrap().seconds, Some(100_008));
+    assert_eq!(asked.time(0, last as u32, asked.words()).result.unwrap().time, Some(Pair { seconds: 100_008, roads: 3 }));
     // All ends of roads, their neighbours and the last place twice: far and local times, and none.
     let (starts, ends) = ([0, 1, 2, 9, 10, 11, 29, 30, 2_000, 2_001, 4_095, 4_095], [4_095, 30, 10, 1, 0, 2_000, 2, 9, 11, 4_094, 4_095, 64]);
-    let times = asked.block(&starts, &ends, asked.words()).result.unwrap();
+    let Block { times, roads } = asked.block(&starts, &ends, asked.words()).result.unwrap();
     assert_eq!(times[0], [100_008, 100_007, 100_000, 100_020, 0, 100_017, NO_WALK, NO_WALK, NO_WALK, NO_WALK, 100_008, NO_WALK]);
-    assert_eq!(times[10], times[11]);
+    assert_eq!(roads[0], [3, 2, 1, 5, 0, 4, NO_ROADS, NO_ROADS, NO_ROADS, NO_ROADS, 3, NO_ROADS]);
+    assert_eq!((times[10], roads[10]), (times[11], roads[11]));
 }
 
-/// The longest least walk and the longest way: a chain of 4,096 places, 100,000 seconds each. Under 1 nothing is far. The reference's ways
+/// The longest least walk and the longest way: a chain of 4,096 places, each road of so many seconds. Under 1 nothing is far. The reference's ways
 /// would take too long here, and the answers are plain.
-#[test]
-fn the_longest_way() {
+fn the_longest_way(each: u32) {
     let places = (0..PLACES as i32).map(|k| (k, 0)).collect();
-    let roads = (0..PLACES as u16 - 1).map(|u| (u, u + 1, 100_000)).collect();
+    let roads = (0..PLACES as u16 - 1).map(|u| (u, u + 1, each)).collect();
     let plan = Plan { places, roads };
-    let input = Input::new(|| "chain".to_string(), &plan.without_transit(1));
+    let input = Input::new(move || format!("chain of roads of {each}"), &plan.without_transit(1));
     let (last, words) = (PLACES as u32 - 1, WORDS * PLACES);
-    let answer = |seconds| Outcome { result: Ok(Answer { far: false, seconds: Some(seconds), pairs: 0 }), zeroed: words, written: vec![] };
-    check_time(&input, 0, last, words, &answer(409_500_000));
-    check_time(&input, last, 1, words, &answer(409_400_000));
+    let answer = |roads: u32| local(roads as u64 * each as u64, roads as u64, words);
+    check_time(&input, 0, last, words, &answer(4_095));
+    check_time(&input, last, 1, words, &answer(4_094));
     let way = |places: Vec<usize>| Outcome { result: Ok(places.len()), zeroed: words, written: places.into_iter().flat_map(bytes_16).collect() };
     check_way(&input, 0, last, words, 2 * PLACES, &way((0..PLACES).collect()));
     check_way(&input, last, 0, words + 3, 2 * PLACES + 5, &way((0..PLACES).rev().collect()));
@@ -170,22 +177,58 @@ fn the_longest_way() {
     check_way(&input, 7, 7, words, 2, &way(vec![7]));
     let (starts, mut ends) = (spread_out(), spread_out());
     ends.reverse();
-    let times = squares(starts, ends, |s, t| s.abs_diff(t) * 100_000);
-    assert_eq!(times[0][0], 409_500_000);
-    check_block(&input, &starts, &ends, words, &Outcome { result: Ok(times), zeroed: words, written: vec![] });
+    let block = squares(starts, ends, |s, t| (s.abs_diff(t) * each, s.abs_diff(t)));
+    assert_eq!((block.times[0][0], block.roads[0][0]), (4_095 * each, 4_095));
+    check_block(&input, &starts, &ends, words, &Outcome { result: Ok(block), zeroed: words, written: vec![] });
     check_block(&input, &starts, &ends, words - 1, &Outcome { result: Err(14), zeroed: 0, written: vec![] });
+}
+
+/// With the most seconds, 409,500,000 in all.
+#[test]
+fn the_longest_way_of_the_longest_roads() {
+    the_longest_way(100_000);
+}
+
+/// With none: what is left falls in roads alone.
+#[test]
+fn the_longest_way_of_no_time() {
+    the_longest_way(0);
 }
 
 /// A chain long enough for great times in the lists and the table, short enough to build.
 #[test]
 fn a_long_chain() {
     let n = 120;
-    let places = (0..n).map(|k| (k * 100, 0)).collect();
-    let roads = (0..n as u16 - 1).map(|u| (u + 1, u, 100_000)).collect();
-    let plan = Plan { places, roads };
-    let last = n as u32 - 1;
-    let asked = all_calls("a long chain", &plan, 64, &[(0, last), (last, 0), (60, 66), (60, 61)]);
-    assert_eq!(asked.far(0, last).result.unwrap().seconds, Some(11_900_000));
+    for each in [100_000, 0] {
+        let places = (0..n).map(|k| (k * 100, 0)).collect();
+        let roads = (0..n as u16 - 1).map(|u| (u + 1, u, each)).collect();
+        let plan = Plan { places, roads };
+        let last = n as u32 - 1;
+        let asked = all_calls("a long chain", &plan, 64, &[(0, last), (last, 0), (60, 66), (60, 61)]);
+        assert_eq!(asked.far(0, last).result.unwrap().time, Some(Pair { seconds: 119 * each as u64, roads: 119 }));
+    }
+}
+
+/// The longest chain, built: its lists and its table have the greatest numbers of roads and of seconds that there are. The bytes are plain Rust's, and those
+/// of the last entry are known.
+#[test]
+fn the_longest_chain_built() {
+    for each in [100_000, 0] {
+        let places = (0..PLACES as i32).map(|k| (100 * k, 0)).collect();
+        let plan = Plan { places, roads: (0..PLACES as u16 - 1).map(|u| (u, u + 1, each)).collect() };
+        let bytes = plain::build(&plan.bytes(), 64);
+        let (last, words) = (PLACES as u32 - 1, WORDS * PLACES);
+        let network = NetworkCase::new(move || format!("the longest chain, of {each}"), plan.bytes());
+        let values = Built { length: bytes.len(), transit: reference::body(&bytes, 5).len() / 2 };
+        check_build(&network.input, 64, words, bytes.len(), &Outcome { result: Ok(values), zeroed: words, written: bytes.clone() });
+        // A transit place lies two cells off at the most, so the farthest two lie nearly as far apart as the ends.
+        let table = reference::body(&bytes, 7);
+        let greatest = table.chunks(6).map(|value| reference::value_at(value, 0)).max().unwrap();
+        assert!(greatest.1 > 3_700 && greatest.0 == greatest.1 * each, "{greatest:?}");
+        let asked = OracleCase::new(move || format!("the longest chain, of {each}, under 64"), bytes);
+        assert_eq!(asked.far(0, last).result.unwrap().time, Some(Pair { seconds: 4_095 * each as u64, roads: 4_095 }));
+        check_audit(&asked.input, words, &Outcome { result: Ok(()), zeroed: words, written: vec![] });
+    }
 }
 
 /// A star of 4,096 places: every place but the middle one is settled from it.
@@ -195,8 +238,7 @@ fn a_great_star() {
     let plan = Plan { places: lattice(), roads };
     let input = Input::new(|| "star".to_string(), &plan.without_transit(1));
     let words = WORDS * PLACES;
-    let expected = Outcome { result: Ok(Answer { far: false, seconds: Some(4_094 + 4_095), pairs: 0 }), zeroed: words, written: vec![] };
-    check_time(&input, 4_094, 4_095, words, &expected);
+    check_time(&input, 4_094, 4_095, words, &local(4_094 + 4_095, 2, words));
     let way = [4_094, 0, 4_095].into_iter().flat_map(bytes_16).collect();
     check_way(&input, 4_094, 4_095, words, 6, &Outcome { result: Ok(3), zeroed: words, written: way });
 }
@@ -284,7 +326,7 @@ fn one_road_too_many() {
         assert_eq!(asked.list(0).result.err(), expected);
     }
     // 6 and 7 are not looked for before 5.
-    let wrong = Old::of(Plan { roads: vec![(9, 9, 0); ROADS + 1], ..networks::line() }, [1, 0]);
+    let wrong = Old::of(Plan { roads: vec![(9, 9, 100_001); ROADS + 1], ..networks::line() }, [1, 0]);
     let case = NetworkCase::new(|| "too many roads, all wrong".to_string(), wrong.bytes());
     assert_eq!(case.build(0, 0, 0).result, Err(5));
 }
@@ -320,7 +362,7 @@ fn faults_at_the_end_of_long_bodies() {
 fn the_largest_table() {
     let plan = Plan { places: lattice(), ..Plan::default() };
     let mut random = Random(11);
-    let mut value = || if random.once_in(9) { NO_WALK } else { 1_000 + random.below(400_000_000) as u32 };
+    let mut value = || value_bytes(if random.once_in(9) { NONE } else { (1_000 + random.below(400_000_000) as u32, random.below(4_096) as u32) });
     let (mut starts, mut lists) = (Vec::new(), Vec::new());
     for u in 0..PLACES {
         starts.extend(bytes_32(4 * PLACES + lists.len()));
@@ -328,10 +370,10 @@ fn the_largest_table() {
         lists.extend(bytes_16(count));
         for i in 0..count {
             lists.extend(bytes_16(i));
-            lists.extend(bytes_32(value() as usize));
+            lists.extend(value());
         }
     }
-    let table = (0..PLACES * PLACES).flat_map(|_| bytes_32(value() as usize)).collect();
+    let table = (0..PLACES * PLACES).flat_map(|_| value()).collect();
     let [places, roads, closed] = plan.bodies();
     let transit = (0..PLACES).flat_map(bytes_16).collect();
     let file = reference::file(&[places, roads, closed, bytes_16(64).to_vec(), transit, [starts, lists].concat(), table]);
@@ -344,11 +386,14 @@ fn the_largest_table() {
     asked.list(last);
     assert_eq!(asked.audit(words).result, Err(16));
     assert_eq!(asked.way(0, last, words, 0).result, Ok(0));
-    // The last value out of range.
-    let mut file = asked.reference.bytes.clone();
+    // The last value out of range, in its seconds and in its roads.
+    let file = asked.reference.bytes.clone();
     drop(asked);
-    let size = file.len();
-    file[size - 4..].copy_from_slice(&bytes_32(409_500_001));
-    let asked = OracleCase::new(|| "the largest table, its last value out of range".to_string(), file);
-    assert_eq!(asked.list(0).result, Err(11));
+    for value in [(409_500_001, 0), (0, 4_096), (NO_WALK, 0), (0, NO_ROADS)] {
+        let mut file = file.clone();
+        let size = file.len();
+        file[size - 6..].copy_from_slice(&value_bytes(value));
+        let asked = OracleCase::new(|| "the largest table, its last value out of range".to_string(), file);
+        assert_eq!(asked.list(0).result, Err(11), "{value:?}");
+    }
 }

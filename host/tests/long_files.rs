@@ -28,9 +28,9 @@ fn long_files_by_name_and_from_a_pipe() {
         format!("{command} {name} {rest}")
     };
     // A long table; then one byte more; then another edition.
-    let size = 143 + MORE;
+    let size = 149 + MORE;
     let mut begin = f.read("line.oracle");
-    begin[61..65].copy_from_slice(&bytes_32(4 + MORE));
+    begin[61..65].copy_from_slice(&bytes_32(6 + MORE));
     sparse(&f, "table", &begin, size);
     sparse(&f, "behind", &begin, size + 1);
     begin[0] = 7;

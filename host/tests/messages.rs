@@ -39,7 +39,7 @@ fn help_lists_all_commands() {
     for command in COMMANDS {
         assert_eq!(page.text().matches(&format!("\n  {command} ")).count(), 1, "{command}");
     }
-    for part in ["--sheet SHEET", "--words K", "--room B", "status: 0 done; 1 refused", "COMMAND --help"] {
+    for part in ["--sheet SHEET", "--roads", "--words K", "--room B", "status: 0 done; 1 refused", "COMMAND --help"] {
         assert!(page.text().contains(part), "the page has no {part}");
     }
     for word in ["--help", "-h"] {
@@ -86,6 +86,11 @@ fn no_such_command_or_option() {
     is_slip(&f, f.run("audit line.oracle --room 5"), "`audit` has no option `--room`", "audit");
     is_slip(&f, f.run("sample 5 1 new --words=5"), "`sample` has no option `--words`", "sample");
     is_slip(&f, f.run("convert-sheet line.net day new --words 24"), "`convert-sheet` has no option `--words`", "convert-sheet");
+    for command in ["time line.oracle 0 2", "far line.oracle 0 2", "list line.oracle 0", "way line.oracle 0 2", "wages line.oracle", "listing line.oracle"] {
+        let name = command.split(' ').next().unwrap();
+        is_slip(&f, f.run(&format!("{command} --roads")), &format!("`{name}` has no option `--roads`"), name);
+    }
+    is_slip(&f, f.run("block line.oracle 0 2 --roads=5"), "`--roads` has no value", "block");
     for command in
         ["far line.oracle 0 2", "block line.oracle 0 2", "wages line.oracle", "audit line.oracle", "sheet-text line.oracle", "convert line.net new"]
     {
@@ -94,9 +99,9 @@ fn no_such_command_or_option() {
     }
     assert!(!f.has("new"));
     // Behind `--` nothing is an option, and a file may have any name.
-    f.run("build line.net 6 -- --words").says("built 143 bytes, 1 transit\n");
-    f.run("time -- --words 0 2").says("16 far 1\n");
-    f.run("-- time line.oracle 0 2").says("16 far 1\n");
+    f.run("build line.net 6 -- --words").says("built 149 bytes, 1 transit\n");
+    f.run("time -- --words 0 2").says("16 2 far 1\n");
+    f.run("-- time line.oracle 0 2").says("16 2 far 1\n");
 }
 
 #[test]

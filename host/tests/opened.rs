@@ -4,7 +4,7 @@
 mod common;
 
 use common::networks::{self, between, pick, Plan};
-use common::reference::{self, Answer, Built, Outcome, SIDE};
+use common::reference::{self, Answer, Block, Built, Outcome, Pair, SIDE};
 use common::{check_build, networks_to_try, NetworkCase, Opened, OracleCase};
 use jukesogbi::core::{self, Kind, Refused};
 use jukesogbi::oracle::Oracle;
@@ -124,11 +124,11 @@ fn one_place() {
         for words in [8, 9, 20] {
             let mut opened = case.open(words).unwrap();
             for _ in 0..3 {
-                assert_eq!(opened.time(0, 0), Ok(Answer { far: false, seconds: Some(0), pairs: 0 }));
+                assert_eq!(opened.time(0, 0), Ok(Answer { far: false, time: Some(Pair::ZERO), pairs: 0 }));
                 assert_eq!(opened.far(0, 0), Err(13));
                 assert_eq!(opened.way(0, 0, 2), Ok(1));
                 assert_eq!(opened.way(0, 0, 1), Err(15));
-                assert_eq!(opened.block(&[0; SIDE], &[0; SIDE]), Ok([[0; SIDE]; SIDE]));
+                assert_eq!(opened.block(&[0; SIDE], &[0; SIDE]), Ok(Block { times: [[0; SIDE]; SIDE], roads: [[0; SIDE]; SIDE] }));
                 assert_eq!(opened.time(0, 1), Err(12));
                 assert_eq!(opened.far(1, 0), Err(12));
                 assert_eq!(opened.block(&[0; SIDE + 1], &[0]), Err(17));
@@ -227,15 +227,16 @@ fn the_safe_type() {
 #[test]
 fn the_safe_type_on_line() {
     let mut line = Oracle::open(oracle(&networks::line(), 6)).unwrap();
-    let far = Ok(core::Answer { seconds: Some(16), kind: Kind::Far, pairs: 1 });
+    let far = Ok(core::Answer { time: core::Time::of(16, 2), kind: Kind::Far, pairs: 1 });
     assert_eq!((line.time(0, 2), line.far(2, 0)), (far, far));
-    assert_eq!(line.time(0, 1), Ok(core::Answer { seconds: Some(7), kind: Kind::Local, pairs: 0 }));
+    assert_eq!(line.time(0, 1), Ok(core::Answer { time: core::Time::of(7, 1), kind: Kind::Local, pairs: 0 }));
     assert_eq!((line.far(0, 1), line.time(0, 3)), (Err(Refused(13)), Err(Refused(12))));
     let mut out = [9; 7];
     assert_eq!((line.way(2, 0, &mut out[..5]), out), (Err(Refused(15)), [9; 7]));
     assert_eq!((line.way(2, 0, &mut out), out), (Ok(3), [2, 0, 1, 0, 0, 0, 9]));
     assert_eq!(line.block(&[], &[0]), Err(Refused(17)));
-    assert_eq!(line.block(&[0, 1], &[2]).unwrap().times.map(|row| row[0])[..3], [16, 9, 0]);
+    let block = line.block(&[0, 1], &[2]).unwrap();
+    assert_eq!((block.times.map(|row| row[0])[..3].to_vec(), block.roads.map(|row| row[0])[..3].to_vec()), (vec![16, 9, 0], vec![2, 1, 0]));
     // A network is no oracle, and neither is nothing.
     assert_eq!(Oracle::open(networks::line().bytes()).err(), Some(Refused(1)));
     assert_eq!(Oracle::open(Vec::new()).err(), Some(Refused(1)));
@@ -245,7 +246,7 @@ fn the_safe_type_on_line() {
 #[test]
 fn several_threads() {
     let bytes = oracle(&networks::fork(), 6);
-    let times = |oracle: &mut Oracle| -> Vec<_> { (0..25).map(|k| oracle.time(k / 5, k % 5).unwrap().seconds).collect() };
+    let times = |oracle: &mut Oracle| -> Vec<_> { (0..25).map(|k| oracle.time(k / 5, k % 5).unwrap().time).collect() };
     let expected = times(&mut Oracle::open(&bytes[..]).unwrap());
     std::thread::scope(|scope| {
         for _ in 0..4 {

@@ -99,8 +99,7 @@ fn bodies_that_are_too_long() {
             }
             if k > 1 {
                 let mut bodies = [largest()[0].clone(), largest()[1].clone(), bodies[2].clone()];
-                bodies[1][4] = 0;
-                bodies[1][5..8].fill(0);
+                bodies[1][4..8].fill(0xff);
                 assert_eq!(check_network(&file(&bodies)), 6);
             }
         }
@@ -201,7 +200,7 @@ fn long_oracles() {
     let mut whole = long_oracle(6, LONGEST_ORACLE);
     let line = oracle(&networks::line(), 6).len();
     for (at, value, rule) in
-        [(0, 2, 1), (1, 3, 1), (2, 9, 2), (12, 0, 2), (16, 1, 2), (68, 0x7f, 4), (93, 0, 6), (105, 0, 8), (107, 3, 9), (line - 5, 0xf0, 10)]
+        [(0, 1, 1), (1, 3, 1), (2, 9, 2), (12, 0, 2), (16, 1, 2), (68, 0x7f, 4), (95, 2, 6), (105, 0, 8), (107, 3, 9), (line - 7, 0xf0, 10)]
     {
         let kept = std::mem::replace(&mut whole[at], value);
         assert_eq!(check(&whole, Kind::Oracle, Some(whole.len() as u64)), rule, "byte {at}");

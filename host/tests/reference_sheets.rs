@@ -12,7 +12,7 @@ mod reference;
 use jukesogbi::sample::Random;
 use networks::{Old, Plan};
 use reference::sheets::{breaks_18, delay_after_closure, sheet, with_contents, Under, CLOSED, DELAYED};
-use reference::{Answer, Map, Network, Questions};
+use reference::{Answer, Map, Network, Pair, Questions};
 
 /// More than any small network needs.
 const MUCH: usize = 10_000;
@@ -32,19 +32,25 @@ fn under(o: &Questions, lines: &[Line], s: u32, t: u32) -> (Result<Answer, u32>,
     (under.time(s, t, MUCH).result, places)
 }
 
-fn far(seconds: u64, pairs: usize) -> Result<Answer, u32> {
-    Ok(Answer { far: true, seconds: Some(seconds), pairs })
+fn far(seconds: u64, roads: u64, pairs: usize) -> Result<Answer, u32> {
+    Ok(Answer { far: true, time: Some(Pair { seconds, roads }), pairs })
 }
 
-fn local(seconds: Option<u64>) -> Result<Answer, u32> {
-    Ok(Answer { far: false, seconds, pairs: 0 })
+fn local(seconds: u64, roads: u64) -> Result<Answer, u32> {
+    Ok(Answer { far: false, time: Some(Pair { seconds, roads }), pairs: 0 })
+}
+
+const NO_LOCAL: Result<Answer, u32> = Ok(Answer { far: false, time: None, pairs: 0 });
+
+fn no_far(pairs: usize) -> Result<Answer, u32> {
+    Ok(Answer { far: true, time: None, pairs })
 }
 
 #[test]
 fn lines_on_fork() {
     let fork = asked(&networks::fork(), 6);
     let on = |lines: &[Line]| under(&fork, lines, 0, 4);
-    let old = (far(11, 4), vec![0, 1, 3, 4]);
+    let old = (far(11, 3, 4), vec![0, 1, 3, 4]);
     // No line, none on the way, a delay of nothing, and a delay that is taken back.
     assert_eq!(on(&[]), old);
     assert_eq!(on(&[(CLOSED, 1, 0), (DELAYED, 3, 99_995)]), old);
@@ -55,16 +61,16 @@ fn lines_on_fork() {
         &[(DELAYED, 0, 1)][..], &[(CLOSED, 2, 0)], &[(DELAYED, 0, 0), (CLOSED, 0, 0)], &[(CLOSED, 0, 0), (CLOSED, 0, 0)], &[(CLOSED, 0, 0), (DELAYED, 0, 0)],
         &[(DELAYED, 0, 0), (DELAYED, 0, 1)], &[(CLOSED, 0, 0), (DELAYED, 0, 0), (CLOSED, 0, 0)],
     ] {
-        assert_eq!(on(lines), (local(Some(11)), vec![0, 2, 3, 4]));
+        assert_eq!(on(lines), (local(11, 3), vec![0, 2, 3, 4]));
     }
-    assert_eq!(on(&[(DELAYED, 4, 99_999)]), (local(Some(100_010)), vec![0, 1, 3, 4]));
-    assert_eq!(on(&[(CLOSED, 4, 0)]), (local(None), vec![]));
-    assert_eq!(under(&fork, &[(CLOSED, 4, 0), (CLOSED, 0, 0)], 0, 0), (local(Some(0)), vec![0]));
+    assert_eq!(on(&[(DELAYED, 4, 99_999)]), (local(100_010, 3), vec![0, 1, 3, 4]));
+    assert_eq!(on(&[(CLOSED, 4, 0)]), (NO_LOCAL, vec![]));
+    assert_eq!(under(&fork, &[(CLOSED, 4, 0), (CLOSED, 0, 0)], 0, 0), (local(0, 0), vec![0]));
     // What an old network has closed stays closed, and what was 'none' stays as it was.
     let closed = Questions::old(networks::fork_closed().oracle(6));
     for line in [(DELAYED, 4, 0), (DELAYED, 4, u32::MAX), (CLOSED, 4, 0), (CLOSED, 0, 0)] {
-        assert_eq!(under(&closed, &[line], 0, 4), (Ok(Answer { far: true, seconds: None, pairs: 0 }), vec![]));
-        assert_eq!(under(&closed, &[(CLOSED, 4, 0), line], 0, 4), (Ok(Answer { far: true, seconds: None, pairs: 0 }), vec![]));
+        assert_eq!(under(&closed, &[line], 0, 4), (no_far(0), vec![]));
+        assert_eq!(under(&closed, &[(CLOSED, 4, 0), line], 0, 4), (no_far(0), vec![]));
     }
 }
 
@@ -72,7 +78,7 @@ fn lines_on_fork() {
 #[test]
 fn what_was_until_t_05() {
     let (line, close, delay) = (asked(&networks::line(), 6), (CLOSED, 0, 0), |added: u32| (DELAYED, 0, added));
-    let seconds = |under: Under| under.time(0, 1, MUCH).result.map(|answer| answer.seconds);
+    let seconds = |under: Under| under.time(0, 1, MUCH).result.map(|answer| answer.seconds());
     let both = |lines: &[Line]| (seconds(Under::former(&line, sheet(lines))), seconds(Under::of(&line, sheet(lines))));
     for (lines, before) in [
         (&[close, delay(3)][..], Ok(Some(10))),
@@ -106,13 +112,13 @@ fn what_was_until_t_05() {
 fn a_parallel_road_serves() {
     let with = |seconds: u32| Plan { roads: vec![(0, 1, 7), (1, 2, 9), (1, 0, seconds)], ..networks::line() };
     let way = vec![0, 1, 2];
-    assert_eq!(under(&asked(&with(7), 6), &[(CLOSED, 0, 0)], 0, 2), (far(16, 1), way.clone()));
-    assert_eq!(under(&asked(&with(7), 6), &[(DELAYED, 0, 1)], 0, 2), (far(16, 1), way.clone()));
-    assert_eq!(under(&asked(&with(7), 6), &[(DELAYED, 0, 1), (DELAYED, 2, 2)], 0, 2), (local(Some(17)), way.clone()));
-    assert_eq!(under(&asked(&with(8), 6), &[(CLOSED, 0, 0)], 0, 2), (local(Some(17)), way.clone()));
+    assert_eq!(under(&asked(&with(7), 6), &[(CLOSED, 0, 0)], 0, 2), (far(16, 2, 1), way.clone()));
+    assert_eq!(under(&asked(&with(7), 6), &[(DELAYED, 0, 1)], 0, 2), (far(16, 2, 1), way.clone()));
+    assert_eq!(under(&asked(&with(7), 6), &[(DELAYED, 0, 1), (DELAYED, 2, 2)], 0, 2), (local(17, 2), way.clone()));
+    assert_eq!(under(&asked(&with(8), 6), &[(CLOSED, 0, 0)], 0, 2), (local(17, 2), way.clone()));
     // A quicker road, delayed to just the old time, is no road of the old way; the old way is by the quicker one.
-    assert_eq!(under(&asked(&with(6), 6), &[(DELAYED, 2, 1)], 0, 2), (local(Some(16)), way));
-    assert_eq!(under(&asked(&with(7), 6), &[(CLOSED, 0, 0), (CLOSED, 2, 0)], 0, 2), (local(None), vec![]));
+    assert_eq!(under(&asked(&with(6), 6), &[(DELAYED, 2, 1)], 0, 2), (local(16, 2), way));
+    assert_eq!(under(&asked(&with(7), 6), &[(CLOSED, 0, 0), (CLOSED, 2, 0)], 0, 2), (NO_LOCAL, vec![]));
 }
 
 #[test]
@@ -152,42 +158,41 @@ fn rules_by_example() {
 #[test]
 fn oracles_never_built() {
     let mut bodies: Vec<Vec<u8>> = (1..=7).map(|kind| reference::body(&asked(&networks::line(), 6).bytes, kind).to_vec()).collect();
-    bodies[6] = vec![50, 0, 0, 0];
+    bodies[6] = vec![50, 0, 0, 0, 9, 0];
     let slower = Questions::of(reference::file(&bodies));
-    assert_eq!(under(&slower, &[], 0, 2), (far(66, 1), vec![0, 1, 2]));
-    assert_eq!(under(&slower, &[(DELAYED, 0, 1)], 0, 2), (local(Some(17)), vec![0, 1, 2]));
+    assert_eq!(under(&slower, &[], 0, 2), (far(66, 11, 1), vec![0, 1, 2]));
+    assert_eq!(under(&slower, &[(DELAYED, 0, 1)], 0, 2), (local(17, 2), vec![0, 1, 2]));
     let mut islands = bodies.clone();
     islands[1].drain(..8);
-    assert_eq!(under(&Questions::of(reference::file(&islands)), &[], 0, 2), (local(None), vec![]));
-    bodies[6] = vec![255; 4];
+    assert_eq!(under(&Questions::of(reference::file(&islands)), &[], 0, 2), (NO_LOCAL, vec![]));
+    bodies[6] = vec![255; 6];
     let none = Questions::of(reference::file(&bodies));
-    let old = Ok(Answer { far: true, seconds: None, pairs: 1 });
-    assert_eq!(under(&none, &[], 0, 2), (old, vec![0, 1, 2]));
-    assert_eq!(under(&none, &[(CLOSED, 0, 0)], 0, 2), (old, vec![]));
+    assert_eq!(under(&none, &[], 0, 2), (no_far(1), vec![0, 1, 2]));
+    assert_eq!(under(&none, &[(CLOSED, 0, 0)], 0, 2), (no_far(1), vec![]));
 }
 
 // ---- All walks ----
 
-/// All walks from the last of `walk` to t that come by no place twice, each with its total.
-fn all_walks(map: &Map, walk: &mut Vec<usize>, total: u64, t: usize, found: &mut Vec<(u64, Vec<usize>)>) {
+/// All walks from the last of `walk` to t that come by no place twice, each with its pair.
+fn all_walks(map: &Map, walk: &mut Vec<usize>, pair: Pair, t: usize, found: &mut Vec<(Pair, Vec<usize>)>) {
     let u = *walk.last().unwrap();
     if u == t {
-        found.push((total, walk.clone()));
+        found.push((pair, walk.clone()));
         return;
     }
     for (from, to, seconds) in map.steps() {
         if from == u && !walk.contains(&to) {
             walk.push(to);
-            all_walks(map, walk, total + seconds, t, found);
+            all_walks(map, walk, pair + Pair::road(seconds), t, found);
             walk.pop();
         }
     }
 }
 
-/// Over a built oracle the time is the least total over walks on the roads as the sheet leaves them, and the way the first of the least ones. The roads
+/// Over a built oracle the time is the least pair over walks on the roads as the sheet leaves them, and the way the first of the least ones. The roads
 /// are changed here in the plan, so that the reference's own map of them is judged too.
 #[test]
-fn built_oracles_answer_least_totals() {
+fn built_oracles_answer_least_pairs() {
     let (mut kept, mut searched, mut none, mut refused) = (0, 0, 0, 0);
     for seed in 0..3_000 {
         let mut random = Random(seed);
@@ -221,17 +226,17 @@ fn built_oracles_answer_least_totals() {
         for s in 0..plan.places.len() {
             for t in 0..plan.places.len() {
                 let mut walks = Vec::new();
-                all_walks(network.map().unwrap(), &mut vec![s], 0, t, &mut walks);
+                all_walks(network.map().unwrap(), &mut vec![s], Pair::ZERO, t, &mut walks);
                 let (least, at) = (walks.iter().min().cloned(), format!("seed {seed}, {s} to {t}, {lines:?}"));
                 let (answer, way) = (under.time(s as u32, t as u32, MUCH).result.unwrap(), under.way(s as u32, t as u32, MUCH, MUCH));
-                assert_eq!(answer.seconds, least.as_ref().map(|w| w.0), "{at}");
+                assert_eq!(answer.time, least.as_ref().map(|w| w.0), "{at}");
                 assert_eq!(way.written, least.map_or(vec![], |w| w.1.into_iter().flat_map(reference::bytes_16).collect()), "{at}");
                 // Far is kept or nothing is.
                 let old = o.time(s as u32, t as u32, MUCH).result.unwrap();
                 assert!(answer == old || !answer.far && answer.pairs == 0, "{at}");
-                kept += (answer.far && answer.seconds.is_some()) as u32;
+                kept += (answer.far && answer.time.is_some()) as u32;
                 searched += (old.far && !answer.far) as u32;
-                none += (old.seconds.is_some() && answer.seconds.is_none()) as u32;
+                none += (old.time.is_some() && answer.time.is_none()) as u32;
             }
         }
     }

@@ -66,9 +66,9 @@ fn the_owner_is_kept() {
     let f = Folder::with_files("replacing_owner");
     f.write("old", b"old");
     if chown(f.0.join("old"), Some(65_534), Some(65_534)).is_ok() {
-        f.run("build line.net 6 old").says("built 143 bytes, 1 transit\n");
+        f.run("build line.net 6 old").says("built 149 bytes, 1 transit\n");
         let there = fs::metadata(f.0.join("old")).unwrap();
-        assert_eq!((there.uid(), there.gid(), there.len()), (65_534, 65_534, 143));
+        assert_eq!((there.uid(), there.gid(), there.len()), (65_534, 65_534, 149));
     }
 }
 
@@ -103,7 +103,7 @@ fn links_are_written_through() {
     symlink(f.0.join("far/absolute"), f.0.join("whole")).unwrap();
     let names = f.names();
     for (link, place) in [("link", "far/old"), ("second", "far/old"), ("far/back", "far/old"), ("dangling", "far/new"), ("whole", "far/absolute")] {
-        f.run(&format!("build line.net 6 {link}")).says("built 143 bytes, 1 transit\n");
+        f.run(&format!("build line.net 6 {link}")).says("built 149 bytes, 1 transit\n");
         assert!(fs::symlink_metadata(f.0.join(link)).unwrap().is_symlink(), "{link} is no link any more");
         assert!(fs::symlink_metadata(f.0.join(place)).unwrap().is_file());
         assert_eq!(f.read(place), f.read("line.oracle"));
@@ -145,7 +145,7 @@ fn names_that_are_long_or_no_text() {
     for name in [vec![b'n'; 255], [&[b'n'; 198][..], "\u{20ac}".repeat(19).as_bytes()].concat(), b"\xff\xfe \n".to_vec(), b".".repeat(40), b"-x".to_vec()] {
         let name = OsStr::from_bytes(&name);
         let ran = finish(f.command([OsStr::new("build"), OsStr::new("line.net"), OsStr::new("6"), name]).spawn().unwrap(), b"");
-        ran.says("built 143 bytes, 1 transit\n");
+        ran.says("built 149 bytes, 1 transit\n");
         assert_eq!(fs::read(f.0.join(name)).unwrap(), f.read("line.oracle"));
         // And it is read under its name.
         finish(f.command([OsStr::new("audit"), name]).spawn().unwrap(), b"").says("accepted\n");
@@ -159,7 +159,7 @@ fn names_that_are_long_or_no_text() {
 fn a_name_that_is_taken() {
     let f = Folder::with_files("replacing_taken");
     let ran = f.shell("echo kept > .new.$$.0.tmp; ln -s nowhere .new.$$.1.tmp; exec $J build line.net 6 new");
-    ran.says("built 143 bytes, 1 transit\n");
+    ran.says("built 149 bytes, 1 transit\n");
     assert_eq!(f.read("new"), f.read("line.oracle"));
     let hidden: Vec<String> = f.names().into_iter().filter(|name| name.starts_with('.')).collect();
     assert_eq!((hidden.len(), f.read(&hidden[0])), (2, b"kept\n".to_vec()));
@@ -222,7 +222,7 @@ fn refusals_leave_the_old_file() {
     f.write("old", b"old");
     let names = f.names();
     f.run("build line.net 65 old").is_refused(8);
-    f.run("build line.net 6 old --room 142").is_refused(15);
+    f.run("build line.net 6 old --room 148").is_refused(15);
     f.run("draw line.net old").is_refused(1);
     f.run("draw line.oracle old 0 3").is_refused(12);
     assert_eq!((f.read("old"), f.names()), (b"old".to_vec(), names));

@@ -1,4 +1,4 @@
-//! Samples with their roads in random order: how many there are, where they lead, and that they are a network.
+//! Samples with their roads in random order: how many there are, where they lead, and that they are a network; and samples with wide junctions.
 
 mod common;
 
@@ -57,5 +57,20 @@ fn side_by_side() {
         let counts: Vec<usize> = pairs(&check(n, roads).edges).into_values().collect();
         let (least, most) = (counts.iter().min().unwrap_or(&0), counts.iter().max().unwrap_or(&0));
         assert!(most - least <= 1, "{n} places, {roads} roads: {counts:?}");
+    }
+}
+
+/// Two of five places are halves of junctions, joined by roads of no time; all else is as in a sample, and in one piece.
+#[test]
+fn wide_junctions() {
+    for n in [1, 2, 4, 5, 9, 10, 60, 1_024] {
+        let net = sample::junctions(n, 4);
+        let (halves, base) = (n / 5, sample::network(n - n / 5, 4));
+        assert_eq!((net.nodes.len(), net.edges.len()), (n, base.edges.len() + halves), "{n} places");
+        let none: Vec<&Edge> = net.edges.iter().filter(|e| e.seconds == 0).collect();
+        assert!(none.len() == halves && none.iter().all(|e| metres(&net, e) <= 20.0), "{n} places");
+        let network = reference::Network::of(net.to_bytes());
+        assert!((0..n).all(|t| network.map().unwrap().d(0, t).is_some()), "{n} places");
+        assert_eq!(net, sample::junctions(n, 4));
     }
 }

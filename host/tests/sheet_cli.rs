@@ -160,7 +160,7 @@ fn streams_without_an_end() {
     let line = "delayed 1 7\n".repeat(100_000);
     f.run_with("sheet - long", line.as_bytes()).says("sheet of 100000 lines, 0 closed, 100000 delayed\n");
     f.run("sheet-text long").says(&line);
-    f.run("time fork.oracle 0 4 --sheet long").says("11 far 4\n");
+    f.run("time fork.oracle 0 4 --sheet long").says("11 3 far 4\n");
 }
 
 // ---- Questions under a sheet ----
@@ -169,23 +169,23 @@ fn streams_without_an_end() {
 fn time_and_way() {
     let f = folder("sheet_ask");
     let (old, other) = ("0 1 3 4", "0 2 3 4");
-    for (name, time, way) in [("none", "11 far 4", old), ("side", "11 far 4", old), ("way", "11 local 0", other), ("slow", "17 local 0", old)] {
+    for (name, time, way) in [("none", "11 3 far 4", old), ("side", "11 3 far 4", old), ("way", "11 3 local 0", other), ("slow", "17 3 local 0", old)] {
         f.run(&format!("time fork.oracle 0 4 --sheet {name}")).says(&format!("{time}\n"));
         f.run(&format!("way --sheet={name} fork.oracle 0 4")).says(&format!("{way}\n"));
-        f.run_with(&format!("time fork.oracle --sheet {name}"), b"0 4\n\n1 1\n").says(&format!("{time}\n0 local 0\n"));
+        f.run_with(&format!("time fork.oracle --sheet {name}"), b"0 4\n\n1 1\n").says(&format!("{time}\n0 0 local 0\n"));
         f.run_with(&format!("way fork.oracle --sheet {name}"), b"0 4\n1 1\n").says(&format!("{way}\n1\n"));
     }
     // A delay does not end a closure, nor is it refused for its seconds.
     for name in ["off", "crew"] {
-        f.run(&format!("time fork.oracle 0 4 --sheet {name}")).says("- local 0\n");
+        f.run(&format!("time fork.oracle 0 4 --sheet {name}")).says("- - local 0\n");
         f.run(&format!("way fork.oracle 0 4 --sheet {name}")).does(0, "\n", "no way leads from 0 to 4\n");
     }
     f.run_with("way fork.oracle --sheet off", b"0 3\n0 4\n").does(0, "0 1 3\n\n", "line 2: no way leads from 0 to 4\n");
     // Without road 4 there is none before and after, and no line can be about it.
-    f.run("time without.oracle 0 4 --sheet way").says("- far 0\n");
+    f.run("time without.oracle 0 4 --sheet way").says("- - far 0\n");
     f.run("time without.oracle 0 4 --sheet slow").is_refused(19);
     // The last name counts.
-    f.run("time fork.oracle 0 4 --sheet off --sheet slow").says("17 local 0\n");
+    f.run("time fork.oracle 0 4 --sheet off --sheet slow").says("17 3 local 0\n");
     for command in ["time", "way", "draw"] {
         assert!(f.run(&format!("{command} --help")).text().contains("[--sheet SHEET]"), "{command}");
     }
@@ -218,7 +218,7 @@ fn refusals() {
     f.run_with("time fork.oracle --sheet slow --words 39", b"0 4\n").is_refused(14);
     // Pairs are refused one by one.
     let ran = f.run_with("time fork.oracle --sheet slow", b"0 4\n0 5\nx\n4 3\n");
-    assert_eq!((ran.code, ran.text().as_str()), (2, "17 local 0\nrefused 12\nwrong\n7 local 0\n"));
+    assert_eq!((ran.code, ran.text().as_str()), (2, "17 3 local 0\nrefused 12\nwrong\n7 1 local 0\n"));
     let short = "line 1: 0 4: rule 15: output shorter than the whole result\n";
     f.run_with("way fork.oracle --sheet way --room 6", b"0 4\n0 2\n").does(1, "refused 15\n0 2\n", short);
     assert!(!f.has("p.svg"));
@@ -227,7 +227,7 @@ fn refusals() {
 #[test]
 fn sheets_from_standard_input() {
     let f = folder("sheet_streams");
-    f.run_with("time fork.oracle 0 4 --sheet -", &f.read("slow")).says("17 local 0\n");
+    f.run_with("time fork.oracle 0 4 --sheet -", &f.read("slow")).says("17 3 local 0\n");
     f.run_with("way - 0 4 --sheet way", &f.read("fork.oracle")).says("0 2 3 4\n");
     let both = |ran: Ran, one: &str, other: &str| ran.does(2, "", &format!("jukesogbi: {one} and {other} cannot both come from standard input\n"));
     both(f.run("time - 0 4 --sheet -"), "the oracle", "the sheet");
@@ -254,7 +254,7 @@ fn a_conversation() {
     let f = folder("sheet_talk");
     let mut child = f.command(words("time fork.oracle --sheet slow")).spawn().unwrap();
     let (mut to, mut from) = (child.stdin.take().unwrap(), std::io::BufReader::new(child.stdout.take().unwrap()));
-    for (asked, answer) in [("0 4\n", "17 local 0\n"), ("0 3\n", "10 local 0\n"), ("4 0\n", "17 local 0\n")] {
+    for (asked, answer) in [("0 4\n", "17 3 local 0\n"), ("0 3\n", "10 2 local 0\n"), ("4 0\n", "17 3 local 0\n")] {
         to.write_all(asked.as_bytes()).unwrap();
         let mut line = String::new();
         std::io::BufRead::read_line(&mut from, &mut line).unwrap();

@@ -5,7 +5,7 @@ mod common;
 
 use common::networks::{self, Plan};
 use common::reference::sheets::{sheet, CLOSED, DELAYED};
-use common::reference::{bytes_16, Answer, Outcome, WORDS};
+use common::reference::{bytes_16, Answer, Outcome, Pair, WORDS};
 use common::sheets::{check_time_under, check_way_under, Line, SheetCase};
 use common::{Input, OracleCase};
 use jukesogbi::oracle::Oracle;
@@ -22,8 +22,13 @@ fn input(name: &'static str, bytes: &[u8]) -> Input {
     Input::new(move || name.to_string(), bytes)
 }
 
-fn local(seconds: Option<u64>, words: usize) -> Outcome<Answer> {
-    Outcome { result: Ok(Answer { far: false, seconds, pairs: 0 }), zeroed: words, written: vec![] }
+/// The time is seconds and roads.
+fn local(time: Option<(u64, u64)>, words: usize) -> Outcome<Answer> {
+    Outcome { result: Ok(answer(false, time, 0)), zeroed: words, written: vec![] }
+}
+
+fn answer(far: bool, time: Option<(u64, u64)>, pairs: usize) -> Answer {
+    Answer { far, time: time.map(|(seconds, roads)| Pair { seconds, roads }), pairs }
 }
 
 // ---- Few places ----
@@ -34,11 +39,11 @@ fn one_place() {
         let case = OracleCase::new(|| "one place".to_string(), networks::one_place().without_transit(g));
         let empty = SheetCase::new(&case, || "no lines".to_string(), sheet(&[]));
         for words in [8, 9, 20] {
-            assert_eq!(empty.time(0, 0, words), Outcome { zeroed: 8, ..local(Some(0), 8) });
+            assert_eq!(empty.time(0, 0, words), Outcome { zeroed: 8, ..local(Some((0, 0)), 8) });
             assert_eq!(empty.way(0, 0, words, 2).result, Ok(1));
             assert_eq!(empty.way(0, 0, words, 1).result, Err(15));
             let mut opened = case.open(words).unwrap();
-            assert_eq!((opened.time_under(&empty, 0, 0).map(|a| a.seconds), opened.way_under(&empty, 0, 0, 2)), (Ok(Some(0)), Ok(1)));
+            assert_eq!((opened.time_under(&empty, 0, 0).map(|a| a.seconds()), opened.way_under(&empty, 0, 0, 2)), (Ok(Some(0)), Ok(1)));
         }
         assert_eq!((empty.time(0, 0, 7).result.err(), empty.time(0, 1, 7).result.err()), (Some(14), Some(12)));
         for line in [(CLOSED, 0, 0), (DELAYED, 0, 0), (DELAYED, 65_535, 9)] {
@@ -67,8 +72,8 @@ fn a_line_at_the_ends_of_blocks() {
             assert_eq!(ask(at, (CLOSED, 0, 1)), Err(18), "{count} lines, {at}");
             assert_eq!(ask(at, (CLOSED, 5, 0)), Err(19), "{count} lines, {at}");
             assert_eq!(ask(at, (DELAYED, 4, 100_000)), Err(20), "{count} lines, {at}");
-            assert_eq!(ask(at, (DELAYED, 4, 30)).unwrap().seconds, Some(41), "{count} lines, {at}");
-            assert_eq!(ask(at, (CLOSED, 4, 0)).unwrap().seconds, None, "{count} lines, {at}");
+            assert_eq!(ask(at, (DELAYED, 4, 30)).unwrap().time, answer(false, Some((41, 3)), 0).time, "{count} lines, {at}");
+            assert_eq!(ask(at, (CLOSED, 4, 0)).unwrap().time, None, "{count} lines, {at}");
             // Of the road that all other lines delay, the last delay holds.
             let holds = at == count - 1;
             assert_eq!(ask(at, (DELAYED, 0, 100_000)).err(), if holds { Some(20) } else { None }, "{count} lines, {at}");
@@ -118,7 +123,7 @@ fn a_closure_among_many_delays() {
 fn time_0_to_2(case: &OracleCase, lines: &[Line]) -> Result<Option<u64>, u32> {
     let count = lines.len();
     let under = SheetCase::new(case, move || format!("{count} lines"), sheet(lines));
-    case.open(case.words()).unwrap().time_under(&under, 0, 2).map(|answer| answer.seconds)
+    case.open(case.words()).unwrap().time_under(&under, 0, 2).map(|answer| answer.seconds())
 }
 
 /// So many lines that their number passes 16 bits many times, all of which keep each rule.
@@ -203,12 +208,12 @@ fn the_most_roads_side_by_side() {
     let all = || (0..ROADS as u16).map(|road| (CLOSED, road, 0));
     assert!(case.reference.time(0, 1, 16).result.unwrap().far);
     for left in [0, 1, 8_191, ROADS as u16 - 1] {
-        assert_eq!(ask(all().filter(|line| line.1 != left).collect()), Answer { far: true, seconds: Some(9), pairs: 1 }, "{left}");
+        assert_eq!(ask(all().filter(|line| line.1 != left).collect()), answer(true, Some((9, 1)), 1), "{left}");
         let others = || all().map(|line| if line.1 == left { (DELAYED, left, 2) } else { line });
-        assert_eq!(ask(others().collect()), Answer { far: false, seconds: Some(11), pairs: 0 }, "{left}");
+        assert_eq!(ask(others().collect()), answer(false, Some((11, 1)), 0), "{left}");
     }
     // None is left.
-    assert_eq!(ask(all().collect()), Answer { far: false, seconds: None, pairs: 0 });
+    assert_eq!(ask(all().collect()), answer(false, None, 0));
 }
 
 /// The longest way, each of its roads delayed; a sheet that closes what is beside it; and one that closes its middle. The reference's ways would take too
@@ -226,16 +231,16 @@ fn the_longest_way() {
     let with = |lines: &[Line]| sheet(&[lines, &beside].concat());
     let way = |places: Vec<usize>| Outcome { result: Ok(places.len()), zeroed: words, written: places.into_iter().flat_map(bytes_16).collect() };
     let delayed = input("all delayed", &with(&(0..PLACES as u16 - 1).rev().map(|road| (DELAYED, road, 2)).collect::<Vec<_>>()));
-    check_time_under(&oracle, &delayed, 0, last, words, &local(Some(409_500_000), words));
+    check_time_under(&oracle, &delayed, 0, last, words, &local(Some((409_500_000, 4_095)), words));
     check_way_under(&oracle, &delayed, 0, last, words, 2 * PLACES, &way((0..PLACES).collect()));
     check_way_under(&oracle, &delayed, last, 0, words + 3, 2 * PLACES + 5, &way((0..PLACES).rev().collect()));
     check_way_under(&oracle, &delayed, 0, last, words, 2 * PLACES - 1, &Outcome { result: Err(15), zeroed: words, written: vec![] });
     check_time_under(&oracle, &delayed, 0, last, words - 1, &Outcome { result: Err(14), zeroed: 0, written: vec![] });
     let beside = input("closed beside", &with(&[]));
-    check_time_under(&oracle, &beside, last, 0, words, &local(Some(4_095 * 99_998), words));
+    check_time_under(&oracle, &beside, last, 0, words, &local(Some((4_095 * 99_998, 4_095)), words));
     let middle = input("closed in the middle", &with(&[(CLOSED, 2_047, 0)]));
     check_time_under(&oracle, &middle, 0, last, words, &local(None, words));
-    check_time_under(&oracle, &middle, 0, 2_047, words, &local(Some(2_047 * 99_998), words));
+    check_time_under(&oracle, &middle, 0, 2_047, words, &local(Some((2_047 * 99_998, 2_047)), words));
     check_way_under(&oracle, &middle, 0, last, words, 0, &way(vec![]));
 }
 
@@ -248,13 +253,13 @@ fn far_pairs_of_the_most_places() {
     let mut work = vec![0; WORDS * PLACES];
     // The chain of place 0: 0, 512, 1,024 and so on to 3,584, by roads 0, 512 and so on.
     let old = core::time(&bytes, 0, 3_584, &mut work).unwrap();
-    assert_eq!((old.seconds, old.kind), (Some(35), core::Kind::Far));
+    assert_eq!((old.time, old.kind), (core::Time::of(35, 7), core::Kind::Far));
     for (lines, expected) in [
         (vec![], old),
         (vec![(CLOSED, 1, 0), (DELAYED, 511, 4)], old),
         (vec![(DELAYED, 1_024, 0)], old),
-        (vec![(DELAYED, 1_024, 3)], core::Answer { seconds: Some(38), kind: core::Kind::Local, pairs: 0 }),
-        (vec![(CLOSED, 1_024, 0)], core::Answer { seconds: None, kind: core::Kind::Local, pairs: 0 }),
+        (vec![(DELAYED, 1_024, 3)], core::Answer { time: core::Time::of(38, 7), kind: core::Kind::Local, pairs: 0 }),
+        (vec![(CLOSED, 1_024, 0)], core::Answer { time: None, kind: core::Kind::Local, pairs: 0 }),
     ] {
         let sheet = sheet(&lines);
         assert_eq!(core::time_under(&bytes, &sheet, 0, 3_584, &mut work), Ok(expected), "{lines:?}");

@@ -63,7 +63,7 @@ fn the_first_broken_rule() {
                 assert_eq!(given.count(opened.time_under(&under, s, t)), first(&[12, 18, 19, 20]), "{at}");
                 assert_eq!(given.count(opened.way_under(&under, s, t, room)), first(&[12, 18, 19, 20, 15]), "{at}");
                 // It answers as before, under the sheet and without.
-                assert_eq!(opened.time(0, 4).map(|a| a.seconds), Ok(Some(11)));
+                assert_eq!(opened.time(0, 4).map(|a| a.seconds()), Ok(Some(11)));
             }
         }
     }

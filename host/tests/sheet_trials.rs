@@ -12,7 +12,7 @@ use common::sheets::Line;
 use common::stored::{self, lines_text, oracle_of, printed, way_text, Told, Trial};
 use jukesogbi::core::{self, Answer, Refused};
 use jukesogbi::oracle::Oracle;
-use jukesogbi::{files, listing};
+use jukesogbi::{files, text};
 use std::collections::BTreeMap;
 
 /// Time and way under these lines, by the call that checks and over an opened oracle, which must say the same.
@@ -28,7 +28,7 @@ fn ask(o: &[u8], lines: &[Line], (s, t): (u32, u32)) -> (Result<Answer, Refused>
 
 fn by_core(o: &[u8], trial: &Trial) -> Told {
     let (time, way) = ask(o, &trial.lines, trial.pair);
-    let time = printed(time.map(|a| format!("{} {}", listing::answer_text(&a), a.pairs)).map_err(|refused| refused.0));
+    let time = printed(time.map(|a| text::answer(&a)).map_err(|refused| refused.0));
     trial.part(time, printed(way.map(|places| way_text(&places)).map_err(|refused| refused.0)))
 }
 

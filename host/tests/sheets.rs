@@ -34,7 +34,7 @@ impl Met {
     }
 }
 
-/// Every pair, by both kinds of calls. Over a built oracle the answer is the least total over the roads as the sheet leaves them.
+/// Every pair, by both kinds of calls. Over a built oracle the answer is the least pair over the roads as the sheet leaves them.
 fn all_pairs(case: &OracleCase, under: &SheetCase, built: bool, met: &mut Met) {
     let n = case.reference.size() as u32;
     let mut opened = case.open(case.words()).unwrap();
@@ -45,14 +45,14 @@ fn all_pairs(case: &OracleCase, under: &SheetCase, built: bool, met: &mut Met) {
         met.count(&way);
         let Ok(new) = time else { continue };
         if built {
-            assert_eq!(new.seconds, under.reference.map().unwrap().d(s as usize, t as usize), "{}: {s} to {t}", (case.input.name)());
+            assert_eq!(new.time, under.reference.map().unwrap().d(s as usize, t as usize), "{}: {s} to {t}", (case.input.name)());
         }
         met.pairs += 1;
-        met.far_kept += (new.far && new.seconds.is_some()) as u64;
-        met.far_none_kept += (new.far && new.seconds.is_none()) as u64;
+        met.far_kept += (new.far && new.time.is_some()) as u64;
+        met.far_none_kept += (new.far && new.time.is_none()) as u64;
         met.far_searched += (old.far && !new.far) as u64;
         met.local_changed += (!old.far && old != new) as u64;
-        met.walk_lost += (old.seconds.is_some() && new.seconds.is_none()) as u64;
+        met.walk_lost += (old.time.is_some() && new.time.is_none()) as u64;
         let [before, after] = [case.reference.way(s, t, case.words(), 99).written, under.reference.way(s, t, case.words(), 99).written];
         met.way_changed += (before != after) as u64;
     }
@@ -138,7 +138,7 @@ fn no_lines() {
         for (s, t) in (0..n as u32).flat_map(|s| (0..n as u32).map(move |t| (s, t))) {
             let (old, new) = (case.time(s, t, words).result, under.time(s, t, words).result);
             // A time from lists and table alone, with no way, is not kept where there never was a way.
-            let lost = old.unwrap().seconds.is_some() && case.reference.map().unwrap().d(s as usize, t as usize).is_none();
+            let lost = old.unwrap().time.is_some() && case.reference.map().unwrap().d(s as usize, t as usize).is_none();
             assert!(old == new || lost && !built, "seed {seed}, {s} to {t}");
             assert_eq!(case.way(s, t, words, 2 * n), under.way(s, t, words, 2 * n), "seed {seed}, {s} to {t}");
         }

@@ -69,7 +69,7 @@ fn no_output_at_all() {
     }
     // What only says on standard error what is wrong does so, and nothing that is there is taken for standard output.
     f.shell("exec $J time line.oracle x y >&-").is_wrong("`x` is no number");
-    f.shell("exec $J time line.oracle 0 2 <&- 2>&-").says("16 far 1\n");
+    f.shell("exec $J time line.oracle 0 2 <&- 2>&-").says("16 2 far 1\n");
 }
 
 /// Nothing is said to be done where it was not written.
@@ -110,7 +110,7 @@ fn output_that_nobody_reads() {
     f.run("sample 60 2 roads.net");
     f.run("build roads.net 8 roads.oracle");
     f.shell("$J listing roads.oracle | head -n 2").says("places 60 transit 40\n0 1 35 local\n");
-    f.shell("yes 0 59 | $J time roads.oracle | head -n 2").says("869 far 24\n869 far 24\n");
+    f.shell("yes 0 59 | $J time roads.oracle | head -n 2").says("869 14 far 24\n869 14 far 24\n");
     // A refusal stays one.
     let ran = run(&f, "audit line.net", "", Some(closed()), None);
     assert_eq!((ran.code, ran.err.lines().count()), (1, 2), "{}", ran.err);
@@ -146,7 +146,7 @@ fn messages_that_cannot_be_written() {
             ("time line.net", "", 1, "refused 1\n"),
             ("listing line.net", "", 1, "refused 1\n"),
             ("time line.oracle 0 x", "", 2, ""),
-            ("time line.oracle", "0 3\nx\n0 1\n", 2, "refused 12\nwrong\n7 local 0\n"),
+            ("time line.oracle", "0 3\nx\n0 1\n", 2, "refused 12\nwrong\n7 1 local 0\n"),
             ("way without.oracle 0 4", "", 0, "\n"),
             ("build line.net 6 /dev/full", "", 2, ""),
             ("build line.net 6 new --words 99999999999999", "", 2, ""),
@@ -187,8 +187,8 @@ fn arguments_that_are_no_text() {
     // As names of files they are as good as any others.
     std::fs::write(f.0.join(odd), f.read("line.net")).unwrap();
     let name = OsStr::from_bytes(b"oracle \x80");
-    run(&[OsStr::new("build"), odd, OsStr::new("6"), name]).says("built 143 bytes, 1 transit\n");
-    run(&[OsStr::new("time"), name, OsStr::new("0"), OsStr::new("2")]).says("16 far 1\n");
+    run(&[OsStr::new("build"), odd, OsStr::new("6"), name]).says("built 149 bytes, 1 transit\n");
+    run(&[OsStr::new("time"), name, OsStr::new("0"), OsStr::new("2")]).says("16 2 far 1\n");
     run(&[OsStr::new("listing"), name]).says("places 3 transit 1\n0 1 7 local\n0 2 16 far\n1 2 9 local\n");
     run(&[OsStr::new("audit"), odd]).is_refused(1);
     run(&[OsStr::new("draw"), name, OsStr::from_bytes(b"\xf0.svg")]).says("drawn 3 places\n");
@@ -238,7 +238,7 @@ fn little_memory() {
         for (call, good) in [
             ("build net 1 new", "built 188483 bytes, 0 transit\n"),
             ("audit oracle", "accepted\n"),
-            ("time oracle 0 1", "10 local 0\n"),
+            ("time oracle 0 1", "10 2 local 0\n"),
             ("list oracle 4095", ""),
             ("draw oracle new.svg", "drawn 4096 places\n"),
             ("version", concat!("jukesogbi ", env!("CARGO_PKG_VERSION"), "\n")),
@@ -253,7 +253,7 @@ fn little_memory() {
     }
     assert!(done > 20 && failed > 5, "{done} done, {failed} failed");
     let ran = f.shell("ulimit -v 50000; exec $J build net 1 other");
-    ran.does(2, "", "jukesogbi: there is no memory for 167968864 bytes of output (--room B lends B)\n");
+    ran.does(2, "", "jukesogbi: there is no memory for 235077728 bytes of output (--room B lends B)\n");
     // With as much room as is needed it fits.
     f.shell("ulimit -v 50000; exec $J build net 1 other --room 190000").says("built 188483 bytes, 0 transit\n");
     assert_eq!(f.names().iter().filter(|name| name.starts_with('.')).count(), 0);

@@ -34,7 +34,7 @@ impl Met {
     fn count_legs(&mut self, case: &OracleCase, pairs: &[(u32, u32)]) {
         for (i, &(s, t)) in pairs.iter().enumerate() {
             let answer = case.reference.time(s, t, case.words()).result.unwrap();
-            let kind = match (answer.far, answer.seconds) {
+            let kind = match (answer.far, answer.time) {
                 (true, Some(_)) => &mut self.far,
                 (true, None) => &mut self.far_none,
                 (false, Some(_)) => &mut self.local,
@@ -180,7 +180,7 @@ fn beside_the_time_of_each_leg() {
         for _ in 0..4 {
             let size = random.below(60) as usize;
             let pairs = random_legs(&mut random, n, size);
-            let single: Vec<Option<u32>> = pairs.iter().map(|&(s, t)| core::time(&bytes, s, t, &mut work).unwrap().seconds).collect();
+            let single: Vec<Option<u32>> = pairs.iter().map(|&(s, t)| core::time(&bytes, s, t, &mut work).unwrap().seconds()).collect();
             let (none, total) = (single.iter().filter(|time| time.is_none()).count() as u32, single.iter().flatten().map(|&time| time as u64).sum());
             let expected = Wages { times: single, none, total };
             let (mut out, mut beside) = (vec![0xee; result_size(size)], vec![0xee; result_size(size) + 3]);

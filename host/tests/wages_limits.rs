@@ -5,7 +5,7 @@ mod common;
 use common::networks::{self, Plan};
 use common::program::oracle;
 use common::reference::wages::{legs, wages_bytes, wages_outcome, MOST_LEGS};
-use common::reference::{Outcome, MOST_SECONDS, NO_WALK, WORDS};
+use common::reference::{Outcome, MOST_ROADS, MOST_SECONDS, NO_ROADS, NO_WALK, WORDS};
 use common::tables::Tables;
 use common::wages::{check_wages, random_legs, result_size};
 use common::{Input, OracleCase};
@@ -34,7 +34,7 @@ fn one_place() {
             }
             assert_eq!(opened.wages(&legs(&[(0, 0); 1_001]), 5_000), Err(17));
             assert_eq!((opened.wages(&legs(&[(0, 1)]), 99), opened.wages(&legs(&[(1, 0)]), 99)), (Err(12), Err(12)));
-            assert_eq!(opened.time(0, 0).unwrap().seconds, Some(0));
+            assert_eq!(opened.time(0, 0).unwrap().seconds(), Some(0));
         }
         assert_eq!((case.wages(&[], 7, 12).result, case.wages(&[1, 0, 0, 0], 7, 12).result), (Err(14), Err(12)));
     }
@@ -96,9 +96,9 @@ fn far_legs_of_the_most_places() {
         })
         .collect();
     let answers: Vec<core::Answer> = pairs.iter().map(|&(s, t)| opened.time(s, t).unwrap()).collect();
-    let met = |kind: Kind, walk: bool| answers.iter().filter(|a| a.kind == kind && a.seconds.is_some() == walk).count();
+    let met = |kind: Kind, walk: bool| answers.iter().filter(|a| a.kind == kind && a.time.is_some() == walk).count();
     assert!(met(Kind::Far, true) > 100 && met(Kind::Far, false) > 100 && met(Kind::Local, true) > 10 && met(Kind::Local, false) > 5);
-    let expected = wages_bytes(&answers.iter().map(|a| a.seconds.map(u64::from)).collect::<Vec<_>>());
+    let expected = wages_bytes(&answers.iter().map(|a| a.seconds().map(u64::from)).collect::<Vec<_>>());
     let mut out = vec![0; 4_012];
     assert_eq!((core::wages(&bytes, &legs(&pairs), &mut work, &mut out), &out), (Ok(4_012), &expected));
     assert!(work.iter().all(|&word| word == 0));
@@ -129,12 +129,13 @@ fn the_slowest_chain() {
     check_wages(&input, &legs(&steps), words, 811, &Outcome { result: Err(15), zeroed: words, written: vec![] });
 }
 
-/// Line's oracle with other lists and another table: from 0 to 2 is far, and takes what these three say.
+/// Line's oracle with other lists and another table: from 0 to 2 is far, and takes what these three say. Each has the most roads, of which wages tell nothing.
 fn line_taking(first: u32, between: u32, last: u32) -> OracleCase {
     let plan = networks::line();
     let mut tables = Tables::of(&oracle(&plan, 6), 3);
-    tables.lists = vec![vec![(0, first)], vec![(0, 0)], vec![(0, last)]];
-    tables.table = vec![vec![between]];
+    let value = |seconds: u32| (seconds, if seconds == NO_WALK { NO_ROADS } else { MOST_ROADS });
+    tables.lists = vec![vec![(0, value(first))], vec![(0, (0, 0))], vec![(0, value(last))]];
+    tables.table = vec![vec![value(between)]];
     OracleCase::new(move || format!("Line with {first}, {between} and {last}"), tables.oracle(&plan, 6))
 }
 

@@ -105,7 +105,7 @@ fn the_first_broken_rule() {
                 assert_eq!(outcome.result.err(), first(&ORDER), "faults {faults:?}");
                 assert_eq!(outcome.zeroed, if matches!(outcome.result, Ok(_) | Err(15)) { WORDS } else { 0 });
                 assert_eq!(opened.wages(&legs, room).err(), first(&[12, 17, 15]), "faults {faults:?}");
-                assert_eq!(opened.time(0, 4).map(|a| a.seconds), Ok(Some(11)));
+                assert_eq!(opened.time(0, 4).map(|a| a.seconds()), Ok(Some(11)));
             }
         }
         assert!(opened.time(3, 0).is_ok() && opened.far(0, 4).is_ok() && opened.way(0, 4, 8).is_ok() && opened.block(&[0, 3], &[4]).is_ok());

@@ -1,4 +1,4 @@
--- The first three regions as the words of a search, with the marks made after it. Assumes nothing.
+-- The first regions as the words of a search, with the marks made after it. Assumes nothing.
 use Prim.Native.Nat.{ℕ, _+_, _≤_, _<_}
 use native.Mathlib.Omega.{arith}
 use mathlib.Core.Path.{_≡_, refl, sym, ap, _∙_, subst}
@@ -13,11 +13,12 @@ use Rattle.algorithms.specs.Pass.{Is}
 use Rattle.algorithms.specs.Stops.{Stopped}
 use Rattle.bitset.specs.Bits.{setWords, flags}
 use Rattle.marks.specs.Due.{Flagged, turned}
-use Rattle.marks.proofs.Views.{times-kept, order-kept}
+use Rattle.marks.proofs.Views.{order-kept}
 use Rattle.marks.proofs.Turns as turns
 use Rattle.marks.proofs.Walks.{marked-walk}
 use Rattle.words.specs.Regions.{regionAt, regionFlags, marks, want, timesIn, orderIn, wantIn, marksIn, searchWords, queueWords}
-use Rattle.words.proofs.Windows.{flags-front, flags-kept}
+use Rattle.words.proofs.Windows.{times-fit, flags-front, flags-kept}
+use Rattle.words.proofs.TimeLaws as times
 use Rattle.access.proofs.Wanted.{want-region}
 use Rattle.marks.specs.Ordered.{Ordered}
 use Rattle.words.specs.Frames.{Only, Enough, KeptFrom}
@@ -31,7 +32,7 @@ module _ (n : ℕ) (w : List ℕ) where
   two-front = take-take (queueWords n) (searchWords n) w (omega arith)
 
   times-front : timesIn n (front n w) ≡ timesIn n w
-  times-front = times-kept n w (front n w) two-front
+  times-front = times.times-front n (searchWords n) w (times-fit n)
 
   order-front : (i : ℕ) → orderIn n i (front n w) ≡ orderIn n i w
   order-front = order-kept n w (front n w) two-front
@@ -60,20 +61,23 @@ pub record Marking (arcs : List Arc) (n e : ℕ) (w₀ : List ℕ) (i : ℕ) (w 
   pub others : Only n marks w₀ w
   pub standing : turns.Standing arcs n e (regionFlags n want w₀) (front n w₀) i (front n w)
 
-module _ (arcs : List Arc) (n e : ℕ) (w₀ : List ℕ) (some : 0 < n) (long : Enough n w₀) where
+module _ (arcs : List Arc) (n e : ℕ) (w₀ : List ℕ) (two : 2 ≤ n) (long : Enough n w₀) where
+  some : 0 < n
+  some = omega arith
+
   -- w are the words before the marks were cleared.
   pub first : (w : List ℕ) → e ≤ n → Only n marks w w₀ → regionFlags n marks w₀ ≡ replicate n 0 → Ordered n (timesIn n w) (orderIn n e w)
       → Marking arcs n e w₀ e w₀
   first w h o m r = record {
     size = refl;
     others = only-same _ _ w₀;
-    standing = turns.first arcs n e (regionFlags n want w₀) (front n w₀) (front n w) h (size-front n w₀ some long)
+    standing = turns.first arcs n e (regionFlags n want w₀) (front n w₀) two (front n w) h (size-front n w₀ some long)
         (two-front n w₀ ∙ (queue-only n w w₀ o ∙ sym (two-front n w))) (marks-front n w₀ ∙ m) (rw (times-front n w, order-front n w e) r);
   }
 
   module _ (i : ℕ) (w : List ℕ) (g : Marking arcs n e w₀ i w) (h : i < n) where
     pub node-in : getD w (n + i) 0 < n
-    node-in = rw (node-front n w i h) at (turns.node-in arcs n e (regionFlags n want w₀) (front n w₀) i (front n w) (g .standing) h)
+    node-in = rw (node-front n w i h) at (turns.node-in arcs n e (regionFlags n want w₀) (front n w₀) two i (front n w) (g .standing) h)
 
     pub next : Positive arcs → (w′ : List ℕ) → length w′ ≡ length w → Only n marks w w′
         → regionFlags n marks w′ ≡ turned arcs (timesIn n w) (regionFlags n want w) (regionFlags n marks w) (getD w (n + i) 0) → Marking arcs n e w₀ (i + 1) w′
@@ -82,7 +86,7 @@ module _ (arcs : List Arc) (n e : ℕ) (w₀ : List ℕ) (some : 0 < n) (long : 
         record {
           size = k ∙ g .size;
           others = only-then _ _ w₀ w w′ (g .others) o;
-          standing = turns.next arcs n e (regionFlags n want w₀) (front n w₀) i (front n w) (g .standing) h pos (front n w′)
+          standing = turns.next arcs n e (regionFlags n want w₀) (front n w₀) two i (front n w) (g .standing) h pos (front n w′)
               (size-front n w′ some (omega (arith, g .size)) ∙ sym (size-front n w some (omega (arith, g .size))))
               (two-front n w′ ∙ (queue-only n w w′ o ∙ sym (two-front n w)))
               (rw (marks-front n w′, marks-front n w, times-front n w, node-front n w i h, ← same) m);
@@ -92,7 +96,7 @@ module _ (arcs : List Arc) (n e : ℕ) (w₀ : List ℕ) (some : 0 < n) (long : 
       → ((v : ℕ) → Flagged (regionFlags n marks w′) v ↔ Is arcs (timesIn n w) (Flagged (regionFlags n want w)) (orderIn n e w) v) × Only n marks w w′
   last i w w′ h o g =
       let same : regionFlags n want w₀ ≡ regionFlags n want w = flags-kept n want marks w w₀ (λ q. omega arith) o in
-      let l = turns.last arcs n e (regionFlags n want w₀) (front n w₀) i (front n w) (front n w′) h
+      let l = turns.last arcs n e (regionFlags n want w₀) (front n w₀) two i (front n w) (front n w′) h
       (two-front n w₀ ∙ (queue-only n w w₀ o ∙ sym (two-front n w))) (g .standing) in
       (λ v. rw (marks-front n w′, times-front n w, order-front n w e, same) at (l .1 v), only-then _ _ w w₀ w′ o (g .others))
 

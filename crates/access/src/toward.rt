@@ -61,7 +61,7 @@ fn mark_at(edges: &[u8], n: usize, work: &mut [u32], i: usize)
 
 // After a search whose order begins at position e: marks each node of the order that is wanted, or from which a tight arc leads to a marked one.
 pub fn mark_back(edges: &[u8], n: usize, e: usize, work: &mut [u32])
-    requires { ⌜ (n ≤ maxNodes) × (e ≤ n) × Enough n (now work) × Ordered n (timesIn n (now work)) (orderIn n e (now work)) × (1 ≤ n) ⌝ }
+    requires { ⌜ (n ≤ maxNodes) × (e ≤ n) × Enough n (now work) × Ordered n (timesIn n (now work)) (orderIn n e (now work)) × (2 ≤ n) ⌝ }
     requires { ⌜ IndexedEdges (now edges) n (now work) ⌝ }
     ensures members { λ _. ⌜ ((v : ℕ) → Flagged (regionFlags n marks (now (work .exit))) v
         ↔ Is (arcsIn (now (edges .entry))) (timesIn n (now (work .entry))) (Flagged (regionFlags n want (now (work .entry))))

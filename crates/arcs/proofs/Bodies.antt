@@ -6,7 +6,7 @@ use mathlib.Core.List.{List, []}
 use borrow.Author.Tests.{eq-eqb, eqb-true}
 use Rattle.model.specs.Bytes.{Bytes}
 use Rattle.model.specs.Walk.{Arc}
-use Rattle.model.specs.Network.{edges, maxSeconds, someEdgeBroken}
+use Rattle.model.specs.Network.{edges, someEdgeBroken}
 use Rattle.theory.specs.Members.{filter→, →filter}
 use Rattle.theory.specs.Sound as sound
 use Rattle.theory.specs.Walks.{Within, Costs, Positive}
@@ -23,7 +23,7 @@ module _ (n : ℕ) (b : Bytes) (h : someEdgeBroken n b ≡ false) where
   unfolding arcsIn
   arcs-within = sound.arcs-within n (edges b) (sound.each-fine n b h)
 
-  pub arcs-cost : Costs maxSeconds (arcsIn b)
+  pub arcs-cost : Costs sound.maxCost (arcsIn b)
   unfolding arcsIn
   arcs-cost = sound.arcs-cost n (edges b) (sound.each-fine n b h)
 
@@ -34,7 +34,7 @@ module _ (n : ℕ) (b : Bytes) (h : someEdgeBroken n b ≡ false) where
 -- The same of the arcs under a sheet, together.
 pub record Bounded (n : ℕ) (arcs : List Arc) : Type 0 where
   pub within : Within n arcs
-  pub cost : Costs maxSeconds arcs
+  pub cost : Costs sound.maxCost arcs
   pub positive : Positive arcs
 
 pub arcs-bounded : (edges lines : Bytes) (n : ℕ) (w : List ℕ) → EdgesUnder edges lines n w → Bounded n (arcsUnder edges lines)

@@ -12,22 +12,23 @@ use lib.Dec.{eqb}
 use borrow.Author.Tests.{eq-eqb, ne-eqb}
 use Rattle.model.specs.Lists.{filter, concatMap}
 use Rattle.model.specs.Bytes.{Bytes}
+use Rattle.model.specs.Pair.{key}
 use Rattle.model.specs.Walk.{Arc}
 use Rattle.model.specs.Network.{Edge, edge, edgeCount, arcsOf, someEdgeBroken, maxSeconds}
 use Rattle.model.specs.Oracle.{noWalk}
-use Rattle.sheet.specs.Sheet.{Effect, Effect.delayed, lineCount, linesIn, holds}
+use Rattle.sheet.specs.Sheet.{Effect, Effect.shut, Effect.delayed, lineCount, linesIn, holds}
 use Rattle.sheet.specs.Under.{left, leftOf}
 use Rattle.sheet.specs.ArcsUnder.{arcsUnder, arcsLeft}
-use Rattle.sheet.specs.Spans.{leftIn}
+use Rattle.sheet.specs.Spans.{costLeft}
 use Rattle.sheet.proofs.Lasts.{none-held}
-use Rattle.sheet.proofs.Ground.{left→, not-slow, plain-slow}
-use Rattle.sheet.proofs.Seconds.{as-was}
+use Rattle.sheet.proofs.Ground.{later, not-slow, plain-slow}
+use Rattle.sheet.proofs.Costs.{as-was}
 use Rattle.arcs.specs.Arcs.{leaves, leaving}
-use Rattle.theory.specs.Sound.{Fine, edge-fine}
+use Rattle.theory.specs.Sound.{Fine, edge-fine, maxCost}
 use Rattle.arcs.specs.declared.cursor.Cursor.{Cursor}
 use Rattle.arcs.specs.declared.leaving.ArcAt.{ArcAt}
 use Rattle.arcs.specs.Cursor.{Valid, PassedEdges, Stepped}
-use Rattle.arcs.specs.Leaving.{EdgesUnder, cursorOf, arcHere, arcsOver, maxCost, EndAt, LeftAt, Found, PassedArcs, SkippedTo, FirstArc, arcRank}
+use Rattle.arcs.specs.Leaving.{EdgesUnder, cursorOf, arcHere, arcsOver, EndAt, LeftAt, Found, PassedArcs, SkippedTo, FirstArc, arcRank}
 use Rattle.arcs.specs.Leaving.{SteppedArc}
 use Rattle.arcs.proofs.Same.{passing-all, left-arc, arcs-same→, →arcs-same}
 
@@ -35,7 +36,7 @@ use Rattle.arcs.proofs.Same.{passing-all, left-arc, arcs-same→, →ar
 abbrev pub Other : ℕ → ℕ → ℕ → ℕ → Type 0
 Other first second u v = (first ≡ u → v ≡ second) × ((first ≡ u → ⊥) → v ≡ first)
 
-module _ (u : ℕ) (e : Edge) (apart : e .first ≡ e .second → ⊥) (v s : ℕ) (r : s ≡ e .seconds) where
+module _ (u : ℕ) (e : Edge) (apart : e .first ≡ e .second → ⊥) (v s : ℕ) (r : s ≡ key (e .seconds) 1) where
   by-first : e .first ≡ u → v ≡ e .second → leaving u (arcsOf e) ≡ record { from = u; to = v; cost = s } ∷ []
   unfolding leaving leaves filter arcsOf
   by-first p q = rw (eq-eqb (e .first) u p, ne-eqb (e .second) u (λ z. apart (p ∙ sym z)), p, ← q, ← r)
@@ -79,46 +80,47 @@ toOf [] = 0
 toOf (a ∷ as′) = a .to
 
 recost : (u : ℕ) (e : Edge) (v k s : ℕ) → leaving u (arcsOf e) ≡ record { from = u; to = v; cost = k } ∷ []
-    → leaving u (arcsOf (record { first = e .first; second = e .second; seconds = s })) ≡ record { from = u; to = v; cost = s } ∷ []
+    → leaving u (arcsOf (record { first = e .first; second = e .second; seconds = s })) ≡ record { from = u; to = v; cost = key s 1 } ∷ []
 unfolding leaving leaves filter arcsOf
 recost u e v k s = pick (eqb (e .first) u) (eqb (e .second) u)
   where
     there : ℕ → Arc
-    there x = record { from = e .first; to = e .second; cost = x }
+    there x = record { from = e .first; to = e .second; cost = key x 1 }
 
     back : ℕ → Arc
-    back x = record { from = e .second; to = e .first; cost = x }
+    back x = record { from = e .second; to = e .first; cost = key x 1 }
 
     pick : (a b : Bool) → cond a (there (e .seconds) ∷ cond b (back (e .seconds) ∷ []) []) (cond b (back (e .seconds) ∷ []) []) ≡ record
         { from = u; to = v; cost = k } ∷ []
-        → cond a (there s ∷ cond b (back s ∷ []) []) (cond b (back s ∷ []) []) ≡ record { from = u; to = v; cost = s } ∷ []
+        → cond a (there s ∷ cond b (back s ∷ []) []) (cond b (back s ∷ []) []) ≡ record { from = u; to = v; cost = key s 1 } ∷ []
     pick true true h = absurd (omega (arith, ap (λ (l : List Arc). length l) h))
     pick true false h = rw (ap fromOf h, ap toOf h)
     pick false true h = rw (ap fromOf h, ap toOf h)
     pick false false h = absurd (omega (arith, ap (λ (l : List Arc). length l) h))
 
--- ---- what the lines leave of an edge e: s is its seconds as the code has read them, 'no walk' for nothing
-left-low : (f : Effect) (e : Edge) (s : ℕ) → left f e ≡ leftIn s e → (s ≡ noWalk → ⊥) → ((x : ℕ) → f ≡ delayed x → e .seconds + x ≤ maxSeconds)
-    → s ≤ maxSeconds
-unfolding leftIn
-left-low f e s p d most =
-    let here : List·Memᴰ (record { first = e .first; second = e .second; seconds = s }) (left f e) = rw (p, ne-eqb s noWalk d) (List·Memᴰ·head refl) in
-    let (x, q, r) = left→ f e here in
-    omega (arith, ap (λ (e : Edge). e .seconds) r, most x q)
+-- ---- what the lines leave of an edge e: s is its cost as the code has read it, 'no walk' for nothing
+left-low : (f : Effect) (e : Edge) (s : ℕ) → s ≡ costLeft f e → (s ≡ noWalk → ⊥) → ((x : ℕ) → f ≡ delayed x → e .seconds + x ≤ maxSeconds)
+    → s ≤ maxCost
+unfolding costLeft
+left-low shut e s r d most = absurd (d r)
+left-low (delayed x) e s r d most = omega (arith, most x refl)
 
-left-leaving : (f : Effect) (e : Edge) (s u : ℕ) (l : List Arc) → left f e ≡ leftIn s e
-    → ((s ≡ noWalk → ⊥) → leaving u (arcsOf (record { first = e .first; second = e .second; seconds = s })) ≡ l)
-    → leaving u (concatMap arcsOf (left f e)) ≡ cond (eqb s noWalk) [] l
-left-leaving f e s u l p h = rw p (pick (ℕ-discrete s noWalk))
-  where
-    pick : Dec (s ≡ noWalk) → leaving u (concatMap arcsOf (leftIn s e)) ≡ cond (eqb s noWalk) [] l
-    pick (yes q) = unfold leftIn concatMap leaving filter in rw (eq-eqb s noWalk q)
-    pick (no d) = unfold leftIn concatMap arcsOf in rw (ne-eqb s noWalk d) (unfold arcsOf in h d)
+-- A cost of one hop is never 'no walk'.
+left-leaving : (f : Effect) (e : Edge) (u v s : ℕ) → s ≡ costLeft f e
+    → ((x : ℕ) → leaving u (arcsOf (later x e)) ≡ record { from = u; to = v; cost = key (e .seconds + x) 1 } ∷ [])
+    → leaving u (concatMap arcsOf (left f e)) ≡ cond (eqb s noWalk) [] (record { from = u; to = v; cost = s } ∷ [])
+unfolding left costLeft concatMap
+left-leaving shut e u v s r h = unfold leaving filter in rw (eq-eqb s noWalk r)
+left-leaving (delayed x) e u v s r h = rw (ne-eqb s noWalk (λ z. omega arith), r) (unfold arcsOf in h x)
 
-pub none-left : (edges lines : Bytes) (u i s : ℕ) → s ≡ noWalk → left (holds (linesIn lines) i) (edge edges i) ≡ leftIn s (edge edges i)
-    → leaving u (arcsLeft edges lines i) ≡ []
+nothing-leaves : (f : Effect) (e : Edge) (u s : ℕ) → s ≡ noWalk → s ≡ costLeft f e → leaving u (concatMap arcsOf (left f e)) ≡ []
+unfolding left costLeft concatMap leaving filter
+nothing-leaves shut e u s z r = refl
+nothing-leaves (delayed x) e u s z r = absurd (omega arith)
+
+pub none-left : (edges lines : Bytes) (u i s : ℕ) → s ≡ noWalk → s ≡ costLeft (holds (linesIn lines) i) (edge edges i) → leaving u (arcsLeft edges lines i) ≡ []
 unfolding arcsLeft leftOf
-none-left edges lines u i s z p = left-leaving (holds (linesIn lines) i) (edge edges i) s u [] p (λ d. absurd (d z)) ∙ rw (eq-eqb s noWalk z)
+none-left edges lines u i s z r = nothing-leaves (holds (linesIn lines) i) (edge edges i) u s z r
 
 module _ (edges lines : Bytes) (n u : ℕ) (c : Cursor) where
   pub left-none : edgeCount edges ≤ c .edge
@@ -133,7 +135,7 @@ module _ (edges lines : Bytes) (n u : ℕ) (c : Cursor) where
 
   pub left-some : someEdgeBroken n edges ≡ false → c .edge < edgeCount edges → EndAt edges lines u (c .edge)
       → (first second v s : ℕ) → first ≡ edge edges (c .edge) .first → second ≡ edge edges (c .edge) .second → Other first second u v
-      → left (holds (linesIn lines) (c .edge)) (edge edges (c .edge)) ≡ leftIn s (edge edges (c .edge))
+      → s ≡ costLeft (holds (linesIn lines) (c .edge)) (edge edges (c .edge))
       → LeftAt edges lines n u c (record { to = v; cost = s; edge = c .edge; stop = c .stop; link = c .link; size = c .size })
   left-some ends h end first second v s p q o r =
       let e = edge edges (c .edge) in
@@ -141,8 +143,8 @@ module _ (edges lines : Bytes) (n u : ℕ) (c : Cursor) where
       record {
         cursor = refl;
         inside = λ l. other-in n u first second v (omega (arith, f .first-in)) (omega (arith, f .second-in)) o;
-        arc = λ l. unfold arcsLeft leftOf in left-leaving (holds (linesIn lines) (c .edge)) e s u (record { from = u; to = v; cost = s } ∷ []) r
-            (λ d. by-other u (record { first = e .first; second = e .second; seconds = s }) (f .apart) v s refl first second p q o (end .end));
+        arc = λ l. unfold arcsLeft leftOf in left-leaving (holds (linesIn lines) (c .edge)) e u v s r
+            (λ x. by-other u (later x e) (f .apart) v (key (e .seconds + x) 1) refl first second p q o (end .end));
         ended = λ l. absurd (omega arith);
         low = λ d. left-low (holds (linesIn lines) (c .edge)) e s r d (end .limit);
       }
@@ -160,14 +162,13 @@ plain-left edges i = rw (none-held [] (omega arith) i, add-zero)
 pub plain-some : (edges : Bytes) (n u : ℕ) (c : Cursor) → someEdgeBroken n edges ≡ false → c .edge < edgeCount edges
     → (edge edges (c .edge) .first ≡ u) ⊎ (edge edges (c .edge) .second ≡ u)
     → (first second v s : ℕ) → first ≡ edge edges (c .edge) .first → second ≡ edge edges (c .edge) .second → Other first second u v
-    → s ≡ edge edges (c .edge) .seconds
+    → s ≡ key (edge edges (c .edge) .seconds) 1
     → LeftAt edges [] n u c (record { to = v; cost = s; edge = c .edge; stop = c .stop; link = c .link; size = c .size })
 unfolding lineCount
 plain-some edges n u c ends h end first second v s p q o r =
-    let f = edge-fine n edges ends (c .edge) h in
     let held = none-held [] (omega arith) (c .edge) in
     let limit = not-slow edges [] (plain-slow edges n ends) (c .edge) h in
-    left-some edges [] n u c ends h (record { end = end; limit = limit }) first second v s p q o (as-was _ s (edge edges (c .edge)) held r (f .at-most))
+    left-some edges [] n u c ends h (record { end = end; limit = limit }) first second v s p q o (as-was _ s (edge edges (c .edge)) held r)
 
 -- The edge of an arc is the cursor's.
 pub same-edge : (edges lines : Bytes) (n u : ℕ) (c : Cursor) (a : ArcAt) → LeftAt edges lines n u c a → a .edge ≡ c .edge
@@ -183,9 +184,9 @@ left-over edges lines n u c a g h = record {
   low = g .low;
 }
 
--- The arc a of the edge, read without the lines; s is what they leave of its seconds.
+-- The arc a of the edge, read without the lines; s is what it costs under them.
 pub left-recost : (edges lines : Bytes) (n u : ℕ) (c : Cursor) (a : ArcAt) → LeftAt edges [] n u c a → a .cost ≤ maxCost → a .edge < edgeCount edges
-    → EndAt edges lines u (a .edge) → (s : ℕ) → left (holds (linesIn lines) (a .edge)) (edge edges (a .edge)) ≡ leftIn s (edge edges (a .edge))
+    → EndAt edges lines u (a .edge) → (s : ℕ) → s ≡ costLeft (holds (linesIn lines) (a .edge)) (edge edges (a .edge))
     → LeftAt edges lines n u c (record { to = a .to; cost = s; edge = a .edge; stop = a .stop; link = a .link; size = a .size })
 unfolding arcsLeft leftOf
 left-recost edges lines n u c a g low h end s r =
@@ -195,8 +196,7 @@ left-recost edges lines n u c a g low h end s r =
     record {
       cursor = g .cursor;
       inside = g .inside;
-      arc = λ l. left-leaving (holds (linesIn lines) (a .edge)) e s u (record { from = u; to = a .to; cost = s } ∷ []) r
-          (λ d. recost u e (a .to) (a .cost) s plain);
+      arc = λ l. left-leaving (holds (linesIn lines) (a .edge)) e u (a .to) s r (λ x. recost u e (a .to) (a .cost) (e .seconds + x) plain);
       ended = λ l. absurd (omega arith);
       low = λ d. left-low (holds (linesIn lines) (a .edge)) e s r d (end .limit);
     }

@@ -10,6 +10,7 @@ use Rattle.model.specs.Bytes.{Bytes}
 use Rattle.model.specs.Walk.{Arc}
 use Rattle.model.specs.Network.{edge, edgeCount, maxSeconds}
 use Rattle.model.specs.Oracle.{noWalk}
+use Rattle.theory.specs.Sound.{maxCost}
 use Rattle.index.specs.Index.{IndexedEdges}
 use Rattle.sheet.specs.Sheet.{Effect.delayed, linesIn, holds}
 use Rattle.sheet.specs.Under.{tooSlow}
@@ -38,10 +39,6 @@ arcHere u a = record { from = u; to = a .to; cost = a .cost }
 -- The arcs that leave u over the edges of a list.
 unfoldable pub arcsOver : Bytes → Bytes → ℕ → List ℕ → List Arc
 arcsOver edges lines u done = concatMap (λ j. leaving u (arcsLeft edges lines j)) done
-
--- What an arc costs at most: what is added to a cost that is read from a word stays below 2 ^ 64.
-abbrev pub maxCost : ℕ
-maxCost = maxSeconds
 
 -- The arc of an edge that a sheet may close: then its cost is 'no walk', and there is none.
 abbrev pub shutOr : ℕ → ArcAt → List Arc

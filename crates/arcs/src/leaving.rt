@@ -5,19 +5,20 @@ ghost use mathlib.Core.Bool.{false};
 ghost use mathlib.Core.List.{[]};
 ghost use mathlib.Core.Logic.{_⊎_};
 ghost use Rattle.model.specs.Network.{maxNodes, edge, edgeCount, someEdgeBroken};
+ghost use Rattle.theory.specs.Sound.{maxCost};
 ghost use Rattle.words.specs.Frames.{Enough};
 ghost use Rattle.sheet.specs.Spans.{SpannedIn};
 ghost use Rattle.index.specs.Index.{IndexedEdges};
 ghost use Rattle.arcs.specs.Cursor.{Valid, Stepped};
-ghost use Rattle.arcs.specs.Leaving.{EdgesUnder, cursorOf, maxCost, EndAt, LeftAt, FirstArc, ValidArc, SteppedArc};
+ghost use Rattle.arcs.specs.Leaving.{EdgesUnder, cursorOf, EndAt, LeftAt, FirstArc, ValidArc, SteppedArc};
 use crate::cursor::Cursor;
 use crate::cursor::next_edge;
+use codec::keys::edge_key;
 use codec::records::EDGE_SIZE;
 use codec::records::NO_WALK;
 use codec::records::edge_first;
 use codec::records::edge_second;
-use codec::records::edge_seconds;
-use sheet::spans::seconds_left;
+use sheet::spans::cost_left;
 
 // Where the arc leads and what it costs, and where the cursor over the edges stands. At the end of a walk `to` is the number of nodes. The cursor's fields
 // stand here one by one: a struct in a struct is copied through memory at each arc.
@@ -61,7 +62,7 @@ pub fn arc_at(edges: &[u8], n: usize, u: usize, c: Cursor) -> ArcAt
         };
     }
     let to = other_end(edge_first(edges, i), edge_second(edges, i), u);
-    let cost = edge_seconds(edges, i) as u64;
+    let cost = edge_key(edges, i);
     ArcAt {
         to: to,
         cost: cost,
@@ -117,7 +118,7 @@ fn left_arc(edges: &[u8], lines: &[u8], n: usize, work: &[u32], u: usize, c: Cur
     if edges.len() / EDGE_SIZE <= a.edge {
         return a;
     }
-    let left = seconds_left(edges, lines, n, work, a.edge) as u64;
+    let left = cost_left(edges, lines, n, work, a.edge);
     ArcAt {
         to: a.to,
         cost: left,
@@ -148,7 +149,7 @@ fn past_shut(edges: &[u8], lines: &[u8], n: usize, work: &[u32], u: usize, a: Ar
     ensures { λ r. ⌜ FirstArc (now (edges .entry)) (now (lines .entry)) n (now (work .entry)) u (cursorOf a) r ⌝ }
 {
     let mut b = a;
-    while b.cost == NO_WALK as u64 {
+    while b.cost == NO_WALK {
         b = next_left(edges, lines, n, work, u, b);
     }
     b
@@ -162,7 +163,7 @@ fn first_left(edges: &[u8], lines: &[u8], n: usize, work: &[u32], u: usize, c: C
     ensures { λ r. ⌜ FirstArc (now (edges .entry)) (now (lines .entry)) n (now (work .entry)) u c r ⌝ }
 {
     let a = left_arc(edges, lines, n, work, u, c);
-    if a.cost == NO_WALK as u64 {
+    if a.cost == NO_WALK {
         return past_shut(edges, lines, n, work, u, a);
     }
     a

@@ -3,14 +3,14 @@ use Prim.Native.Nat.{ℕ, _*_, _≤_}
 use native.Mathlib.Omega.{arith}
 use mathlib.Core.Path.{_≡_, refl, _∙_}
 use mathlib.Core.List.{List}
-use lib.ListN.{length, take}
+use lib.ListN.{length}
 use Rattle.model.specs.Lists.{equal}
 use Rattle.model.specs.Bytes.{Bytes}
 use Rattle.model.specs.Oracle.{valueSize}
 use Rattle.model.specs.Walk.{Arc}
 use Rattle.algorithms.specs.Rounds.{Found, distanceWords}
 use Rattle.index.specs.Index.{IndexedEdges}
-use Rattle.words.specs.Regions.{regionAt, region, own, transit, indexAt, searchWords}
+use Rattle.words.specs.Regions.{regionAt, region, own, transit, indexAt, timesIn, searchWords}
 use Rattle.emit.specs.Parts.{rowBytes}
 use Rattle.passes.specs.Building.{membersIn}
 use Rattle.words.proofs.Windows.{region-later}
@@ -43,8 +43,8 @@ module _ (n : ℕ) (w w′ : List ℕ) (e : KeptFrom (searchWords n) w w′) whe
   pub size-behind : (size : ℕ) → size ≡ valueSize * length (membersIn n transit w) → size ≡ valueSize * length (membersIn n transit w′)
   size-behind size q = rw transit-behind q
 
-  module _ (arcs : List Arc) (v : ℕ) (order : List ℕ) (f : Found arcs n v (take n w′) order) where
-    pub row-behind : rowBytes (take n w′) (membersIn n transit w′) ≡ rowBytes (distanceWords arcs n v) (membersIn n transit w)
+  module _ (arcs : List Arc) (v : ℕ) (order : List ℕ) (f : Found arcs n v (timesIn n w′) order) where
+    pub row-behind : rowBytes (timesIn n w′) (membersIn n transit w′) ≡ rowBytes (distanceWords arcs n v) (membersIn n transit w)
     row-behind = rw (f .times, transit-behind)
 
 -- From w, the index is written into x, the transit nodes are marked in y, and the lists passed to z.

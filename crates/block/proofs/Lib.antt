@@ -1,5 +1,6 @@
 -- The laws that the proofs cite.
 mod FirstNamed
+mod PartLaws
 mod Named
 mod Fill
 mod Entries

@@ -1,12 +1,13 @@
 -- The rules of a block as the code checks them, and what a broken one leaves. Assumes nothing.
 use Prim.Native.Nat.{ℕ, _≤_}
-use mathlib.Core.Path.{_≡_, refl, sym, _∙_}
-use mathlib.Core.Bool.{true}
+use mathlib.Core.Path.{_≡_, refl, sym, _∙_, ap}
+use mathlib.Core.Bool.{true, false}
 use mathlib.Core.List.{List}
-use lib.ListN.{length, replicate}
+use lib.ListN.{length}
 use lib.Dec.{ltb}
 use borrow.Author.Tests.{eq-eqb, ne-eqb, le-ltb}
 use Rattle.model.specs.Bytes.{Bytes}
+use Rattle.model.specs.Query.{timeWord}
 use Rattle.model.specs.Rules.{rule, firstBroken, networkRules, shapeRules, workTooSmall, wordsNeeded}
 use Rattle.model.specs.Calls.{clears, cleared}
 use Rattle.checks.specs.RuleLists.{namedRules}
@@ -14,7 +15,9 @@ use Rattle.checks.proofs.AfterCall.{unclearing, words-kept, words-cleared}
 use Rattle.checks.proofs.CheckOrder.{last-kept}
 use Rattle.opened.specs.Opened.{Opened}
 use Rattle.words.specs.Frames.{KeptFrom}
-use Rattle.block.specs.Block.{maxNames, namesBroken, sidesRules, blockRules, unusedRow, blockOf, blockRefusal, blockAfter, BlockCall}
+use Rattle.block.specs.Block.{maxNames, namesBroken, sidesRules, blockRules, blockBy, given, refused, blockRefusal, blockAfter, BlockCall}
+use Rattle.block.specs.Parts.{partsOf}
+use Rattle.block.proofs.PartLaws.{seconds-block, hops-block}
 use Rattle.block.specs.Kept.{BlockKept, block-kept}
 use Rattle.block.specs.declared.Block.{Block}
 
@@ -34,29 +37,40 @@ pub block-roomy : (o : Bytes) (starts ends : List ℕ) (words : ℕ) → wordsNe
 unfolding blockRules workTooSmall
 block-roomy o starts ends words h = last-kept (sidesRules o starts ends) 14 (le-ltb words (wordsNeeded o) h)
 
+-- ---- a block of keys, taken apart
+pub record Parts (o : Bytes) (starts ends : List ℕ) (b : Block) : Type 0 where
+  pub keys : List (List ℕ)
+  pub number : b .rule ≡ 0
+  pub times : b .times ≡ partsOf false keys
+  pub hops : b .hops ≡ partsOf true keys
+  pub are : keys ≡ blockBy (timeWord o) starts ends
+
+given-is : {o : Bytes} {starts ends : List ℕ} {b : Block} → Parts o starts ends b → b ≡ given o starts ends
+unfolding given
+given-is {o} {starts} {ends} p =
+    let t = p .times ∙ (ap (partsOf false) (p .are) ∙ seconds-block o starts ends) in
+    let h = p .hops ∙ (ap (partsOf true) (p .are) ∙ hops-block o starts ends) in
+    λ i. record { rule = p .number i; times = t i; hops = h i }
+
 -- ---- after a broken rule, and after none
 module _ (o : Bytes) (starts ends work : List ℕ) (k : ℕ) (e : k ≡ firstBroken (blockRules o starts ends (length work))) where
   unwritten : unclearing (blockRules o starts ends (length work)) ≡ true
   unfolding unclearing clears blockRules sidesRules namedRules shapeRules networkRules
   unwritten = refl
 
-  pub block-refused : (b : Block) → (k ≡ 0 → ⊥) → b .rule ≡ k → b .times ≡ replicate maxNames unusedRow → BlockCall o starts ends work b work
+  pub block-refused : (b : Block) → (k ≡ 0 → ⊥) → b ≡ refused k → BlockCall o starts ends work b work
   unfolding blockRefusal blockAfter
-  block-refused b h p q =
-      record {
-        result = rw (← e, ne-eqb k 0 h) (λ i. record { rule = p i; times = q i });
-        words = rw (← e)
-            (words-kept (blockRules o starts ends (length work)) unwritten k e o work h);
-      }
+  block-refused b h p = record {
+    result = rw (← e, ne-eqb k 0 h) p;
+    words = rw (← e) (words-kept (blockRules o starts ends (length work)) unwritten k e o work h);
+  }
 
-  pub block-given : (b : Block) (work′ mid : List ℕ) → k ≡ 0 → b .rule ≡ 0 → b .times ≡ blockOf o starts ends → KeptFrom (wordsNeeded o) work mid
-      → work′ ≡ cleared (wordsNeeded o) mid
+  pub block-given : (b : Block) (work′ mid : List ℕ) → k ≡ 0 → Parts o starts ends b → KeptFrom (wordsNeeded o) work mid → work′ ≡ cleared (wordsNeeded o) mid
       → BlockCall o starts ends work b work′
   unfolding blockRefusal blockAfter
-  block-given b work′ mid z p q d c = record {
-    result = rw (sym e ∙ z) (λ i. record { rule = p i; times = q i });
-    words = c
-        ∙ words-cleared o work mid d _ (sym e ∙ z);
+  block-given b work′ mid z p d c = record {
+    result = rw (sym e ∙ z) (given-is p);
+    words = c ∙ words-cleared o work mid d _ (sym e ∙ z);
   }
 
 -- ---- the block of an opened oracle
@@ -65,13 +79,13 @@ module _ (o : Bytes) (starts ends work : List ℕ) (h : Opened o work) (k : ℕ)
   as-block = e ∙ sym (block-roomy o starts ends (length work) (h .room))
 
   abbrev After : Block → Type 0
-  After b = b ≡ blockAfter (blockRefusal o starts ends work) (blockOf o starts ends)
+  After b = b ≡ blockAfter (blockRefusal o starts ends work) o starts ends
 
   pub sides-there : k ≡ 0 → BlockKept o starts ends (length work)
   sides-there z = block-kept o starts ends (length work) (sym as-block ∙ z)
 
-  pub opened-refused : (b : Block) → (k ≡ 0 → ⊥) → b .rule ≡ k → b .times ≡ replicate maxNames unusedRow → After b
-  opened-refused b n p q = block-refused o starts ends work k as-block b n p q .result
+  pub opened-refused : (b : Block) → (k ≡ 0 → ⊥) → b ≡ refused k → After b
+  opened-refused b n p = block-refused o starts ends work k as-block b n p .result
 
-  pub opened-given : (b : Block) → k ≡ 0 → b .rule ≡ 0 → b .times ≡ blockOf o starts ends → After b
-  opened-given b z p q = block-given o starts ends work k as-block b (cleared (wordsNeeded o) work) work z p q refl refl .result
+  pub opened-given : (b : Block) → k ≡ 0 → Parts o starts ends b → After b
+  opened-given b z p = block-given o starts ends work k as-block b (cleared (wordsNeeded o) work) work z p refl refl .result

@@ -22,13 +22,14 @@ use Rattle.arcs.specs.Arcs.{arcsIn}
 use Rattle.bitset.specs.Bits.{setWords, isIn}
 use Rattle.bitset.proofs.Members.{length-flags, flag-in, flag-out}
 use Rattle.words.specs.Regions.{regionAt, regionFlags, timesIn, want, wantIn, gridAt, searchWords}
-use Rattle.words.specs.Times.{store}
+use Rattle.words.specs.Times.{timeWords, store}
 use Rattle.opened.specs.Opened.{Opened}
 use Rattle.checks.proofs.RulesKept.{some-node}
 use Rattle.opened.proofs.SearchWords.{distance-in, itself-no-time}
 use Rattle.checks.proofs.NameLists.{named-there}
 use Rattle.block.specs.Near.{wantedIn, Wants, WantsToo, WantedTimes, NearTimes}
 use Rattle.words.specs.Frames.{Only, KeptFrom}
+use Rattle.words.proofs.Windows.{times-fit}
 use Rattle.words.proofs.TimeLaws.{time-at, store-same, store-kept}
 
 -- A flag more.
@@ -104,6 +105,10 @@ pub wanted-size : (o : Bytes) (w : List ℕ) → length (wantedIn o w) ≡ nodeC
 unfolding wantIn
 wanted-size o w = length-flags (nodeCount (nodeBody o)) (drop (searchWords (nodeCount (nodeBody o))) w)
 
+-- Where the wanted set ends.
+want-end : (k : ℕ) → regionAt k want + setWords k ≡ gridAt k
+want-end k = omega arith
+
 -- m is the number of nodes as the code has it.
 module _ (o : Bytes) (m : ℕ) (e : m ≡ nodeCount (nodeBody o)) (w : List ℕ) where
   pub want-fits : Opened o w → regionAt m want + setWords m ≤ length w
@@ -124,7 +129,7 @@ module _ (o : Bytes) (m : ℕ) (e : m ≡ nodeCount (nodeBody o)) (w : List ℕ)
   want-put x t h = sym (want-is x) ∙ (h ∙ ap (λ (l : List ℕ). set l t 1) (want-is w))
 
   pub want-only : (x : List ℕ) → Only m want w x → KeptFrom (gridAt (nodeCount (nodeBody o))) w x
-  want-only x h = let q : regionAt m want + setWords m ≡ gridAt (nodeCount (nodeBody o)) = omega (arith, e) in rw q at (h .back)
+  want-only x h = rw (want-end m, e) at (h .back)
 
   -- From w it was cleared, in x, and s put there, in y.
   module _ (x y : List ℕ) (s : ℕ) where
@@ -165,9 +170,9 @@ module _ (o : Bytes) (s : ℕ) (names : List ℕ) (left : ℕ) (w : List ℕ) (g
         }
 
     -- No end but s is local to it: the time of s is 0, and no search is made.
-    pub itself-times : left ≡ 0 → wellShaped o ≡ true → s < n → n ≤ length w → NearTimes o s names (store n s 0 w)
-    itself-times z shape i room = near-times (store n s 0 w) (store-kept n s 0 w i (searchWords n) (omega arith)) (λ v k h.
-        rw (g .alone z v h) (store-same n s 0 w i (omega arith) ∙ sym (itself-no-time o s shape i)))
+    pub itself-times : left ≡ 0 → wellShaped o ≡ true → s < n → timeWords n ≤ length w → NearTimes o s names (store n s 0 w)
+    itself-times z shape i room = near-times (store n s 0 w) (store-kept n s 0 w i (searchWords n) (times-fit n)) (λ v k h.
+        rw (g .alone z v h) (store-same n s 0 w i room ∙ sym (itself-no-time o s shape i)))
 
 -- What a search leaves, over the bodies and the number of nodes as the code has them.
 module _ (o : Bytes) (m : ℕ) (e : m ≡ nodeCount (nodeBody o)) (eb : Bytes) (p : eb ≡ edgeBody o) (s : ℕ) (w w′ order : List ℕ) where

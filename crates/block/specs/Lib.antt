@@ -1,5 +1,6 @@
 pub mod Block
 pub mod Twelve
+pub mod Parts
 pub mod Kept
 pub mod Near
 pub mod Theorems

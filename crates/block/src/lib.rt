@@ -1,9 +1,10 @@
-// The block of times between up to twelve starts and twelve ends.
+// The block of times between up to twelve starts and twelve ends, and the like one of hops.
 ghost use mathlib.Core.Path.{_≡_};
 
 pub mod calls;
 pub mod names;
 pub mod near;
+pub mod parts;
 pub mod questions;
 pub mod rows;
 
@@ -12,12 +13,13 @@ pub mod rows;
 pub struct Block {
     pub rule: u32,
     pub times: [[u32; 12]; 12],
+    pub hops: [[u32; 12]; 12],
 }
 
-pub fn block_record(rule: u32, times: [[u32; 12]; 12]) -> Block
-    ensures { λ r. ⌜ (r .rule ≡ rule) × (r .times ≡ times) ⌝ }
+pub fn block_record(rule: u32, times: [[u32; 12]; 12], hops: [[u32; 12]; 12]) -> Block
+    ensures { λ r. ⌜ (r .rule ≡ rule) × (r .times ≡ times) × (r .hops ≡ hops) ⌝ }
 {
-    Block { rule, times }
+    Block { rule, times, hops }
 }
 
 pub fn times_of(b: Block) -> [[u32; 12]; 12]

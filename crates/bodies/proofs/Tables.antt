@@ -4,7 +4,7 @@ use native.Mathlib.Omega.{arith}
 use mathlib.Core.Path.{_≡_, sym, _∙_}
 use mathlib.Core.Bool.{true, false}
 use mathlib.Core.List.{List}
-use lib.ListN.{length, take, drop}
+use lib.ListN.{length, drop}
 use Rattle.model.specs.Lists.{concatMap}
 use Rattle.model.specs.Bytes.{Bytes, splice}
 use Rattle.model.specs.Oracle.{valueSize}
@@ -12,7 +12,7 @@ use Rattle.algorithms.specs.Rounds.{distanceWords}
 use Rattle.theory.specs.ReadLaws.{length-concatMap}
 use Rattle.arcs.specs.Arcs.{arcsIn}
 use Rattle.bitset.specs.Bits.{isIn}
-use Rattle.words.specs.Regions.{regionAt, region, transit, searchWords}
+use Rattle.words.specs.Regions.{regionAt, region, transit, timesIn, searchWords}
 use Rattle.words.proofs.Windows.{in-front, region-later}
 use Rattle.emit.specs.Members.{ifIn}
 use Rattle.emit.specs.Parts.{rowBytes}
@@ -44,8 +44,8 @@ module _ (edges : Bytes) (n v : ℕ) (work : List ℕ) (h : v < n) where
       pub row-fits : at + length (ifIn (region n transit work) v row) ≤ length out → at + valueSize * t ≤ length out
       row-fits l = omega (arith, fits-in (region n transit work) v at (length out) row (inside ∙ q) l, length-its, e)
 
-      pub one-row : (work′ : List ℕ) (new : Bytes) → take n work′ ≡ distanceWords (arcsIn edges) n v → KeptFrom (searchWords n) work work′
-          → new ≡ splice at (rowBytes (take n work′) (membersIn n transit work′)) out
+      pub one-row : (work′ : List ℕ) (new : Bytes) → timesIn n work′ ≡ distanceWords (arcsIn edges) n v → KeptFrom (searchWords n) work work′
+          → new ≡ splice at (rowBytes (timesIn n work′) (membersIn n transit work′)) out
           → Wrote out at (ifIn (region n transit work) v row) (at + valueSize * t) new
       unfolding rowIn
       one-row work′ new times others s =

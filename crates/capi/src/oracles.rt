@@ -12,7 +12,8 @@ ghost use Rattle.capi.specs.Replies.{kindNumber, reply, span, listReply}
 use block::Block;
 use block::calls as blocks;
 use codec::bytes::read32;
-use codec::records::NO_WALK;
+use codec::records::NO_HOPS;
+use codec::records::NO_SECONDS;
 use contents::OFFSET_AT;
 use contents::entry_at;
 use model::Answer;
@@ -26,13 +27,14 @@ use tables::lists::list_part;
 use tables::lists::list_start;
 use wages::calls::wages;
 
-// An answer: 0 or the number of the broken rule, the kind (1 far, 2 local), the seconds (4,294,967,295 where there is no walk) and the pairs tried;
-// all zeros beside a broken rule.
+// An answer: 0 or the number of the broken rule, the kind (1 far, 2 local), the seconds and the hops (4,294,967,295 and 65,535 where there is no walk) and the
+// pairs tried; all zeros beside a broken rule.
 #[repr(C)]
 pub struct Reply {
     pub rule: u32,
     pub kind: u32,
     pub seconds: u32,
+    pub hops: u32,
     pub pairs: u32,
 }
 
@@ -58,24 +60,28 @@ pub fn reply_of(a: Answer) -> Reply
     match a {
         Answer::Time {
             seconds,
+            hops,
             kind,
             pairs,
         } => Reply {
             rule: 0,
             kind: kind_number(kind),
             seconds,
+            hops,
             pairs,
         },
         Answer::None { kind, pairs } => Reply {
             rule: 0,
             kind: kind_number(kind),
-            seconds: NO_WALK,
+            seconds: NO_SECONDS,
+            hops: NO_HOPS,
             pairs,
         },
         Answer::Refused { rule } => Reply {
             rule,
             kind: 0,
             seconds: 0,
+            hops: 0,
             pairs: 0,
         },
     }

@@ -7,7 +7,10 @@ use lib.ListN.{length, set}
 use lib.Seq.{sets-eq}
 use Rattle.model.specs.Bytes.{Bytes, bytes16, bytes32, bytes64, splice}
 use Rattle.theory.specs.FileLaws.{bytes-low, length-32}
+use Rattle.model.specs.Pair.{secondsOf, hopsOf}
+use Rattle.model.specs.Oracle.{secondsSize, valueSize, valueBytes, decoded}
 use Rattle.theory.specs.Splices.{splice-then}
+use Rattle.theory.specs.ReadLaws.{value-bytes}
 
 pub write-2 : (b : Bytes) (i x : ℕ) → i + 2 ≤ length b → set (set b i (x % 256)) (i + 1) (x / 256 % 256) ≡ splice i (bytes16 x) b
 unfolding splice bytes16
@@ -29,3 +32,11 @@ unfolding bytes64
 write-8 b i x h =
     let e : i + 4 ≡ i + length (bytes32 x) = omega (arith, length-32 x) in
     rw (bytes-low x, e) (splice-then b i (bytes32 x) (omega (arith, length-32 x)) (bytes32 (x / 4294967296)))
+
+-- Seconds, and hops behind them.
+pub write-value : (b : Bytes) (i x : ℕ) → i + valueSize ≤ length b
+    → splice (i + secondsSize) (bytes16 (hopsOf x)) (splice i (bytes32 (secondsOf x % 4294967296)) b) ≡ splice i (valueBytes (decoded x)) b
+write-value b i x h =
+    let s = secondsOf x in
+    let e : i + secondsSize ≡ i + length (bytes32 s) = omega (arith, length-32 s) in
+    rw (value-bytes x, bytes-low s, e) (splice-then b i (bytes32 s) (omega (arith, length-32 s)) (bytes16 (hopsOf x)))

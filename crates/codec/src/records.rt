@@ -15,7 +15,7 @@ pub const NODE_SIZE: usize = COORDINATE_SIZE + COORDINATE_SIZE;
 // An edge: "two 16-bit ends and 32-bit seconds".
 const END_SIZE: usize = 2;
 
-const SECONDS_SIZE: usize = 4;
+pub const SECONDS_SIZE: usize = 4;
 
 const SECONDS_AT: usize = END_SIZE + END_SIZE;
 
@@ -27,12 +27,22 @@ pub const NUMBER_SIZE: usize = 2;
 // Body 4, which is g.
 pub const GRID_SIZE: usize = 2;
 
-// A distance in the lists and in the table: its size, the value that means 'no walk', and the greatest of the others.
-pub const VALUE_SIZE: usize = 4;
+// A distance in the lists and in the table: "32-bit seconds" and "16 bits for the roads after the seconds". What marks 'no walk', and the most of the others.
+pub const HOPS_SIZE: usize = 2;
 
-pub const NO_WALK: u32 = 4294967295;
+pub const VALUE_SIZE: usize = SECONDS_SIZE + HOPS_SIZE;
 
-pub const MAX_VALUE: u32 = 409500000;
+pub const NO_SECONDS: u32 = 4294967295;
+
+pub const NO_HOPS: u32 = 65535;
+
+pub const HOP_BASE: u64 = 65536;
+
+pub const NO_WALK: u64 = HOP_BASE * NO_SECONDS as u64 + NO_HOPS as u64;
+
+pub const MAX_VALUE: u64 = 409500000;
+
+pub const MAX_HOPS: u64 = 4095;
 
 // Where a list starts, its count, and an entry of it: an index into body 5 and a distance.
 pub const START_SIZE: usize = 4;

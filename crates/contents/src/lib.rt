@@ -12,7 +12,7 @@ pub const NETWORK_EDITION: u32 = 1;
 
 pub const NETWORK_ENTRIES: usize = 3;
 
-pub const ORACLE_EDITION: u32 = 1;
+pub const ORACLE_EDITION: u32 = 2;
 
 pub const ORACLE_ENTRIES: usize = 7;
 

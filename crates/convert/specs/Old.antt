@@ -1,5 +1,6 @@
 -- What an old network with closed edges said, and what was answered over an oracle built from it: what the converter's promises compare with. Assumes nothing.
--- These are the definitions of before T-06; where body 3 is empty they are today's (`convert_demands`, as-before).
+-- These are the definitions of before T-06, over pairs and in the forms of T-07 as all else; where body 3 is empty they are today's (`convert_demands`,
+-- as-before).
 use Prim.Native.Nat.{ℕ}
 use mathlib.Core.Bool.{Bool, not, _||_, cond}
 use mathlib.Core.List.{List, map}

@@ -41,7 +41,7 @@ kind Far = 0
 kind Local = 1
 
 told : Answer → List ℕ
-told (Time seconds k pairs) = 0 ∷ seconds ∷ kind k ∷ pairs ∷ []
+told (Time seconds hops k pairs) = 0 ∷ seconds ∷ hops ∷ kind k ∷ pairs ∷ []
 told (None k pairs) = 1 ∷ kind k ∷ pairs ∷ []
 told (Refused rule) = 2 ∷ rule ∷ []
 
@@ -83,16 +83,16 @@ trials =
     (told (timeAnswer (oracle withoutFour (usual 6)) 0 4) ⇒ told (None Far 0)) ∷
     (told (old.oldTime (old.oldOracle four (usual 6)) 0 4) ⇒ told (None Far 0)) ∷
     -- With 1 and 4 closed, 0 to 2 goes round by 1 and 3, before and after.
-    (told (timeAnswer (oracle new (usual 6)) 0 2) ⇒ told (Time 15 Local 0)) ∷
-    (told (old.oldTime (old.oldOracle two (usual 6)) 0 2) ⇒ told (Time 15 Local 0)) ∷
+    (told (timeAnswer (oracle new (usual 6)) 0 2) ⇒ told (Time 15 3 Local 0)) ∷
+    (told (old.oldTime (old.oldOracle two (usual 6)) 0 2) ⇒ told (Time 15 3 Local 0)) ∷
     (way (network (oracle new (usual 6))) 0 2 ⇒ 0 ∷ 1 ∷ 3 ∷ 2 ∷ []) ∷
     (old.oldWay (old.oldOracle two (usual 6)) 0 2 ⇒ 0 ∷ 1 ∷ 3 ∷ 2 ∷ []) ∷
     -- Roads 0, 2, 3 are now 0, 1, 2; the lines about 1 and 4 are dropped, the others keep their order.
     (convert.convertedSheet two (sheets.sheetOf lines) ⇒ sheets.sheetOf (delay 2 7 ∷ delay 0 9 ∷ close 1 ∷ [])) ∷
     -- Under a delay of road 3 by 7, 0 to 2 takes 22, before and after; read at its old number the line would be about no road.
     (told (under.timeUnder (sheets.effects (convert.convertedSheet two (sheets.sheetOf (delay 3 7 ∷ [])))) (oracle new (usual 6)) 0 2) ⇒
-    told (Time 22 Local 0)) ∷
-    (told (old.oldTimeUnder (sheets.effects (sheets.sheetOf (delay 3 7 ∷ []))) (old.oldOracle two (usual 6)) 0 2) ⇒ told (Time 22 Local 0)) ∷
+    told (Time 22 3 Local 0)) ∷
+    (told (old.oldTimeUnder (sheets.effects (sheets.sheetOf (delay 3 7 ∷ []))) (old.oldOracle two (usual 6)) 0 2) ⇒ told (Time 22 3 Local 0)) ∷
     -- 21 only for the old network, and only where 7 is kept; the converter has no 21.
     (firstBroken (plainRules networkEdition networkEntries two) ∷ [] ⇒ 21 ∷ []) ∷
     (firstBroken (plainRules networkEdition networkEntries new) ∷ [] ⇒ 0 ∷ []) ∷

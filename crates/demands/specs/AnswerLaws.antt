@@ -6,8 +6,8 @@ use mathlib.Core.Path.{_≡_, refl, sym, _∙_, ap, subst}
 use mathlib.Core.Logic.{_⊎_, inl, inr, ⊎-elim, _↔_}
 use mathlib.Core.List.{List}
 use Rattle.model.specs.Bytes.{Bytes}
-use Rattle.model.specs.Walk.{LeastOf}
-use Rattle.model.specs.Distance.{Distance, unreachable, finite, IsLeast}
+use Rattle.model.specs.Pair.{Pair, LeastPairOf, pairOf}
+use Rattle.model.specs.Distance.{Distance, unreachable, finite, IsLeastPair}
 use Rattle.model.specs.Network.{Node}
 use Rattle.model.specs.Grid.{Cell, gridOver, gap, kindOf, outerRadius}
 use Rattle.model.specs.Query.{answer, distanceOf, kindBetween, answerOf, timeAnswer, farAnswer, localAnswer}
@@ -15,36 +15,43 @@ use Rattle.model.specs.declared.Division.{Division}
 use Rattle.model.specs.declared.Kind.{Kind}
 use Rattle.model.specs.declared.Kind.the-variants.{Far, Local}
 use Rattle.model.specs.declared.Answer.{Answer}
-use Rattle.model.specs.declared.Answer.the-variants.{Time, None}
-use Rattle.theory.specs.Least.{time-inj, apart}
+use Rattle.model.specs.declared.Answer.the-variants.{Time, None, Refused}
+use Rattle.theory.specs.Least.{apart}
+use Rattle.theory.specs.Keys.{one-least}
 use Rattle.theory.specs.Given.{distance-of}
 use Rattle.theory.specs.GridLaws.{far-gap}
-use Rattle.demands.specs.Outcomes.{FiveApart, FarCells, pairsTried, Answers}
+use Rattle.demands.specs.Outcomes.{FiveApart, FarCells, pairsTried, timed, Answers}
 
 -- ---- an answer made of a kind, pairs and a distance
-same-time : (kind : Kind) (pairs m n : ℕ) → Time m kind pairs ≡ Time n kind pairs → m ≡ n
-unfolding distanceOf
-same-time kind pairs m n e = time-inj (ap distanceOf e)
+stated : Answer → Pair
+stated (Time seconds hops kind pairs) = record { seconds = seconds; hops = hops }
+stated (None kind pairs) = record { seconds = 0; hops = 0 }
+stated (Refused rule) = record { seconds = 0; hops = 0 }
 
-no-time : (kind : Kind) (pairs n : ℕ) → None kind pairs ≡ Time n kind pairs → ⊥
-unfolding distanceOf
-no-time kind pairs n e = apart (ap distanceOf e)
+-- The pair that an answer states.
+same-time : (p q : Pair) {kind other : Kind} {pairs tried : ℕ} → timed p kind pairs ≡ timed q other tried → p ≡ q
+unfolding stated
+same-time p q e = ap stated e
 
-pub answers : (P : ℕ → Type 0) (kind : Kind) (pairs : ℕ) (d : Distance) → IsLeast P d → Answers P kind pairs (answer kind pairs d)
+no-time : {kind other : Kind} {pairs tried : ℕ} (p : Pair) → None kind pairs ≡ timed p other tried → ⊥
+unfolding distanceOf
+no-time p e = apart (ap distanceOf e)
+
+pub answers : (P : Pair → Type 0) (kind : Kind) (pairs : ℕ) (d : Distance) → IsLeastPair P d → Answers P kind pairs (answer kind pairs d)
 unfolding answer
 answers P kind pairs unreachable h = record {
   given = inr refl;
-  least = λ n. (λ e. absurd (no-time kind pairs n e), λ l. absurd (h n (l .has)));
+  least = λ p. (λ e. absurd (no-time p e), λ l. absurd (h p (l .has)));
   none = (λ e. h, λ z. refl);
 }
-answers P kind pairs (finite m) h = record {
-  given = inl (m, refl);
-  least = λ n. (λ e. subst (λ (k : ℕ). LeastOf P k) (same-time kind pairs m n e) h, λ l. only n l);
-  none = (λ e. absurd (no-time kind pairs m (sym e)), λ z. absurd (z m (h .has)));
+answers P kind pairs (finite k) h = record {
+  given = inl (pairOf k, refl);
+  least = λ p. (
+    λ e. subst (λ (q : Pair). LeastPairOf P q) (same-time (pairOf k) p e) h,
+    λ l. ap (λ (q : Pair). timed q kind pairs) (one-least P (pairOf k) p h l),
+  );
+  none = (λ e. absurd (no-time (pairOf k) (sym e)), λ z. absurd (z (pairOf k) (h .has)));
 }
-  where
-    only : (n : ℕ) → LeastOf P n → Time m kind pairs ≡ Time n kind pairs
-    only n l = let e : m ≡ n = omega (arith, h .least n (l .has), l .least m (h .has)) in ap (λ (k : ℕ). Time k kind pairs) e
 
 -- Each answer to the time question is made so.
 form : (kind : Kind) (pairs : ℕ) (d : Distance) → answer kind pairs d ≡ answer kind pairs (distanceOf (answer kind pairs d))
@@ -54,25 +61,25 @@ by-kind : (kind : Kind) (o : Bytes) (s t : ℕ) → answerOf kind o s t ≡ answ
 by-kind Far o s t = unfold answerOf farAnswer in form Far _ _
 by-kind Local o s t = unfold answerOf localAnswer in form Local _ _
 
-pub kind-answers : (P : ℕ → Type 0) (kind : Kind) (o : Bytes) (s t : ℕ) → IsLeast P (distanceOf (answerOf kind o s t))
+pub kind-answers : (P : Pair → Type 0) (kind : Kind) (o : Bytes) (s t : ℕ) → IsLeastPair P (distanceOf (answerOf kind o s t))
     → Answers P kind (pairsTried kind o s t) (answerOf kind o s t)
 kind-answers P kind o s t h =
     subst (λ (a : Answer). Answers P kind (pairsTried kind o s t) a) (sym (by-kind kind o s t))
     (answers P kind (pairsTried kind o s t) (distanceOf (answerOf kind o s t)) h)
 
-pub time-answers : (P : ℕ → Type 0) (o : Bytes) (s t : ℕ) → IsLeast P (distanceOf (timeAnswer o s t))
+pub time-answers : (P : Pair → Type 0) (o : Bytes) (s t : ℕ) → IsLeastPair P (distanceOf (timeAnswer o s t))
     → Answers P (kindBetween o s t) (pairsTried (kindBetween o s t) o s t) (timeAnswer o s t)
 unfolding timeAnswer
 time-answers P o s t h = kind-answers P (kindBetween o s t) o s t h
 
 -- A time is the least, whatever kind and pairs stand beside it.
-pub least-of : (P : ℕ → Type 0) {kind other : Kind} {pairs tried n : ℕ} {a : Answer} → Answers P kind pairs a → a ≡ Time n other tried → LeastOf P n
-unfolding distanceOf
-least-of P {kind} {other} {pairs} {tried} {n} {a} h e = step (h .given)
+pub least-of : (P : Pair → Type 0) {kind other : Kind} {pairs tried : ℕ} {p : Pair} {a : Answer} → Answers P kind pairs a → a ≡ timed p other tried
+    → LeastPairOf P p
+least-of P {kind} {other} {pairs} {tried} {p} {a} h e = step (h .given)
   where
-    step : ((m : ℕ) × (a ≡ Time m kind pairs)) ⊎ (a ≡ None kind pairs) → LeastOf P n
-    step (inl (m, q)) = subst (λ (k : ℕ). LeastOf P k) (time-inj (ap distanceOf (sym q ∙ e))) (h .least m .0 q)
-    step (inr q) = absurd (apart (ap distanceOf (sym q ∙ e)))
+    step : ((q : Pair) × (a ≡ timed q kind pairs)) ⊎ (a ≡ None kind pairs) → LeastPairOf P p
+    step (inl (q, z)) = subst (λ (x : Pair). LeastPairOf P x) (same-time q p (sym z ∙ e)) (h .least q .0 z)
+    step (inr z) = absurd (no-time p (sym z ∙ e))
 
 -- ---- far and local
 five-apart : (a b : ℕ) → (outerRadius < gap a b) ↔ FiveApart a b

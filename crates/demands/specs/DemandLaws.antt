@@ -10,9 +10,10 @@ use borrow.Author.Tests.{ne-eqb, eqb-true, leb-false}
 use Rattle.model.specs.Lists.{Part, concatMap, indexOf}
 use Rattle.model.specs.Bytes.{Bytes, bytes16, words16, cut}
 use Rattle.model.specs.Contents.{body, bodyPart, nodeBody, edgeBody, closedBody, gridBody, transitBody, accessBody, tableBody}
-use Rattle.model.specs.Walk.{Walk, Least}
-use Rattle.model.specs.Distance.{IsLeast}
-use Rattle.model.specs.Network.{network, nodeCount, order, arcs, distance}
+use Rattle.model.specs.Pair.{Pair}
+use Rattle.model.specs.Walk.{PairWalk, LeastPair}
+use Rattle.model.specs.Distance.{IsLeastPair}
+use Rattle.model.specs.Network.{network, nodeCount, order, timedArcs, distance, maxNodes}
 use Rattle.model.specs.Grid.{Cell, division}
 use Rattle.model.specs.Access.{accessNodes}
 use Rattle.model.specs.Oracle.{AccessEntry, oracle, transitOf, transitCount, accessList, listSize, listStart, listCount, listPart, tableEntry}
@@ -32,12 +33,12 @@ use Rattle.model.specs.declared.Route.{Route}
 use Rattle.theory.specs.Members.{map→, index-of}
 use Rattle.theory.specs.Joined.{list-within}
 use Rattle.theory.specs.ReadLaws.{entryOf}
-use Rattle.theory.specs.FarModel.{exact}
+use Rattle.theory.specs.PairModel.{distance-pair}
 use Rattle.theory.specs.AccessLaws.{AccessNode, access-exact}
 use Rattle.theory.specs.Transit.{allCells, transit-all}
 use Rattle.theory.specs.Firsts.{split}
 use Rattle.theory.specs.Passed.{all-passed, all-shaped, shape-counted}
-use Rattle.theory.specs.Sound.{ends, count-nodes}
+use Rattle.theory.specs.Sound.{ends, few, count-nodes}
 use Rattle.theory.specs.Accepted.{good, g-above}
 use Rattle.theory.specs.Built as built
 use Rattle.theory.specs.WellShaped as shape
@@ -46,7 +47,7 @@ use Rattle.theory.specs.Times as times
 use Rattle.theory.specs.BuiltCalls as calls
 use Rattle.theory.specs.NetWays.{Sane}
 use Rattle.theory.specs.Ways as ways
-use Rattle.demands.specs.Outcomes.{FirstOf, Refuses, handed, FarCells, cellIn, pairsTried, Answers, FarSum, Agree, WayWritten}
+use Rattle.demands.specs.Outcomes.{FirstOf, Refuses, handed, FarCells, cellIn, pairsTried, timed, Answers, FarSum, Agree, WayWritten}
 use Rattle.demands.specs.CallLaws as laws
 use Rattle.demands.specs.Written as written
 use Rattle.demands.specs.AnswerLaws.{answers, kind-answers, time-answers, least-of, far-cells}
@@ -127,7 +128,7 @@ module _ (o : Bytes) (shaped : wellShaped o ≡ true) where
 
     summed : Answers (FarSum o s t) Far (pairsTried Far o s t) (farAnswer o s t)
     unfolding farAnswer
-    summed = answers (FarSum o s t) Far _ _ (far-least-sum o s t)
+    summed = answers (FarSum o s t) Far _ _ (far-least-sum o (all-shaped o shaped) s t hs ht)
 
     pub far-sums : {a : Answer} → FarCall o s t a → kindBetween o s t ≡ Far → Answers (FarSum o s t) Far (pairsTried Far o s t) a
     far-sums call far = rw (far-is call far) summed
@@ -146,11 +147,11 @@ module _ (o : Bytes) (shaped : wellShaped o ≡ true) where
     time-sums query enough far = rw (time-far query enough far) summed
 
     pub time-local : {words words′ : List ℕ} {a : Answer} → TimeCall o s t words a words′ → wordsNeeded o ≤ length words → kindBetween o s t ≡ Local
-        → Answers (Walk (arcs (network o)) s t) Local 0 a
+        → Answers (PairWalk (timedArcs (network o)) s t) Local 0 a
     unfolding timeAnswer answerOf localAnswer
     time-local query enough near =
-        rw (time-is query enough, near) (answers (Walk (arcs (network o)) s t) Local 0 (distance (network o) s t)
-        (exact (network o) (ends o (all-shaped o shaped .sound)) s t (rw (count-nodes o) hs)))
+        rw (time-is query enough, near) (answers (PairWalk (timedArcs (network o)) s t) Local 0 (distance (network o) s t)
+        (distance-pair (network o) (ends o (all-shaped o shaped .sound)) (few o (all-shaped o shaped .sound)) (rw (count-nodes o) hs) t))
 
     module _ {words words′ : List ℕ} {room room′ : Bytes} {route : Route} (query : WayCall o s t words room route words′ room′)
         (enough : wordsNeeded o ≤ length words) (fits : 2 * length (way (network o) s t) ≤ length room) where
@@ -166,24 +167,30 @@ module _ (o : Bytes) (shaped : wellShaped o ≡ true) where
       sane : Sane (network o)
       sane = ways.sane o (all-shaped o shaped .sound)
 
+      small : order (network o) ≤ maxNodes
+      small = few o (all-shaped o shaped .sound)
+
+      start : s < order (network o)
+      start = rw (count-nodes o) hs
+
       below : t < order (network o)
       below = rw (count-nodes o) ht
 
       pub way-succeeds : route .rule ≡ 0
       way-succeeds = ap (λ (r : Route). r .rule) result ∙ laws.route-rule 0 (way (network o) s t)
 
-      pub way-least : (n : ℕ) → Least (arcs (network o)) s t n → WayWritten (arcs (network o)) s t n room route room′
-      way-least = written.way-least (network o) sane s t below result bytes
+      pub way-least : (p : Pair) → LeastPair (timedArcs (network o)) s t p → WayWritten (timedArcs (network o)) s t p room route room′
+      way-least = written.way-least (network o) sane small start below result bytes
 
-      pub way-first : {m : ℕ} → Walk (arcs (network o)) s t m → (n : ℕ) × WayWritten (arcs (network o)) s t n room route room′
-      way-first = written.way-first (network o) sane s t below result bytes
+      pub way-first : {p : Pair} → PairWalk (timedArcs (network o)) s t p → (q : Pair) × WayWritten (timedArcs (network o)) s t q room route room′
+      way-first = written.way-first (network o) sane small start below result bytes
 
-      pub way-none : ((n : ℕ) → Walk (arcs (network o)) s t n → ⊥) → (route .nodes ≡ 0) × (room′ ≡ room)
-      way-none = written.way-none (network o) sane s t below result bytes
+      pub way-none : ((p : Pair) → PairWalk (timedArcs (network o)) s t p → ⊥) → (route .nodes ≡ 0) × (room′ ≡ room)
+      way-none = written.way-none (network o) sane small start below result bytes
 
       pub way-local : {others others′ : List ℕ} {a : Answer} → TimeCall o s t others a others′ → wordsNeeded o ≤ length others → kindBetween o s t ≡ Local
-          → {n pairs : ℕ} {kind : Kind} → a ≡ Time n kind pairs → WayWritten (arcs (network o)) s t n room route room′
-      way-local time many near {n} e = way-least n (least-of _ (time-local time many near) e)
+          → {p : Pair} {pairs : ℕ} {kind : Kind} → a ≡ timed p kind pairs → WayWritten (timedArcs (network o)) s t p room route room′
+      way-local time many near {p} e = way-least p (least-of _ (time-local time many near) e)
 
 -- ---- two well-shaped oracles
 module _ {o p : Bytes} (ho : wellShaped o ≡ true) (hp : wellShaped p ≡ true) (agree : Agree o p) (s t : ℕ) where
@@ -248,15 +255,16 @@ module _ {f : Bytes} {dv : Division} {work work′ : List ℕ} {out out′ : Byt
   below-order : {u : ℕ} → u < N → u < order (network f)
   below-order h = rw (count-nodes f) h
 
-  pub built-distance : (u t : ℕ) → u < N → IsLeast (Walk (arcs (network f)) u t) (distance (network f) u t)
-  built-distance u t h = exact (network f) (ends f (all-passed f dv ok .sound)) u t (below-order h)
+  pub built-distance : (u t : ℕ) → u < N → IsLeastPair (PairWalk (timedArcs (network f)) u t) (distance (network f) u t)
+  built-distance u t h = distance-pair (network f) (ends f (all-passed f dv ok .sound)) (few f (all-passed f dv ok .sound)) (below-order h) t
 
   -- The access nodes of a cell.
   abbrev accessIn : Cell → List ℕ
   accessIn c = accessNodes (distance (network f)) (built.grid-of f dv) (built.cells-of f dv) (network f .edges) c
 
   pub built-access : (c : Cell) (a : ℕ) → List·Memᴰ a (accessIn c) ↔ AccessNode (network f) (built.grid-of f dv) (built.cells-of f dv) c a
-  built-access c a = access-exact (network f) (ends f (all-passed f dv ok .sound)) (built.grid-of f dv) (built.cells-of f dv) (built.count-cells f dv) c a
+  built-access c a = access-exact (network f) (ends f (all-passed f dv ok .sound)) (few f (all-passed f dv ok .sound))
+      (built.grid-of f dv) (built.cells-of f dv) (built.count-cells f dv) c a
 
   pub built-numbers : words16 (transitBody o) ≡ transitOf f dv
   unfolding transitOf
@@ -320,38 +328,38 @@ module _ {f : Bytes} {dv : Division} {work work′ : List ℕ} {out out′ : Byt
     pub kind-built : (kindBetween o s t ≡ Far) ↔ FarCells (cellIn f dv s) (cellIn f dv t)
     kind-built = rw (handed-is, built.same-kind f dv (good f dv (all-passed f dv ok)) s t) (far-cells dv (network f .nodes) (cellIn f dv s) (cellIn f dv t))
 
-    pub least : IsLeast (Walk (arcs (network f)) s t) (distanceOf (timeAnswer o s t))
-    least = rw handed-is (times.time-least f dv ok s t (below-order hs) (below-order ht))
+    pub least : IsLeastPair (PairWalk (timedArcs (network f)) s t) (distanceOf (timeAnswer o s t))
+    least = rw handed-is (times.time-pair f dv ok s t (below-order hs) (below-order ht))
 
     pub time-built : {words words′ : List ℕ} {a : Answer} → TimeCall o s t words a words′ → wordsNeeded f ≤ length words
-        → Answers (Walk (arcs (network f)) s t) (kindBetween o s t) (pairsTried (kindBetween o s t) o s t) a
+        → Answers (PairWalk (timedArcs (network f)) s t) (kindBetween o s t) (pairsTried (kindBetween o s t) o s t) a
     time-built query enough =
         rw (time-is o handed-shape s t (rw handed-count hs) (rw handed-count ht) query (rw handed-words enough))
-        (time-answers (Walk (arcs (network f)) s t) o s t least)
+        (time-answers (PairWalk (timedArcs (network f)) s t) o s t least)
 
-    pub far-built : {a : Answer} → FarCall o s t a → kindBetween o s t ≡ Far → Answers (Walk (arcs (network f)) s t) Far (pairsTried Far o s t) a
+    pub far-built : {a : Answer} → FarCall o s t a → kindBetween o s t ≡ Far → Answers (PairWalk (timedArcs (network f)) s t) Far (pairsTried Far o s t) a
     unfolding timeAnswer answerOf
     far-built query far =
         rw (far-is o handed-shape s t (rw handed-count hs) (rw handed-count ht) query far)
-        (kind-answers (Walk (arcs (network f)) s t) Far o s t (rw far at least))
+        (kind-answers (PairWalk (timedArcs (network f)) s t) Far o s t (rw far at least))
 
     module _ {words words′ : List ℕ} {room room′ : Bytes} {route : Route} (query : WayCall o s t words room route words′ room′)
         (enough : wordsNeeded f ≤ length words) (fits : 2 * length (way (network o) s t) ≤ length room) where
       pub way-built : {others others′ : List ℕ} {a : Answer} → TimeCall o s t others a others′ → wordsNeeded f ≤ length others
-          → {n pairs : ℕ} {kind : Kind} → a ≡ Time n kind pairs → WayWritten (arcs (network f)) s t n room route room′
-      way-built time many {n} e =
+          → {p : Pair} {pairs : ℕ} {kind : Kind} → a ≡ timed p kind pairs → WayWritten (timedArcs (network f)) s t p room route room′
+      way-built time many {p} e =
           let l = least-of _ (time-built time many) e in
-          rw handed-network at (way-least o handed-shape s t (rw handed-count hs) (rw handed-count ht) query (rw handed-words enough) fits n
+          rw handed-network at (way-least o handed-shape s t (rw handed-count hs) (rw handed-count ht) query (rw handed-words enough) fits p
           (rw handed-network l))
 
-      pub way-built-first : {m : ℕ} → Walk (arcs (network f)) s t m → (n : ℕ) × WayWritten (arcs (network f)) s t n room route room′
-      way-built-first {m} w = rw handed-network at (way-first o handed-shape s t (rw handed-count hs) (rw handed-count ht) query (rw handed-words enough) fits
-          {m = m} (rw handed-network w))
+      pub way-built-first : {p : Pair} → PairWalk (timedArcs (network f)) s t p → (q : Pair) × WayWritten (timedArcs (network f)) s t q room route room′
+      way-built-first {p} w = rw handed-network at (way-first o handed-shape s t (rw handed-count hs) (rw handed-count ht) query (rw handed-words enough) fits
+          {p = p} (rw handed-network w))
 
-      pub way-built-none : ((n : ℕ) → Walk (arcs (network f)) s t n → ⊥) → (route .nodes ≡ 0) × (room′ ≡ room)
+      pub way-built-none : ((p : Pair) → PairWalk (timedArcs (network f)) s t p → ⊥) → (route .nodes ≡ 0) × (room′ ≡ room)
       way-built-none h = way-none o handed-shape s t (rw handed-count hs) (rw handed-count ht) query (rw handed-words enough) fits (rw handed-network h)
 
-  pub time-itself : (s : ℕ) → s < N → {words words′ : List ℕ} {a : Answer} → TimeCall o s s words a words′ → wordsNeeded f ≤ length words → a ≡ Time 0 Local 0
+  pub time-itself : (s : ℕ) → s < N → {words words′ : List ℕ} {a : Answer} → TimeCall o s s words a words′ → wordsNeeded f ≤ length words → a ≡ Time 0 0 Local 0
   time-itself s hs query enough =
       time-is o handed-shape s s (rw handed-count hs) (rw handed-count hs) query (rw handed-words enough)
       ∙ rw handed-is (times.time-itself f dv ok s (below-order hs))

@@ -9,9 +9,10 @@ use mathlib.Core.List.{List, [], _∷_, map, List·Memᴰ}
 use lib.ListN.{length, getD, drop}
 use Rattle.model.specs.Bytes.{Bytes, words16}
 use Rattle.model.specs.Contents.{nodeBody, edgeBody, closedBody, gridBody, transitBody, accessBody, tableBody}
-use Rattle.model.specs.Walk.{Walk}
-use Rattle.model.specs.Distance.{IsLeast}
-use Rattle.model.specs.Network.{network, nodeCount, arcs, distance}
+use Rattle.model.specs.Pair.{Pair}
+use Rattle.model.specs.Walk.{PairWalk}
+use Rattle.model.specs.Distance.{IsLeastPair}
+use Rattle.model.specs.Network.{network, nodeCount, timedArcs, distance}
 use Rattle.model.specs.Grid.{Grid, Cell, gridOver, division, cells}
 use Rattle.model.specs.Access.{accessNodes}
 use Rattle.model.specs.Oracle.{AccessEntry, oracle, transitOf, transitCount, accessList, tableEntry}
@@ -29,7 +30,7 @@ use Rattle.model.specs.declared.Route.{Route}
 use Rattle.theory.specs.ReadLaws.{entryOf}
 use Rattle.theory.specs.AccessLaws.{AccessNode}
 use Rattle.theory.specs.Transit.{allCells}
-use Rattle.demands.specs.Outcomes.{FirstOf, Refuses, handed, FarCells, cellIn, pairsTried, Answers, FarSum, Agree, WayWritten}
+use Rattle.demands.specs.Outcomes.{FirstOf, Refuses, handed, FarCells, cellIn, pairsTried, timed, Answers, FarSum, Agree, WayWritten}
 use Rattle.demands.specs.DemandLaws as laws
 
 -- ==== Demand 1: "A call that meets broken bytes, numbers or memory hands back the number of the first rule broken and writes nothing
@@ -143,8 +144,9 @@ module _ {f : Bytes} {dv : Division} {work work′ : List ℕ} {out out′ : Byt
   pub words-zero : work′ ≡ cleared (wordsNeeded f) work
   words-zero = laws.words-zero call done
 
-  -- "d(u, t) for the least total of seconds over all walks from u to t; it is finite exactly when there is one."
-  pub built-distance : (u t : ℕ) → u < N → IsLeast (Walk (arcs (network f)) u t) (distance (network f) u t)
+  -- "d(u, t) for the least total of seconds over all walks from u to t; it is finite exactly when there is one", which document 02's T-07 makes the least pair:
+  -- "Walks are compared by seconds, then by fewer roads, and d becomes that pair wherever 01 uses it." The arcs here cost their seconds.
+  pub built-distance : (u t : ℕ) → u < N → IsLeastPair (PairWalk (timedArcs (network f)) u t) (distance (network f) u t)
   built-distance = laws.built-distance call done
 
   -- The access nodes of a cell are exactly those on a least walk, any one, from a crossing node of the cell to one of outer ..
@@ -188,9 +190,10 @@ module _ {f : Bytes} {dv : Division} {work work′ : List ℕ} {out out′ : Byt
   -- "However the places lie, under whichever grid from 1 to 64, for every accepted network with any number of equally quick ways, and for every pair of
   -- places, one place twice included, the built oracle, given enough working memory, answers the least total wherever there is a walk on open roads from
   -- the first to the second: some such walk has it, and every other has at least as many seconds. It answers 'none' exactly when there is no walk."
+  -- T-07: "Least now means least pair", and "each answer states both numbers".
   module _ (s t : ℕ) (hs : s < N) (ht : t < N) where
     pub time-built : {words words′ : List ℕ} {a : Answer} → TimeCall o s t words a words′ → wordsNeeded f ≤ length words
-        → Answers (Walk (arcs (network f)) s t) (kindBetween o s t) (pairsTried (kindBetween o s t) o s t) a
+        → Answers (PairWalk (timedArcs (network f)) s t) (kindBetween o s t) (pairsTried (kindBetween o s t) o s t) a
     time-built = laws.time-built call done s t hs ht
 
     -- The kind: "two places are far when their columns or their rows differ by 5 or more .., else local".
@@ -198,10 +201,10 @@ module _ {f : Bytes} {dv : Division} {work work′ : List ℕ} {out out′ : Byt
     kind-built = laws.kind-built call done s t hs ht
 
     -- "Both the time and the far question give this answer for a far pair."
-    pub far-built : {a : Answer} → FarCall o s t a → kindBetween o s t ≡ Far → Answers (Walk (arcs (network f)) s t) Far (pairsTried Far o s t) a
+    pub far-built : {a : Answer} → FarCall o s t a → kindBetween o s t ≡ Far → Answers (PairWalk (timedArcs (network f)) s t) Far (pairsTried Far o s t) a
     far-built = laws.far-built call done s t hs ht
 
-  pub time-itself : (s : ℕ) → s < N → {words words′ : List ℕ} {a : Answer} → TimeCall o s s words a words′ → wordsNeeded f ≤ length words → a ≡ Time 0 Local 0
+  pub time-itself : (s : ℕ) → s < N → {words words′ : List ℕ} {a : Answer} → TimeCall o s s words a words′ → wordsNeeded f ≤ length words → a ≡ Time 0 0 Local 0
   time-itself = laws.time-itself call done
 
 -- "On any well-shaped oracle a far answer is the least sum from the lists and the table, or 'none' where no sum is left, without the roads":
@@ -216,7 +219,7 @@ module _ (o : Bytes) (shaped : wellShaped o ≡ true) (s t : ℕ) (hs : s < node
 
   -- "A local answer is the least total over walks on the open roads .. its pairs tried is 0": over the oracle's own roads.
   pub time-local : {words words′ : List ℕ} {a : Answer} → TimeCall o s t words a words′ → wordsNeeded o ≤ length words → kindBetween o s t ≡ Local
-      → Answers (Walk (arcs (network o)) s t) Local 0 a
+      → Answers (PairWalk (timedArcs (network o)) s t) Local 0 a
   time-local = laws.time-local o shaped s t hs ht
 
   -- The kind, by the oracle's own nodes and grid.
@@ -235,35 +238,36 @@ module _ {o p : Bytes} (ho : wellShaped o ≡ true) (hp : wellShaped p ≡ true)
   far-alike = laws.far-alike ho hp agree s t
 
 -- "Where there is a walk, the reported way is the places of a least walk, and no other least walk's places come before them by place numbers; where
--- there is no walk it has no place." Of any well-shaped oracle, over its own roads.
+-- there is no walk it has no place." T-07: "A way is the first by place numbers among the least walks of this order." It has one place more than its walk has
+-- roads, and never passes a place twice (`WayWritten`, roads and once). Of any well-shaped oracle, over its own roads.
 module _ (o : Bytes) (shaped : wellShaped o ≡ true) (s t : ℕ) (hs : s < nodeCount (nodeBody o)) (ht : t < nodeCount (nodeBody o))
     {words words′ : List ℕ} {room room′ : Bytes} {route : Route} (query : WayCall o s t words room route words′ room′)
     (enough : wordsNeeded o ≤ length words) (fits : 2 * length (way (network o) s t) ≤ length room) where
   pub way-succeeds : route .rule ≡ 0
   way-succeeds = laws.way-succeeds o shaped s t hs ht query enough fits
 
-  pub way-first : {m : ℕ} → Walk (arcs (network o)) s t m → (n : ℕ) × WayWritten (arcs (network o)) s t n room route room′
+  pub way-first : {p : Pair} → PairWalk (timedArcs (network o)) s t p → (q : Pair) × WayWritten (timedArcs (network o)) s t q room route room′
   way-first = laws.way-first o shaped s t hs ht query enough fits
 
-  pub way-none : ((n : ℕ) → Walk (arcs (network o)) s t n → ⊥) → (route .nodes ≡ 0) × (room′ ≡ room)
+  pub way-none : ((p : Pair) → PairWalk (timedArcs (network o)) s t p → ⊥) → (route .nodes ≡ 0) × (room′ ≡ room)
   way-none = laws.way-none o shaped s t hs ht query enough fits
 
-  -- Its total is the time of a local answer.
+  -- Its seconds and roads are those that a local answer states.
   pub way-local : {others others′ : List ℕ} {a : Answer} → TimeCall o s t others a others′ → wordsNeeded o ≤ length others → kindBetween o s t ≡ Local
-      → {n pairs : ℕ} {kind : Kind} → a ≡ Time n kind pairs → WayWritten (arcs (network o)) s t n room route room′
+      → {p : Pair} {pairs : ℕ} {kind : Kind} → a ≡ timed p kind pairs → WayWritten (timedArcs (network o)) s t p room route room′
   way-local = laws.way-local o shaped s t hs ht query enough fits
 
--- The same of what `build` hands over, over the network's roads. The way's total is the time, far or local.
+-- The same of what `build` hands over, over the network's roads. The way has as many seconds and roads as the answer says, far or local.
 module _ {f : Bytes} {dv : Division} {work work′ : List ℕ} {out out′ : Bytes} {r : Built} (call : Build f dv work out r work′ out′) (done : r .rule ≡ 0)
     (s t : ℕ) (hs : s < nodeCount (nodeBody f)) (ht : t < nodeCount (nodeBody f))
     {words words′ : List ℕ} {room room′ : Bytes} {route : Route} (query : WayCall (handed r out′) s t words room route words′ room′)
     (enough : wordsNeeded f ≤ length words) (fits : 2 * length (way (network (handed r out′)) s t) ≤ length room) where
-  pub way-built-first : {m : ℕ} → Walk (arcs (network f)) s t m → (n : ℕ) × WayWritten (arcs (network f)) s t n room route room′
+  pub way-built-first : {p : Pair} → PairWalk (timedArcs (network f)) s t p → (q : Pair) × WayWritten (timedArcs (network f)) s t q room route room′
   way-built-first = laws.way-built-first call done s t hs ht query enough fits
 
-  pub way-built-none : ((n : ℕ) → Walk (arcs (network f)) s t n → ⊥) → (route .nodes ≡ 0) × (room′ ≡ room)
+  pub way-built-none : ((p : Pair) → PairWalk (timedArcs (network f)) s t p → ⊥) → (route .nodes ≡ 0) × (room′ ≡ room)
   way-built-none = laws.way-built-none call done s t hs ht query enough fits
 
   pub way-built : {others others′ : List ℕ} {a : Answer} → TimeCall (handed r out′) s t others a others′ → wordsNeeded f ≤ length others
-      → {n pairs : ℕ} {kind : Kind} → a ≡ Time n kind pairs → WayWritten (arcs (network f)) s t n room route room′
+      → {p : Pair} {pairs : ℕ} {kind : Kind} → a ≡ timed p kind pairs → WayWritten (timedArcs (network f)) s t p room route room′
   way-built = laws.way-built call done s t hs ht query enough fits

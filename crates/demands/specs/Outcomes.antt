@@ -5,10 +5,11 @@ use mathlib.Core.Logic.{_⊎_, _↔_}
 use mathlib.Core.Bool.{true, false}
 use mathlib.Core.List.{List, [], _∷_, _++_, List·Memᴰ}
 use lib.ListN.{length, take, drop}
-use Rattle.model.specs.Lists.{concatMap}
+use Rattle.model.specs.Lists.{Distinct, concatMap}
 use Rattle.model.specs.Bytes.{Bytes, bytes16}
 use Rattle.model.specs.Contents.{nodeBody, gridBody, transitBody, accessBody, tableBody}
-use Rattle.model.specs.Walk.{Arc, Walk, LeastOf, nodesOf, Before}
+use Rattle.model.specs.Pair.{Pair, NoMore, add, LeastPairOf, pairOf}
+use Rattle.model.specs.Walk.{Arc, PairWalk, nodesOf, Before}
 use Rattle.model.specs.Distance.{finite}
 use Rattle.model.specs.Network.{network}
 use Rattle.model.specs.Grid.{Cell, gridOver, cells, cellAt}
@@ -63,15 +64,19 @@ abbrev pub pairsTried : Kind → Bytes → ℕ → ℕ → ℕ
 pairsTried Far o s t = length (accessList (accessBody o) s) * length (accessList (accessBody o) t)
 pairsTried Local o s t = 0
 
--- The answer a is of this kind, with so many pairs tried, and no refusal: a time n exactly where n is the least number with P (n has P, and every
--- other with P is at least n), and 'none' exactly where no number has P.
-pub record Answers (P : ℕ → Type 0) (kind : Kind) (pairs : ℕ) (a : Answer) : Type 0 where
-  pub given : ((n : ℕ) × (a ≡ Time n kind pairs)) ⊎ (a ≡ None kind pairs)
-  pub least : (n : ℕ) → (a ≡ Time n kind pairs) ↔ LeastOf P n
-  pub none : (a ≡ None kind pairs) ↔ ((n : ℕ) → P n → ⊥)
+-- The answer that states this pair: "each answer states both numbers" (document 02, T-07).
+abbrev pub timed : Pair → Kind → ℕ → Answer
+timed p kind pairs = Time (p .seconds) (p .hops) kind pairs
 
--- "d(s, a) + table(a, b) + d(b, t) over a in the list of s and b in the list of t, leaving out sums with a 'no walk' part": n is such a sum.
-pub record FarSum (o : Bytes) (s t n : ℕ) : Type 0 where
+-- The answer a is of this kind, with so many pairs tried, and no refusal: a time exactly where its seconds and hops are the least pair with P (it has P, and
+-- every other with P has more seconds, or as many and no fewer hops), and 'none' exactly where no pair has P.
+pub record Answers (P : Pair → Type 0) (kind : Kind) (pairs : ℕ) (a : Answer) : Type 0 where
+  pub given : ((p : Pair) × (a ≡ timed p kind pairs)) ⊎ (a ≡ None kind pairs)
+  pub least : (p : Pair) → (a ≡ timed p kind pairs) ↔ LeastPairOf P p
+  pub none : (a ≡ None kind pairs) ↔ ((p : Pair) → P p → ⊥)
+
+-- "d(s, a) + table(a, b) + d(b, t) over a in the list of s and b in the list of t, leaving out sums with a 'no walk' part": p is such a sum of pairs.
+pub record FarSum (o : Bytes) (s t : ℕ) (p : Pair) : Type 0 where
   pub a : AccessEntry
   pub b : AccessEntry
   pub leaving : List·Memᴰ a (accessList (accessBody o) s)
@@ -82,7 +87,7 @@ pub record FarSum (o : Bytes) (s t n : ℕ) : Type 0 where
   pub first : a .distance ≡ finite x
   pub middle : tableEntry (tableBody o) (transitCount (transitBody o)) (a .index) (b .index) ≡ finite y
   pub last : b .distance ≡ finite z
-  pub sum : x + y + z ≡ n
+  pub sum : add (add (pairOf x) (pairOf y)) (pairOf z) ≡ p
 
 -- "Alike in places, grid, transit places, lists and table": bodies 1 and 4 to 7, the roads being free.
 pub record Agree (o p : Bytes) : Type 0 where
@@ -94,10 +99,14 @@ pub record Agree (o p : Bytes) : Type 0 where
 
 -- ---- demand 3: the way
 
--- The nodes of a least walk, whose total is n, stand at the front of the output, and no other least walk comes before it by node numbers.
-pub record WayWritten (arcs : List Arc) (s t n : ℕ) (out : Bytes) (r : Route) (out′ : Bytes) : Type 0 where
-  pub walk : Walk arcs s t n
-  pub least : (m : ℕ) → Walk arcs s t m → n ≤ m
-  pub nodes : r .nodes ≡ length (nodesOf walk)
-  pub bytes : out′ ≡ concatMap bytes16 (nodesOf walk) ++ drop (length (concatMap bytes16 (nodesOf walk))) out
-  pub first : (other : Walk arcs s t n) → (nodesOf other ≡ nodesOf walk) ⊎ Before (nodesOf walk) (nodesOf other)
+-- The nodes of a walk with the pair p stand at the front of the output. p is the least pair of all walks, and no other walk with that pair comes before
+-- this one by node numbers. The way has as many roads as p has hops, and passes no node twice.
+pub record WayWritten (arcs : List Arc) (s t : ℕ) (p : Pair) (out : Bytes) (r : Route) (out′ : Bytes) : Type 0 where
+  pub taken : PairWalk arcs s t p
+  pub least : (q : Pair) → PairWalk arcs s t q → NoMore p q
+  pub bytes : out′ ≡ concatMap bytes16 (nodesOf (taken .walk)) ++ drop (length (concatMap bytes16 (nodesOf (taken .walk)))) out
+  pub nodes : r .nodes ≡ length (nodesOf (taken .walk))
+  pub roads : r .nodes ≡ p .hops + 1
+  pub once : Distinct (nodesOf (taken .walk))
+  pub first : (other : PairWalk arcs s t p)
+      → (nodesOf (other .walk) ≡ nodesOf (taken .walk)) ⊎ Before (nodesOf (taken .walk)) (nodesOf (other .walk))

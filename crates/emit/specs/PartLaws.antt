@@ -101,7 +101,7 @@ starts-lists f n counts h =
     starts-sizes (startSize * n) (map f (upTo n)) ∙
     ap (startsOf (startSize * n)) (map-map length f (upTo n) ∙ map-same _ _ (upTo n) (λ v m. h v (omega (arith, range→ 0 n v m .1))))
 
--- ---- rows and lists, with the times as the distances' numbers
+-- ---- rows and lists, with the times as the distances' keys
 
 pub time-same : (times others : List ℕ) (v : ℕ) → getD times v 0 ≡ getD others v 0 → timeBytes times v ≡ timeBytes others v
 unfolding timeBytes

@@ -1,4 +1,4 @@
--- The parts of an oracle as bytes, from the sizes of the bodies, the members of the sets and the times as words. Assumes nothing.
+-- The parts of an oracle as bytes, from the sizes of the bodies, the members of the sets and the times as keys. Assumes nothing.
 use Prim.Native.Nat.{ℕ, suc, _+_, _*_, _<_, _≤_}
 use mathlib.Core.List.{List, [], _∷_, _++_, map}
 use lib.ListN.{length, getD}
@@ -26,7 +26,7 @@ headBytes edition sizes = edition ∷ (length sizes ∷ entriesOf 0 (entryAt (le
 unfoldable pub numbersBytes : List ℕ → Bytes
 numbersBytes l = concatMap bytes16 l
 
--- The time to b, a word that a search leaves, as a value.
+-- The time to b, a key that a search leaves, as a value.
 unfoldable pub timeBytes : List ℕ → ℕ → Bytes
 timeBytes times b = valueBytes (decoded (getD times b 0))
 

@@ -6,6 +6,8 @@ ghost use Rattle.model.specs.Bytes.{bytes16, bytes32};
 ghost use Rattle.model.specs.Oracle.{valueBytes, decoded};
 ghost use Rattle.emit.specs.Records.{compared};
 use codec::bytes::byte;
+use codec::keys::hops_of;
+use codec::records::HOP_BASE;
 use codec::records::NUMBER_SIZE;
 
 // The bytes are the same, and end at this position; or they differ.
@@ -42,9 +44,12 @@ fn same32(b: &[u8], at: usize, x: u32) -> Compared
 }
 
 // A distance as bodies 6 and 7 have it.
-pub fn same_value(b: &[u8], at: usize, x: u32) -> Compared
+pub fn same_value(b: &[u8], at: usize, x: u64) -> Compared
     requires { ⌜ at ≤ length (now b) ⌝ }
     ensures { λ r. ⌜ r ≡ compared (now (b .entry)) at (valueBytes (decoded x)) ⌝ }
 {
-    same32(b, at, x)
+    let Compared::Same(next) = same32(b, at, (x / HOP_BASE % 4294967296) as u32) else {
+        return Compared::Differs;
+    };
+    same16(b, next, hops_of(x))
 }

@@ -8,6 +8,7 @@ ghost use Rattle.model.specs.Oracle.{listSize};
 ghost use Rattle.bitset.specs.Bits.{wordBits};
 ghost use Rattle.bitset.specs.Members.{membersOf, HasBits};
 ghost use Rattle.words.specs.Regions.{timesIn};
+ghost use Rattle.words.specs.Times.{timeWords};
 ghost use Rattle.emit.specs.Members.{Among, ifIn};
 ghost use Rattle.emit.specs.Parts.{indexedBytes, listBytesOf};
 ghost use Rattle.emit.specs.Records.{Wrote, compared};
@@ -34,7 +35,7 @@ fn write_entry(
     out: &mut [u8],
     at: usize,
 ) -> usize
-    requires { ⌜ (n ≤ length (now work)) × (v < n) × (v / wordBits < length (now access)) ⌝ }
+    requires { ⌜ (timeWords n ≤ length (now work)) × (v < n) × (v / wordBits < length (now access)) ⌝ }
     requires { ⌜ at + length (ifIn (now access) v (indexedBytes (timesIn n (now work)) index v)) ≤ length (now out) ⌝ }
     ensures { λ r. ⌜ Wrote (now (out .entry)) at (ifIn (now (access .entry)) v (indexedBytes (timesIn n (now (work .entry))) index v)) r (now (out .exit)) ⌝ }
 {
@@ -48,7 +49,7 @@ fn write_entry(
 
 // The list of the node whose n times the words begin with, and which has these access nodes, each of them a transit node.
 pub fn write_list(n: usize, access: &[u32], transit: &[u32], work: &[u32], out: &mut [u8])
-    requires { ⌜ (n ≤ maxNodes) × HasBits n (now access) × HasBits n (now transit) × (n ≤ length (now work)) ⌝ }
+    requires { ⌜ (n ≤ maxNodes) × HasBits n (now access) × HasBits n (now transit) × (timeWords n ≤ length (now work)) ⌝ }
     requires { ⌜ Among n (now access) (now transit) × (length (now out) ≡ listSize (length (membersOf n (now access)))) ⌝ }
     ensures { λ _. ⌜ now (out .exit) ≡ listBytesOf (timesIn n (now (work .entry))) (membersOf n (now (transit .entry))) (membersOf n (now (access .entry))) ⌝ }
 {
@@ -74,7 +75,7 @@ fn same_entry(
     b: &[u8],
     at: usize,
 ) -> Compared
-    requires { ⌜ (n ≤ length (now work)) × (u < n) × (u / wordBits < length (now access)) × (at ≤ length (now b)) ⌝ }
+    requires { ⌜ (timeWords n ≤ length (now work)) × (u < n) × (u / wordBits < length (now access)) × (at ≤ length (now b)) ⌝ }
     ensures { λ r. ⌜ r ≡ compared (now (b .entry)) at (ifIn (now (access .entry)) u (indexedBytes (timesIn n (now (work .entry))) index u)) ⌝ }
 {
     if !contains(access, u) {
@@ -88,7 +89,7 @@ fn same_entry(
 
 // Whether b, of any length, is that list.
 pub fn same_list(n: usize, access: &[u32], transit: &[u32], work: &[u32], b: &[u8]) -> bool
-    requires { ⌜ (n ≤ maxNodes) × HasBits n (now access) × HasBits n (now transit) × (n ≤ length (now work)) × Among n (now access) (now transit) ⌝ }
+    requires { ⌜ (n ≤ maxNodes) × HasBits n (now access) × HasBits n (now transit) × (timeWords n ≤ length (now work)) × Among n (now access) (now transit) ⌝ }
     ensures { λ r. ⌜ r ≡ equal (now (b .entry)) (listBytesOf (timesIn n (now (work .entry))) (membersOf n (now (transit .entry)))
         (membersOf n (now (access .entry)))) ⌝ }
 {

@@ -7,6 +7,7 @@ ghost use Rattle.model.specs.Oracle.{valueSize};
 ghost use Rattle.bitset.specs.Bits.{wordBits};
 ghost use Rattle.bitset.specs.Members.{membersOf, HasBits};
 ghost use Rattle.words.specs.Regions.{timesIn};
+ghost use Rattle.words.specs.Times.{timeWords};
 ghost use Rattle.emit.specs.Members.{ifIn};
 ghost use Rattle.emit.specs.Parts.{timeBytes, rowBytes};
 ghost use Rattle.emit.specs.Records.{Wrote, compared};
@@ -19,7 +20,7 @@ use words::times::time_of;
 
 // Writes the time of v at `at`, where the set has v, and answers where that ends.
 fn write_time(n: usize, set: &[u32], work: &[u32], v: usize, out: &mut [u8], at: usize) -> usize
-    requires { ⌜ (n ≤ length (now work)) × (v < n) × (v / wordBits < length (now set)) ⌝ }
+    requires { ⌜ (timeWords n ≤ length (now work)) × (v < n) × (v / wordBits < length (now set)) ⌝ }
     requires { ⌜ at + length (ifIn (now set) v (timeBytes (timesIn n (now work)) v)) ≤ length (now out) ⌝ }
     ensures { λ r. ⌜ Wrote (now (out .entry)) at (ifIn (now (set .entry)) v (timeBytes (timesIn n (now (work .entry))) v)) r (now (out .exit)) ⌝ }
 {
@@ -32,7 +33,7 @@ fn write_time(n: usize, set: &[u32], work: &[u32], v: usize, out: &mut [u8], at:
 
 // The row of the node whose n times the words begin with, the columns being the members below n.
 pub fn write_row(n: usize, set: &[u32], work: &[u32], out: &mut [u8])
-    requires { ⌜ HasBits n (now set) × (n ≤ length (now work)) × (length (now out) ≡ valueSize * length (membersOf n (now set))) ⌝ }
+    requires { ⌜ HasBits n (now set) × (timeWords n ≤ length (now work)) × (length (now out) ≡ valueSize * length (membersOf n (now set))) ⌝ }
     ensures { λ _. ⌜ now (out .exit) ≡ rowBytes (timesIn n (now (work .entry))) (membersOf n (now (set .entry))) ⌝ }
 {
     let mut at = 0;
@@ -45,7 +46,7 @@ pub fn write_row(n: usize, set: &[u32], work: &[u32], out: &mut [u8])
 
 // Compares the time of u with what stands at `at`, where the set has u.
 fn same_time(n: usize, set: &[u32], work: &[u32], u: usize, b: &[u8], at: usize) -> Compared
-    requires { ⌜ (n ≤ length (now work)) × (u < n) × (u / wordBits < length (now set)) × (at ≤ length (now b)) ⌝ }
+    requires { ⌜ (timeWords n ≤ length (now work)) × (u < n) × (u / wordBits < length (now set)) × (at ≤ length (now b)) ⌝ }
     ensures { λ r. ⌜ r ≡ compared (now (b .entry)) at (ifIn (now (set .entry)) u (timeBytes (timesIn n (now (work .entry))) u)) ⌝ }
 {
     if !contains(set, u) {
@@ -56,7 +57,7 @@ fn same_time(n: usize, set: &[u32], work: &[u32], u: usize, b: &[u8], at: usize)
 
 // Whether b, of any length, is that row.
 pub fn same_row(n: usize, set: &[u32], work: &[u32], b: &[u8]) -> bool
-    requires { ⌜ HasBits n (now set) × (n ≤ length (now work)) ⌝ }
+    requires { ⌜ HasBits n (now set) × (timeWords n ≤ length (now work)) ⌝ }
     ensures { λ r. ⌜ r ≡ equal (now (b .entry)) (rowBytes (timesIn n (now (work .entry))) (membersOf n (now (set .entry)))) ⌝ }
 {
     let mut at = 0;

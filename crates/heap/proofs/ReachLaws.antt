@@ -30,13 +30,13 @@ module _ (n k e v x : ℕ) (w : List ℕ) (q : Queue n k e w) (v-in : v < n) (sm
   unfolding p
   p₁ = store-positioned n v x w p v-in
 
-  time₁ : (u : ℕ) → time n w u < noWalk → time n (store n v x w) u < noWalk
+  time₁ : (u : ℕ) → u < n → time n w u < noWalk → time n (store n v x w) u < noWalk
   unfolding p
-  time₁ u h = pick (ℕ-discrete u v)
+  time₁ u i h = pick (ℕ-discrete u v)
     where
       pick : Dec (u ≡ v) → time n (store n v x w) u < noWalk
       pick (yes f) = omega (arith, ap (time n (store n v x w)) f, store-same n v x w p v-in)
-      pick (no m) = omega (arith, store-other n v x w p v-in u m)
+      pick (no m) = omega (arith, store-other n v x w p v-in u i m)
 
   module _ (h : position n w v < k) (less : x < time n w v) where
     pub lower-order : OrderedUp k (position n w v) (key n (store n v x w))
@@ -51,18 +51,18 @@ module _ (n k e v x : ℕ) (w : List ℕ) (q : Queue n k e w) (v-in : v < n) (sm
       levels = s .levels;
       went = record {
         queue = queue-of n k e (store n v x w) w′ (kept-more n k e (store n v x w) w′ (q .held) (s .kept)) (s .order) (q .held) (q .room)
-            (λ u i l. time₁ u (q .reached u i (omega (
+            (λ u i l. time₁ u i (q .reached u i (omega (
               arith,
               stood-before n k (store n v x w) w′ p₁ (s .kept .positioned) (s .kept .beyond) u i l,
-              store-position n v x w p v-in u,
+              store-position n v x w p v-in u i,
             ))))
             (λ u i l r.
             let a = stood n k (store n v x w) w′ p₁ (s .kept .positioned) (s .kept .beyond) u i l in
-            let b = store-position n v x w p v-in u in
+            let b = store-position n v x w p v-in u i in
             let c : u ≢ v = λ f. omega (arith, ap (position n w) f) in
-            omega (arith, store-other n v x w p v-in u c, q .unreached u i (omega arith) (omega arith)));
+            omega (arith, store-other n v x w p v-in u i c, q .unreached u i (omega arith) (omega arith)));
         times = s .kept .times ∙ store-times n v x w p v-in;
-        beyond = λ m l r. s .kept .beyond m (omega (arith, q .held)) r ∙ store-node n v x w p v-in m;
+        beyond = λ m l r. s .kept .beyond m (omega (arith, q .held)) r ∙ store-node n v x w p v-in m r;
       };
     }
 
@@ -91,15 +91,15 @@ module _ (n k e v x : ℕ) (w : List ℕ) (q : Queue n k e w) (v-in : v < n) (sm
     -- where a node of w₂ stood in w
     stood-at : (u m : ℕ) → m < n → node n w₂ m ≡ u → m ≢ k → m ≢ position n w v → position n w u ≡ m
     unfolding p
-    stood-at u m i f a b = ap (position n w) (sym f ∙ s .others m i a b ∙ store-node n v x w p v-in m) ∙ p .back m i
+    stood-at u m i f a b = ap (position n w) (sym f ∙ s .others m i a b ∙ store-node n v x w p v-in m i) ∙ p .back m i
 
     at-k : node n w₂ k ≡ v
     unfolding p
-    at-k = s .first ∙ store-node n v x w p v-in (position n w v) ∙ p .there v v-in
+    at-k = s .first ∙ store-node n v x w p v-in (position n w v) (p .positions v v-in) ∙ p .there v v-in
 
     at-p : position n w (node n w₂ (position n w v)) ≡ k
     unfolding p k-in
-    at-p = ap (position n w) (s .second ∙ store-node n v x w p v-in k) ∙ p .back k k-in
+    at-p = ap (position n w) (s .second ∙ store-node n v x w p v-in k k-in) ∙ p .back k k-in
 
     pub enter-queue : (w′ : List ℕ) → Sifted n (k + 1) Up k (swapped n k (position n w v) (store n v x w)) w′ → Entered n k e v x w w′
     unfolding p k-in
@@ -108,7 +108,7 @@ module _ (n k e v x : ℕ) (w : List ℕ) (q : Queue n k e w) (v-in : v < n) (sm
       went = record {
         queue = queue-of n (k + 1) e (store n v x w) w′ all (t .order) (omega arith) (q .room) low high;
         times = t .kept .times ∙ s .times ∙ store-times n v x w p v-in;
-        beyond = λ m a r. all .beyond m a r ∙ store-node n v x w p v-in m;
+        beyond = λ m a r. all .beyond m a r ∙ store-node n v x w p v-in m r;
       };
     }
       where
@@ -127,7 +127,7 @@ module _ (n k e v x : ℕ) (w : List ℕ) (q : Queue n k e w) (v-in : v < n) (sm
 
             pick : Dec (position n w₂ u ≡ k) → time n (store n v x w) u < noWalk
             pick (yes f) = omega (arith, ap (time n (store n v x w)) (sym there₂ ∙ ap (node n w₂) f ∙ at-k), store-same n v x w p v-in)
-            pick (no m) = time₁ u (q .reached u i (omega (
+            pick (no m) = time₁ u i (q .reached u i (omega (
               arith,
               r₂,
               stood-at u (position n w₂ u) (s .positioned .positions u i) there₂ m
@@ -144,7 +144,7 @@ module _ (n k e v x : ℕ) (w : List ℕ) (q : Queue n k e w) (v-in : v < n) (sm
             there₂ = s .positioned .there u i
 
             done : k ≤ position n w u → position n w u < e → position n w u ≢ position n w v → noWalk ≤ time n (store n v x w) u
-            done a b c = omega (arith, store-other n v x w p v-in u (λ g. c (ap (position n w) g)), q .unreached u i a b)
+            done a b c = omega (arith, store-other n v x w p v-in u i (λ g. c (ap (position n w) g)), q .unreached u i a b)
 
             pick : Dec (position n w₂ u ≡ position n w v) → noWalk ≤ time n (store n v x w) u
             pick (yes f) =
@@ -161,7 +161,7 @@ module _ (n k e v x : ℕ) (w : List ℕ) (q : Queue n k e w) (v-in : v < n) (sm
 
   module _ (p : ℕ) (ep : p ≡ position n w₁ v) where
     pub read-same : p ≡ position n w v
-    read-same = ep ∙ ap (λ (y : List ℕ). position n y v) e₁ ∙ store-position n v x w (q .positioned) v-in v
+    read-same = ep ∙ ap (λ (y : List ℕ). position n y v) e₁ ∙ store-position n v x w (q .positioned) v-in v v-in
 
     module _ (h : position n w v < k) (less : x < time n w v) where
       pub lower-from : OrderedUp k p (key n w₁)

@@ -72,18 +72,17 @@ module _ (n k i : ℕ) (w : List ℕ) (p : Positioned n w) (k-in : k ≤ n) wher
       pick b q r (yes e) = omega (arith, ap (key n w) e)
       pick b q r (no m) = let e : b ≡ i + i + 1 + 1 = omega arith in omega (arith, ap (key n w) e, l (omega arith))
 
-  -- The two keys as the code has read them, and their comparison as a number.
-  pub lesser-of : (x y r : ℕ) → x ≡ key n w (i + i + 1 + 1) → y ≡ key n w (i + i + 1) → r ≡ cond (ltb x y) 1 0 → i + i + 1 + 1 < k
-      → Lesser k (key n w) i (i + i + 1 + r)
-  lesser-of x y r ex ey er h = pick (ltb x y) refl
+  -- Their comparison as a number.
+  pub lesser-of : (r : ℕ) → r ≡ cond (ltb (key n w (i + i + 1 + 1)) (key n w (i + i + 1))) 1 0 → i + i + 1 + 1 < k → Lesser k (key n w) i (i + i + 1 + r)
+  lesser-of r er h = pick (ltb (key n w (i + i + 1 + 1)) (key n w (i + i + 1))) refl
     where
-      pick : (b : Bool) → ltb x y ≡ b → Lesser k (key n w) i (i + i + 1 + r)
+      pick : (b : Bool) → ltb (key n w (i + i + 1 + 1)) (key n w (i + i + 1)) ≡ b → Lesser k (key n w) i (i + i + 1 + r)
       pick true e =
           let z : r ≡ 1 = rw e at er in
-          rw z (lesser-right h (omega (arith, ltb-true x y e)))
+          rw z (lesser-right h (omega (arith, ltb-true (key n w (i + i + 1 + 1)) (key n w (i + i + 1)) e)))
       pick false e =
           let z : i + i + 1 + r ≡ i + i + 1 = omega (arith, rw e at er) in
-          rw z (lesser-left (omega arith) (λ _. omega (arith, ltb-false x y e)))
+          rw z (lesser-left (omega arith) (λ _. omega (arith, ltb-false (key n w (i + i + 1 + 1)) (key n w (i + i + 1)) e)))
 
   -- ---- one level down
   module _ (u : OrderedDown k i (key n w)) where

@@ -75,7 +75,7 @@ module _ (n i j : ℕ) (w : List ℕ) (p : Positioned n w) (i-in : i < n) (j-in 
 
   swap-times : timesIn n w′ ≡ timesIn n w
   unfolding swapped
-  swap-times = put-position-times n b w₃ in₃ i ∙ put-position-times n a w₂ in₂ j ∙ put-node-times n j w₁ in₁ a ∙ put-node-times n i w in₀ b
+  swap-times = put-position-times n b w₃ in₃ i b-in ∙ put-position-times n a w₂ in₂ j a-in ∙ put-node-times n j w₁ in₁ a j-in ∙ put-node-times n i w in₀ b i-in
 
   -- Writing positions leaves the nodes.
   node-part : (m : ℕ) → node n w′ m ≡ node n w₂ m

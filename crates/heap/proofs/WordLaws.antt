@@ -6,8 +6,9 @@ use mathlib.Core.Path.{_≡_, ap}
 use mathlib.Core.Logic.{_≢_}
 use mathlib.Core.List.{List}
 use lib.ListN.{length, getD, set, length-set}
-use lib.Seq.{getD-set-same, getD-set-other, take-set-le}
+use lib.Seq.{getD-set-same, getD-set-other}
 use Rattle.words.specs.Regions.{timesIn}
+use Rattle.words.proofs.TimeLaws.{times-between}
 use Rattle.heap.specs.Words.{half, node, position, putNode, putPosition}
 
 module _ (n i : ℕ) (w : List ℕ) (i-in : n + i < length w) where
@@ -32,9 +33,9 @@ module _ (n i : ℕ) (w : List ℕ) (i-in : n + i < length w) where
   unfolding node putNode
   node-apart v m ne = ap (λ (y : ℕ). y % half) (getD-set-other w (n + i) (n + m) (x / half * half + v) 0 (λ e. ne (omega arith)))
 
-  pub put-node-times : (v : ℕ) → timesIn n (putNode n i v w) ≡ timesIn n w
+  pub put-node-times : (v : ℕ) → i < n → timesIn n (putNode n i v w) ≡ timesIn n w
   unfolding putNode
-  put-node-times v = take-set-le n w (n + i) (x / half * half + v) (omega arith)
+  put-node-times v h = times-between n (n + i) (x / half * half + v) w (omega arith) (omega arith)
 
   pub put-node-size : (v : ℕ) → length (putNode n i v w) ≡ length w
   unfolding putNode
@@ -58,9 +59,9 @@ module _ (n i : ℕ) (w : List ℕ) (i-in : n + i < length w) where
     unfolding position putPosition
     position-apart u ne = ap (λ (y : ℕ). y / half) (getD-set-other w (n + i) (n + u) (p * half + x % half) 0 (λ e. ne (omega arith)))
 
-    pub put-position-times : timesIn n (putPosition n i p w) ≡ timesIn n w
+    pub put-position-times : i < n → timesIn n (putPosition n i p w) ≡ timesIn n w
     unfolding putPosition
-    put-position-times = take-set-le n w (n + i) (p * half + x % half) (omega arith)
+    put-position-times h = times-between n (n + i) (p * half + x % half) w (omega arith) (omega arith)
 
     pub put-position-size : length (putPosition n i p w) ≡ length w
     unfolding putPosition

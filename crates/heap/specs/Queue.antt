@@ -25,12 +25,12 @@ pub record Went (n e : ℕ) (d : List ℕ) (w w′ : List ℕ) (r : ℕ) : Type 
   pub times : timesIn n w′ ≡ d
   pub beyond : (m : ℕ) → e ≤ m → m < n → node n w′ m ≡ node n w m
 
--- The node v, not reached before, is reached in x seconds and enters: it comes to position k, and rises. Left open: which of equally near nodes it rises past.
+-- The node v, not reached before, is reached in the time x and enters: it comes to position k, and rises. Left open: which of equally near nodes it rises past.
 pub record Entered (n k e v x : ℕ) (w w′ : List ℕ) : Type 0 where
   pub went : Went n e (set (timesIn n w) v x) w w′ (k + 1)
   pub levels : Few n Up k (swapped n k (position n w v) (store n v x w)) w′
 
--- The node v, held already, is reached in x seconds, which is less: it rises from where it stands.
+-- The node v, held already, is reached in the time x, which is less: it rises from where it stands.
 pub record Lowered (n k e v x : ℕ) (w w′ : List ℕ) : Type 0 where
   pub went : Went n e (set (timesIn n w) v x) w w′ k
   pub levels : Few n Up (position n w v) (store n v x w) w′

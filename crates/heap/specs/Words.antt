@@ -1,10 +1,11 @@
--- The words of a search's queue: n times, and then n words of two halves, the low one a node and the high one a position. Assumes nothing.
+-- The words of a search's queue: between the seconds and the hops of n times stand n words of two halves, the low one a node and the high one a position.
+-- Assumes nothing.
 use Prim.Native.Nat.{ℕ, _+_, _*_, _/_, _%_, _≤_, _<_}
 use mathlib.Core.Path.{_≡_}
 use mathlib.Core.List.{List}
 use lib.ListN.{length, getD, set}
 use Rattle.model.specs.Network.{maxNodes}
-use Rattle.words.specs.Times.{time}
+use Rattle.words.specs.Times.{timeWords, time}
 
 -- What a half counts up to.
 abbrev pub half : ℕ
@@ -31,7 +32,7 @@ key n w i = time n w (node n w i)
 
 -- Each of n nodes stands at one of n positions, and each position has one node.
 pub record Positioned (n : ℕ) (w : List ℕ) : Type 0 where
-  pub size : length w ≡ n + n
+  pub size : length w ≡ timeWords n
   pub few : n ≤ maxNodes
   pub nodes : (i : ℕ) → i < n → node n w i < n
   pub positions : (v : ℕ) → v < n → position n w v < n

@@ -1,9 +1,10 @@
-// The words of the queue: a time for each node, and words of two halves, the low one the node at a position and the high one the position of a node.
+// The words of the queue: the times of the nodes, and words of two halves, the low one the node at a position and the high one the position of a node.
 ghost use mathlib.Core.Path.{_≡_};
 ghost use Prim.Native.Nat.{_+_, _<_};
+ghost use lib.Dec.{ltb};
 ghost use lib.ListN.{length};
 ghost use Rattle.heap.specs.Words.{Positioned, half, key, node, position, putNode, putPosition, swapped};
-use words::times::time_of;
+use words::times::is_less;
 
 // What a half counts up to.
 pub const HALF: u32 = 65536;
@@ -24,13 +25,14 @@ pub fn position_of(w: &[u32], n: usize, v: usize) -> usize
     (w[n + v] / HALF) as usize
 }
 
-// The time of the node at position i.
-pub fn key_at(w: &[u32], n: usize, i: usize) -> u32
-    requires { ⌜ Positioned n (now w) × (i < n) ⌝ }
-    ensures { λ r. ⌜ r ≡ key n (now (w .entry)) i ⌝ }
+// Whether the time of the node at position i is less than that of the node at position j.
+pub fn is_sooner(w: &[u32], n: usize, i: usize, j: usize) -> bool
+    requires { ⌜ Positioned n (now w) × (i < n) × (j < n) ⌝ }
+    ensures { λ r. ⌜ r ≡ ltb (key n (now (w .entry)) i) (key n (now (w .entry)) j) ⌝ }
 {
-    let v = node_at(w, n, i);
-    time_of(w, n, v)
+    let u = node_at(w, n, i);
+    let v = node_at(w, n, j);
+    is_less(w, n, u, v)
 }
 
 // Writes node v at position i.

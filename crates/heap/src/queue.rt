@@ -10,11 +10,11 @@ use crate::positions::position_of;
 use crate::positions::swap;
 use crate::sift::down;
 use crate::sift::up;
+use words::times::lowers;
 use words::times::store_time;
-use words::times::time_of;
 
-// The node v, which is not reached yet, enters with x seconds: it comes behind the nodes held, and rises past at most 12 levels.
-fn enter(w: &mut [u32], n: usize, k: usize, e: usize, v: usize, x: u32)
+// The node v, which is not reached yet, enters with the time x: it comes behind the nodes held, and rises past at most 12 levels.
+fn enter(w: &mut [u32], n: usize, k: usize, e: usize, v: usize, x: u64)
     requires { ⌜ Queue n k e (now w) × (v < n) × (k ≤ position n (now w) v) × (position n (now w) v < e) × (x < noWalk) ⌝ }
     ensures { λ _. ⌜ Entered n k e v x (now (w .entry)) (now (w .exit)) ⌝ }
 {
@@ -24,8 +24,8 @@ fn enter(w: &mut [u32], n: usize, k: usize, e: usize, v: usize, x: u32)
     up(w, n, k + 1, k);
 }
 
-// The node v, which is held, is lowered to x seconds: it rises past at most 12 levels.
-fn lower(w: &mut [u32], n: usize, k: usize, e: usize, v: usize, x: u32)
+// The node v, which is held, is lowered to the time x: it rises past at most 12 levels.
+fn lower(w: &mut [u32], n: usize, k: usize, e: usize, v: usize, x: u64)
     requires { ⌜ Queue n k e (now w) × (v < n) × (position n (now w) v < k) × (x < time n (now w) v) ⌝ }
     ensures { λ _. ⌜ Lowered n k e v x (now (w .entry)) (now (w .exit)) ⌝ }
 {
@@ -34,19 +34,19 @@ fn lower(w: &mut [u32], n: usize, k: usize, e: usize, v: usize, x: u32)
     up(w, n, k, p);
 }
 
-// The node v, which is not settled, can be reached in x seconds. The number of nodes held. x is wide, so that no sum has to be kept small.
+// The node v, which is not settled, can be reached in the time x, which may be any number. The number of nodes held.
 pub fn offer(w: &mut [u32], n: usize, k: usize, e: usize, v: usize, x: u64) -> usize
     requires { ⌜ Queue n k e (now w) × (v < n) × (position n (now w) v < e) ⌝ }
     ensures { λ r. ⌜ Went n e (lowered (timesIn n (now (w .entry))) v x) (now (w .entry)) (now (w .exit)) r ⌝ }
 {
-    if x >= time_of(w, n, v) as u64 {
+    if !lowers(w, n, v, x) {
         return k;
     }
     if position_of(w, n, v) < k {
-        lower(w, n, k, e, v, x as u32);
+        lower(w, n, k, e, v, x);
         return k;
     }
-    enter(w, n, k, e, v, x as u32);
+    enter(w, n, k, e, v, x);
     k + 1
 }
 

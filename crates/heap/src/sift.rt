@@ -7,7 +7,7 @@ ghost use Rattle.heap.specs.Words.{Positioned, key};
 ghost use Rattle.heap.specs.Order.{OrderedUp, OrderedDown, Lesser};
 ghost use Rattle.heap.specs.Levels.{Up, Down};
 ghost use Rattle.heap.specs.Sifts.{Level, Sifted};
-use crate::positions::key_at;
+use crate::positions::is_sooner;
 use crate::positions::swap;
 
 // The levels below the first: 4,096 positions have no more.
@@ -22,7 +22,7 @@ fn rise(w: &mut [u32], n: usize, k: usize, i: usize) -> usize
         return i;
     }
     let p = (i - 1) / 2;
-    if key_at(w, n, p) <= key_at(w, n, i) {
+    if !is_sooner(w, n, i, p) {
         return i;
     }
     swap(w, n, i, p);
@@ -44,11 +44,12 @@ pub fn up(w: &mut [u32], n: usize, k: usize, from: usize)
     }
 }
 
-// 1 where x is less than y, and else 0.
-fn less(x: u32, y: u32) -> usize
-    ensures { λ r. ⌜ (r ≡ cond (ltb x y) 1 0) × (r ≤ 1) ⌝ }
+// 1 where the key at i is less than that at j, and else 0.
+fn less(w: &[u32], n: usize, i: usize, j: usize) -> usize
+    requires { ⌜ Positioned n (now w) × (i < n) × (j < n) ⌝ }
+    ensures { λ r. ⌜ (r ≡ cond (ltb (key n (now (w .entry)) i) (key n (now (w .entry)) j)) 1 0) × (r ≤ 1) ⌝ }
 {
-    (x < y) as usize
+    is_sooner(w, n, i, j) as usize
 }
 
 // The position of the lesser of the two below i; k or more where there is none. The comparison is added as a number: a processor would guess a branch on it
@@ -62,7 +63,7 @@ fn lesser(w: &[u32], n: usize, k: usize, i: usize) -> usize
     let a = i + i + 1;
     let b = a + 1;
     if b < k {
-        return a + less(key_at(w, n, b), key_at(w, n, a));
+        return a + less(w, n, b, a);
     }
     a
 }
@@ -76,7 +77,7 @@ fn fall(w: &mut [u32], n: usize, k: usize, i: usize) -> usize
     if c >= k {
         return i;
     }
-    if key_at(w, n, i) <= key_at(w, n, c) {
+    if !is_sooner(w, n, c, i) {
         return i;
     }
     swap(w, n, i, c);

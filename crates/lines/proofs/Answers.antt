@@ -9,9 +9,9 @@ use Rattle.model.specs.declared.Answer.{Answer}
 use Rattle.model.specs.declared.Answer.the-variants.{Time, None, Refused}
 use Rattle.lines.specs.Texts.{fieldText, timeText, noneText, pairText}
 
-pub time-text : (seconds pairs : ℕ) (kind : Kind) → answerText (Time seconds kind pairs) ≡ timeText seconds kind
+pub time-text : (seconds hops pairs : ℕ) (kind : Kind) → answerText (Time seconds hops kind pairs) ≡ timeText seconds kind
 unfolding answerText timeText fieldText
-time-text seconds pairs kind = refl
+time-text seconds hops pairs kind = refl
 
 pub none-text : (pairs : ℕ) (kind : Kind) → answerText (None kind pairs) ≡ noneText kind
 unfolding answerText noneText

@@ -33,7 +33,7 @@ few-kind Local = omega arith
 
 few-answer : (a : Answer) → length (answerText a) ≤ 16
 unfolding answerText
-few-answer (Time seconds kind pairs) = omega (
+few-answer (Time seconds hops kind pairs) = omega (
   arith,
   few-decimal seconds,
   few-kind kind,

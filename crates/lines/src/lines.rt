@@ -44,6 +44,7 @@ fn write_answer(answer: Answer, out: &mut [u8], at: usize) -> usize
     match answer {
         Answer::Time {
             seconds,
+            hops: _,
             kind,
             pairs: _,
         } => write_time(seconds, kind, out, at),

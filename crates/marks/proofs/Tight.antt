@@ -26,22 +26,24 @@ flag-test n s v h = rw (flag-at n s v h) (pick (isIn s v))
     pick true = refl
     pick false = refl
 
--- ---- one arc from v, by the words w
-module _ (w : List ℕ) (n v to cost : ℕ) (i : v < n) (j : to < n) where
+-- ---- one arc from v, by the words w; m is where the marks begin, as the code has it
+module _ (w : List ℕ) (n v to cost : ℕ) (j : to < n) (m : ℕ) (e : m ≡ queueWords n) where
   abbrev Leads : Bool → Type 0
   Leads r = r ≡ leading (timesIn n w) (marksIn n w) v (record { from = v; to = to; cost = cost })
 
-  pub arc-unmarked : isIn (midOf (queueWords n) (length w - queueWords n) w) to ≡ false → Leads false
+  abbrev marked : Bool
+  marked = isIn (midOf m (length w - m) w) to
+
+  pub arc-unmarked : marked ≡ false → Leads false
   unfolding leading
-  arc-unmarked h = let k : isIn (drop (queueWords n) w) to ≡ false = rw (back-part w (queueWords n)) at h in rw
+  arc-unmarked h = let k : isIn (drop (queueWords n) w) to ≡ false = rw (back-part w m, e) at h in rw
       (eq-eqb v v refl, flag-test n (drop (queueWords n) w) to j, k)
 
   -- x and y are the times of the two nodes.
-  pub arc-marked : isIn (midOf (queueWords n) (length w - queueWords n) w) to ≡ true
-      → (x y : ℕ) → x ≡ getD (timesIn n w) to 0 → y ≡ getD (timesIn n w) v 0 → Leads (eqb x (y + cost))
+  pub arc-marked : marked ≡ true → (x y : ℕ) → x ≡ getD (timesIn n w) to 0 → y ≡ getD (timesIn n w) v 0 → Leads (eqb x (y + cost))
   unfolding leading
   arc-marked h x y p q =
-      let k : isIn (drop (queueWords n) w) to ≡ true = rw (back-part w (queueWords n)) at h in
+      let k : isIn (drop (queueWords n) w) to ≡ true = rw (back-part w m, e) at h in
       rw (eq-eqb v v refl, flag-test n (drop (queueWords n) w) to j, k, ← p, ← q)
 
 -- ---- a node, where the wanted ones are the bits s

@@ -17,8 +17,9 @@ use Rattle.algorithms.specs.Dijkstra.{at}
 use Rattle.algorithms.specs.Settle.{Falling}
 use Rattle.algorithms.specs.Pass.{Reason, wanted, onward, Is, Upto, upto-start, upto-end, turn-mark, turn-skip}
 use Rattle.marks.specs.Due.{Flagged, leading, due, turned}
-use Rattle.marks.proofs.Views.{times-kept, order-kept, order-next, order-end}
+use Rattle.marks.proofs.Views.{order-kept, order-next, order-end}
 use Rattle.words.specs.Regions.{timesIn, orderIn, marksIn, searchWords, queueWords}
+use Rattle.words.proofs.TimeLaws.{times-kept}
 use Rattle.marks.specs.Ordered.{Ordered}
 
 -- ---- a node is due for a reason
@@ -78,7 +79,10 @@ pub record Standing (arcs : List Arc) (n e : ℕ) (want w₀ : List ℕ) (i : �
   pub kept : take (queueWords n) w ≡ take (queueWords n) w₀
   pub passing : Passing arcs n (timesIn n w₀) want (orderIn n e w₀) (orderIn n i w₀) (marksIn n w)
 
-module _ (arcs : List Arc) (n e : ℕ) (want w₀ : List ℕ) where
+module _ (arcs : List Arc) (n e : ℕ) (want w₀ : List ℕ) (two : 2 ≤ n) where
+  same-times : (w w′ : List ℕ) → take (queueWords n) w′ ≡ take (queueWords n) w → timesIn n w′ ≡ timesIn n w
+  same-times w w′ s = times-kept n (queueWords n) w w′ (omega arith) s
+
   -- w are the words before the marks were cleared.
   pub first : (w : List ℕ) → e ≤ n → length w₀ ≡ searchWords n → take (queueWords n) w₀ ≡ take (queueWords n) w → marksIn n w₀ ≡ replicate n 0
       → Ordered n (timesIn n w) (orderIn n e w) → Standing arcs n e want w₀ e w₀
@@ -86,7 +90,7 @@ module _ (arcs : List Arc) (n e : ℕ) (want w₀ : List ℕ) where
     room = r;
     size = k;
     kept = refl;
-    passing = rw m (pass-first arcs n (timesIn n w₀) want (orderIn n e w₀) (rw (times-kept n w w₀ s, order-kept n w w₀ s e) o));
+    passing = rw m (pass-first arcs n (timesIn n w₀) want (orderIn n e w₀) (rw (same-times w w₀ s, order-kept n w w₀ s e) o));
   }
 
   module _ (i : ℕ) (w : List ℕ) (g : Standing arcs n e want w₀ i w) (h : i < n) where
@@ -104,7 +108,7 @@ module _ (arcs : List Arc) (n e : ℕ) (want w₀ : List ℕ) where
       room = omega arith;
       size = k ∙ g .size;
       kept = s ∙ g .kept;
-      passing = rw (m, times-kept n w₀ w (g .kept)) (pass-next arcs n (timesIn n w₀) want (orderIn n e w₀) pos (getD w (n + i) 0) (orderIn n (i + 1) w₀)
+      passing = rw (m, same-times w₀ w (g .kept)) (pass-next arcs n (timesIn n w₀) want (orderIn n e w₀) pos (getD w (n + i) 0) (orderIn n (i + 1) w₀)
           (marksIn n w) (rw here at (g .passing)));
     }
 
@@ -112,5 +116,5 @@ module _ (arcs : List Arc) (n e : ℕ) (want w₀ : List ℕ) where
       → (take (queueWords n) w′ ≡ take (queueWords n) w) × ((v : ℕ) → Flagged (marksIn n w′) v ↔ Is arcs (timesIn n w) (Flagged want) (orderIn n e w) v)
   last i w w′ h s g =
       let k : i ≡ n = omega (arith, g .room) in
-      let u = rw (k, order-end n w₀, times-kept n w w₀ s, order-kept n w w₀ s e) at (g .passing) in
+      let u = rw (k, order-end n w₀, same-times w w₀ s, order-kept n w w₀ s e) at (g .passing) in
       (g .kept ∙ s, upto-end arcs (timesIn n w) (Flagged want) (orderIn n e w) (u .upto))

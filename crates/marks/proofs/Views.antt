@@ -1,4 +1,4 @@
--- The times and the order stay where the first 2 n words do; a node's turn. Assumes nothing.
+-- The order stays where the words of the queue do; a node's turn. Assumes nothing.
 use Prim.Native.Nat.{ℕ, _+_, _<_}
 use native.Mathlib.Numerals.{add-one}
 use native.Mathlib.Omega.{arith}
@@ -9,16 +9,14 @@ use lib.ListN.{length, getD, set, take, drop, length-take, length-drop, drop-of-
 use lib.Seq.{length-take-le, drop-cons, getD-take, getD-drop}
 use Rattle.model.specs.Walk.{Arc}
 use Rattle.marks.specs.Due.{due, turned}
-use Rattle.words.specs.Regions.{timesIn, orderIn, searchWords, queueWords}
+use Rattle.words.specs.Regions.{orderIn, searchWords, queueWords}
 use Rattle.words.proofs.Stays.{take-drop, take-less}
 
--- ---- what the first 2 n words show
-module _ (n : ℕ) (w w′ : List ℕ) (e : take (queueWords n) w′ ≡ take (queueWords n) w) where
-  pub times-kept : timesIn n w′ ≡ timesIn n w
-  times-kept = take-less n (queueWords n) w w′ (omega arith) e
-
-  pub order-kept : (i : ℕ) → orderIn n i w′ ≡ orderIn n i w
-  order-kept i = let k : n + n ≡ queueWords n = omega arith in ap (drop i) (rw (take-drop n n w′, take-drop n n w, k, e))
+-- ---- the settle order
+pub order-kept : (n : ℕ) (w w′ : List ℕ) → take (queueWords n) w′ ≡ take (queueWords n) w → (i : ℕ) → orderIn n i w′ ≡ orderIn n i w
+order-kept n w w′ e i =
+    let k = take-less (n + n) (queueWords n) w w′ (omega arith) e in
+    ap (drop i) (rw (take-drop n n w′, take-drop n n w, k))
 
 -- The node at position i stands in front of the order from there on.
 pub order-next : (n i : ℕ) (w : List ℕ) → length w ≡ searchWords n → i < n → orderIn n i w ≡ getD w (n + i) 0 ∷ orderIn n (i + 1) w

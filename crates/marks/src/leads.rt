@@ -1,6 +1,6 @@
 // Whether an arc leads on from a node, tight, to a marked one.
 ghost use mathlib.Core.Path.{_≡_};
-ghost use Prim.Native.Nat.{_*_, _<_, _≤_};
+ghost use Prim.Native.Nat.{_<_, _≤_};
 ghost use Rattle.model.specs.Lists.{any};
 ghost use Rattle.model.specs.Network.{maxNodes};
 ghost use Rattle.arcs.specs.Arcs.{arcsIn};
@@ -8,25 +8,24 @@ ghost use Rattle.index.specs.Index.{IndexedEdges};
 ghost use Rattle.words.specs.Frames.{Enough};
 ghost use Rattle.marks.specs.Due.{leading};
 ghost use Rattle.words.specs.Regions.{timesIn, marksIn};
-ghost use Rattle.arcs.specs.Leaving.{maxCost};
+ghost use Rattle.theory.specs.Sound.{maxCost};
 use arcs::cursor::first_edge;
 use arcs::leaving::arc_at;
 use arcs::leaving::next_arc;
 use bitset::bits::contains;
-use words::regions::QUEUE;
+use words::regions::queue_words;
 use words::times::time_of;
 
-// Whether an arc from v leads on, by the working words: the times from 0 on, and the bits of the marks from 2 n on. The sum is wide, so that no word has to
-// be kept small.
+// Whether an arc from v leads on, by the times in the working words and the bits of the marks behind the queue's.
 fn leads_to(n: usize, work: &[u32], v: usize, to: usize, cost: u64) -> bool
     requires { ⌜ (n ≤ maxNodes) × Enough n (now work) × (v < n) × (to < n) × (cost ≤ maxCost) ⌝ }
     ensures { λ r. ⌜ r ≡ leading (timesIn n (now (work .entry))) (marksIn n (now (work .entry))) v (record { from = v; to = to; cost = cost }) ⌝ }
 {
-    let m = QUEUE * n;
+    let m = queue_words(n);
     if !contains(&work[m..], to) {
         return false;
     }
-    time_of(work, n, to) as u64 == time_of(work, n, v) as u64 + cost
+    time_of(work, n, to) == time_of(work, n, v) + cost
 }
 
 // Whether some arc leads on from v.

@@ -20,7 +20,8 @@ crosses cs r c e = xor (within r c (cellAt cs (e .first))) (within r c (cellAt c
 unfoldable pub crossings : List Cell → List Edge → ℕ → Cell → List ℕ
 crossings cs es r c = map crossingEnd (filter (crosses cs r c) es)
 
--- "d(p, q) finite and d(p, a) + d(a, q) = d(p, q)": a lies on a least walk from p to q, one of perhaps many.
+-- "d(p, q) finite and d(p, a) + d(a, q) = d(p, q)", in pairs (T-07): a lies on a least walk from p to q, one of perhaps many. Keys add as the pairs do, since
+-- no least walk has more hops than there are nodes (`theory`, Keys `key-equation`).
 unfoldable pub between : (ℕ → ℕ → Distance) → ℕ → ℕ → ℕ → Bool
 between d p q a = agree (plus (d p a) (d a q)) (d p q)
 

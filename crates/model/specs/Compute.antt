@@ -34,7 +34,8 @@ distance-computed = tt
 
 unfoldable pub network-computed : Unit {0}
 unfolding Network.coordinate Network.node Network.edge Network.nodeCount Network.edgeCount Network.nodes Network.edges Network.network
-    Network.order Network.arcsOf Network.arcs Network.distance Network.nodesBroken Network.nodeBroken Network.coordinatesBroken
+    Network.order Network.timedOf Network.timedArcs Network.arcsOf Network.arcs Network.distance Network.nodesBroken Network.nodeBroken
+    Network.coordinatesBroken
     Network.edgesBroken Network.edgeBroken Network.someEdgeBroken Network.numbersBroken Network.closedListed
 network-computed = tt
 
@@ -47,7 +48,8 @@ unfolding Access.crossingEnd Access.crosses Access.crossings Access.between Acce
 access-computed = tt
 
 unfoldable pub oracle-computed : Unit {0}
-unfolding Oracle.coded Oracle.valueBytes Oracle.decoded Oracle.value Oracle.valueBroken Oracle.entryBytes Oracle.listBytes Oracle.starts Oracle.accessBytes
+unfolding Oracle.coded Oracle.valueBytes Oracle.decoded Oracle.valueKey Oracle.value Oracle.keyBroken Oracle.valueBroken Oracle.entryBytes
+    Oracle.listBytes Oracle.starts Oracle.accessBytes
     Oracle.tableBytes Oracle.transitOf Oracle.oracleOver Oracle.oracle Oracle.transitCount Oracle.listStart Oracle.listCount Oracle.listPart
     Oracle.accessAt Oracle.accessEntry
     Oracle.accessList Oracle.tableEntry Oracle.gridBodyBroken Oracle.entryBroken Oracle.indexes Oracle.listBroken Oracle.accessBroken Oracle.cellBroken
@@ -56,7 +58,8 @@ oracle-computed = tt
 
 unfoldable pub query-computed : Unit {0}
 unfolding Query.answer Query.meaning Query.ruleOf Query.distanceIn Query.distanceOf Query.sumBy Query.farDistance Query.farAnswer Query.localAnswer
-    Query.kindBetween Query.answerOf Query.timeAnswer Query.nexts Query.onward Query.wayAfter Query.wayFrom Query.way Query.listSpan Query.listOf
+    Query.kindBetween Query.answerOf Query.timeAnswer Query.timeWord Query.secondsWord Query.hopsWord Query.nexts Query.onward
+    Query.wayAfter Query.wayFrom Query.way Query.listSpan Query.listOf
 query-computed = tt
 
 unfoldable pub rules-computed : Unit {0}

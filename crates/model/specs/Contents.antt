@@ -15,8 +15,9 @@ networkEdition = 1
 abbrev pub networkEntries : ℕ
 networkEntries = 3
 
+-- "Oracles become edition 2", "Older oracles meet refusal 1" (T-07).
 abbrev pub oracleEdition : ℕ
-oracleEdition = 1
+oracleEdition = 2
 
 abbrev pub oracleEntries : ℕ
 oracleEntries = 7

@@ -1,13 +1,16 @@
--- Distances, and the least total of seconds over all walks between two nodes, computed by rounds over all arcs (Bellman and Ford).
--- That `dist` is this least total is a theorem (`theory`, Exact), so a reader need not follow the rounds. Assumes nothing.
+-- Distances, and the least total over all walks between two nodes, computed by rounds over all arcs (Bellman and Ford).
+-- That `dist` is this least total is a theorem (`theory`, Exact), so a reader need not follow the rounds.
+-- T-07: "d becomes that pair": the total of a walk is the key of its seconds and hops, and that a least key is the least pair is a theorem too (`theory`,
+-- PairModel). Assumes nothing.
 use Prim.Native.Nat.{ℕ, zero, suc, _+_, min}
 use mathlib.Core.Bool.{Bool, false}
 use mathlib.Core.List.{List, [], _∷_}
 use lib.ListN.{getD, set, replicate}
 use lib.Dec.{eqb}
+use Rattle.model.specs.Pair.{Pair, LeastPairOf, pairOf}
 use Rattle.model.specs.Walk.{Arc, LeastOf}
 
--- No walk, or so many seconds.
+-- No walk, or the key of a pair of seconds and hops.
 pub data Distance : Type 0 where
   unreachable : Distance
   finite : ℕ → Distance
@@ -17,7 +20,12 @@ abbrev pub IsLeast : (ℕ → Type 0) → Distance → Type 0
 IsLeast P (finite n) = LeastOf P n
 IsLeast P unreachable = (n : ℕ) → P n → ⊥
 
--- The lesser of two distances.
+-- x is the least pair with P, or unreachable where no pair has P.
+abbrev pub IsLeastPair : (Pair → Type 0) → Distance → Type 0
+IsLeastPair P (finite k) = LeastPairOf P (pairOf k)
+IsLeastPair P unreachable = (p : Pair) → P p → ⊥
+
+-- The lesser of two distances: fewer seconds, or as many and fewer hops.
 unfoldable pub sooner : Distance → Distance → Distance
 sooner unreachable y = y
 sooner (finite m) unreachable = finite m
@@ -28,7 +36,7 @@ unfoldable pub soonest : {A : Type 0} → (A → Distance) → List A → Distan
 soonest f [] = unreachable
 soonest f (x ∷ xs) = sooner (f x) (soonest f xs)
 
--- The sum of two distances.
+-- The sum of two distances, of their seconds and of their hops.
 unfoldable pub plus : Distance → Distance → Distance
 plus unreachable y = unreachable
 plus (finite m) unreachable = unreachable
@@ -42,7 +50,7 @@ agree (finite m) (finite n) = eqb m n
 
 -- ---- the least total over all walks
 
--- A distance and c seconds more.
+-- A distance and the cost c more.
 unfoldable pub later : Distance → ℕ → Distance
 later unreachable c = unreachable
 later (finite m) c = finite (m + c)

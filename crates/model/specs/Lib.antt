@@ -2,6 +2,7 @@
 pub mod Lists
 pub mod Bytes
 pub mod Contents
+pub mod Pair
 pub mod Walk
 pub mod Distance
 pub mod Network

@@ -9,6 +9,7 @@ use lib.Dec.{eqb, ltb, leb}
 use Rattle.model.specs.Lists.{any, concatMap, rising, upTo}
 use Rattle.model.specs.Bytes.{Bytes, word16, word32, numberSize, words16}
 use Rattle.model.specs.Contents.{nodeBody, edgeBody}
+use Rattle.model.specs.Pair.{key}
 use Rattle.model.specs.Walk.{Arc}
 use Rattle.model.specs.Distance.{Distance, dist}
 
@@ -73,13 +74,24 @@ unfoldable pub order : Network → ℕ
 order net = length (net .nodes)
 
 -- "Roads run both ways": an edge is an arc each way.
+abbrev pub bothWays : Edge → ℕ → List Arc
+bothWays e cost = record { from = e .first; to = e .second; cost = cost } ∷ record { from = e .second; to = e .first; cost = cost } ∷ []
+
+-- The arcs with their seconds: "a walk's total is the sum of its roads' seconds". The promises are about walks over these.
+unfoldable pub timedOf : Edge → List Arc
+timedOf e = bothWays e (e .seconds)
+
+unfoldable pub timedArcs : Network → List Arc
+timedArcs net = concatMap timedOf (net .edges)
+
+-- The arcs with the keys of their pairs, so many seconds and one hop.
 unfoldable pub arcsOf : Edge → List Arc
-arcsOf e = record { from = e .first; to = e .second; cost = e .seconds } ∷ record { from = e .second; to = e .first; cost = e .seconds } ∷ []
+arcsOf e = bothWays e (key (e .seconds) 1)
 
 unfoldable pub arcs : Network → List Arc
 arcs net = concatMap arcsOf (net .edges)
 
--- "d(u, t) for the least total of seconds over all walks from u to t; it is finite exactly when there is one."
+-- "d(u, t)", which T-07 makes the least pair over all walks from u to t; "it is finite exactly when there is one".
 unfoldable pub distance : Network → ℕ → ℕ → Distance
 distance net u t = dist (arcs net) (order net) u t
 
@@ -90,9 +102,6 @@ maxNodes = 4096
 
 abbrev pub maxEdges : ℕ
 maxEdges = 16384
-
-abbrev pub minSeconds : ℕ
-minSeconds = 1
 
 abbrev pub maxSeconds : ℕ
 maxSeconds = 100_000
@@ -112,9 +121,10 @@ coordinatesBroken b = any nodeBroken (nodes b)
 unfoldable pub edgesBroken : Bytes → Bool
 edgesBroken b = not (eqb (length b % edgeSize) 0) || ltb maxEdges (edgeCount b)
 
--- Rule 6: "A road with an end not below N, equal ends, or seconds outside 1 to 100,000."
+-- Rule 6: "A road with an end not below N, equal ends", or over 100,000 seconds: T-07, "Seconds run from 0, so they cause 01's sixth refusal only above
+-- 100,000".
 unfoldable pub edgeBroken : ℕ → Edge → Bool
-edgeBroken n e = leb n (e .first) || leb n (e .second) || eqb (e .first) (e .second) || ltb (e .seconds) minSeconds || ltb maxSeconds (e .seconds)
+edgeBroken n e = leb n (e .first) || leb n (e .second) || eqb (e .first) (e .second) || ltb maxSeconds (e .seconds)
 
 unfoldable pub someEdgeBroken : ℕ → Bytes → Bool
 someEdgeBroken n b = any (edgeBroken n) (edges b)

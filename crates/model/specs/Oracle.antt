@@ -7,46 +7,69 @@ use lib.Dec.{eqb, ltb, leb}
 use Rattle.model.specs.Lists.{Part, gapless, any, concat, concatMap, indexOf, rising, upTo}
 use Rattle.model.specs.Bytes.{Bytes, word16, word32, bytes16, bytes32, numberSize}
 use Rattle.model.specs.Contents.{nodeBody, edgeBody, closedBody, file, oracleEdition}
+use Rattle.model.specs.Pair.{key, secondsOf, hopsOf}
 use Rattle.model.specs.Distance.{Distance, unreachable, finite}
 use Rattle.model.specs.Network.{Network, network, order, distance}
 use Rattle.model.specs.Grid.{gridOver, gridBroken, division, divisionSize, divisionBytes}
 use Rattle.model.specs.Access.{accessLists, transitNodes}
 use Rattle.model.specs.declared.Division.{Division}
 
--- ---- a distance in bodies 6 and 7, a 32-bit number
+-- ---- a distance in bodies 6 and 7: 32-bit seconds, and T-07's "16 bits for the roads after the seconds"
+
+abbrev pub secondsSize : ℕ
+secondsSize = 4
+
+abbrev pub hopsSize : ℕ
+hopsSize = 2
 
 abbrev pub valueSize : ℕ
-valueSize = 4
+valueSize = secondsSize + hopsSize
 
--- "The value 4,294,967,295 means 'no walk'; every other value is at most 409,500,000, which is 4,095 × 100,000."
+-- "The value 4,294,967,295 means 'no walk'", with "65,535" hops ..
+abbrev pub noSeconds : ℕ
+noSeconds = 4_294_967_295
+
+abbrev pub noHops : ℕ
+noHops = 65_535
+
 abbrev pub noWalk : ℕ
-noWalk = 4_294_967_295
+noWalk = key noSeconds noHops
 
+-- .. "every other value is at most 409,500,000, which is 4,095 × 100,000", with "at most 4,095" hops.
 abbrev pub maxValue : ℕ
 maxValue = 409_500_000
 
--- The number for a distance, and back.
+abbrev pub maxHops : ℕ
+maxHops = 4_095
+
+-- The key for a distance, and back.
 unfoldable pub coded : Distance → ℕ
 coded unreachable = noWalk
 coded (finite n) = n
 
 unfoldable pub valueBytes : Distance → Bytes
-valueBytes x = bytes32 (coded x)
+valueBytes x = bytes32 (secondsOf (coded x)) ++ bytes16 (hopsOf (coded x))
 
 unfoldable pub decoded : ℕ → Distance
 decoded v = cond (eqb v noWalk) unreachable (finite v)
 
--- The distance at a position.
-unfoldable pub value : Bytes → ℕ → Distance
-value b position = decoded (word32 b position)
+-- The seconds and the hops at a position as a key, and the distance there.
+unfoldable pub valueKey : Bytes → ℕ → ℕ
+valueKey b position = key (word32 b position) (word16 b (position + secondsSize))
 
--- Out of range.
+unfoldable pub value : Bytes → ℕ → Distance
+value b position = decoded (valueKey b position)
+
+-- Out of range: not 'no walk', and too many seconds or too many hops.
+unfoldable pub keyBroken : ℕ → Bool
+keyBroken k = not (eqb k noWalk) && (ltb maxValue (secondsOf k) || ltb maxHops (hopsOf k))
+
 unfoldable pub valueBroken : Bytes → ℕ → Bool
-valueBroken b position = not (eqb (word32 b position) noWalk) && ltb maxValue (word32 b position)
+valueBroken b position = keyBroken (valueKey b position)
 
 -- ---- building
 
--- "A list is a 16-bit count, then entries of 6 bytes: a 16-bit index into body 5, rising within the list, and 32-bit seconds."
+-- "A list is a 16-bit count, then entries ..: a 16-bit index into body 5, rising within the list, and" a value: 8 bytes in all.
 abbrev pub countSize : ℕ
 countSize = 2
 
@@ -79,7 +102,7 @@ accessBytes d transit lists =
     let ls = map (λ u. listBytes d transit u (getD lists u [])) (upTo (length lists)) in
     starts (startSize * length lists) ls ++ concat ls
 
--- Body 7: "T rows of T 32-bit seconds", "table(a, b) in the row of a and the column of b".
+-- Body 7: "T rows of T" values, "table(a, b) in the row of a and the column of b".
 unfoldable pub tableBytes : (ℕ → ℕ → Distance) → List ℕ → Bytes
 tableBytes d transit = concatMap (λ a. concatMap (λ b. valueBytes (d a b)) transit) transit
 
@@ -154,7 +177,7 @@ listBroken T b u = not (rising (indexes b u)) || any (entryBroken T b u) (upTo (
 unfoldable pub accessBroken : ℕ → ℕ → Bytes → Bool
 accessBroken n T b = not (gapless (startSize * n) (map (listPart b) (upTo n)) (length b)) || any (listBroken T b) (upTo n)
 
--- Rule 11: "A table not of 4 × T × T bytes, or a value out of range."
+-- Rule 11: a table not of "6 × T × T" bytes (T-07), "or a value out of range".
 unfoldable pub cellBroken : Bytes → ℕ → Bool
 cellBroken b i = valueBroken b (valueSize * i)
 

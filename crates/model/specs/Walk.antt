@@ -1,8 +1,9 @@
 -- Arcs, walks, and least totals of walks. Assumes nothing.
-use Prim.Native.Nat.{ℕ, _+_, _≤_, _<_}
+use Prim.Native.Nat.{ℕ, suc, _+_, _≤_, _<_}
 use mathlib.Core.Path.{_≡_}
 use mathlib.Core.Logic.{_⊎_}
 use mathlib.Core.List.{List, [], _∷_, List·Memᴰ}
+use Rattle.model.specs.Pair.{Pair, LeastPairOf}
 
 -- One direction of an open edge.
 pub record Arc : Type 0 where
@@ -28,6 +29,22 @@ pub record LeastOf (P : ℕ → Type 0) (n : ℕ) : Type 0 where
 -- n is the least total over all walks from u to t. "A least walk has that total."
 abbrev pub Least : List Arc → ℕ → ℕ → ℕ → Type 0
 Least arcs u t n = LeastOf (Walk arcs u t) n
+
+-- ---- T-07: "Walks are compared by seconds, then by fewer roads"; here the cost of an arc is its seconds
+
+-- The number of arcs of a walk.
+unfoldable pub hops : {arcs : List Arc} {u t n : ℕ} → Walk arcs u t n → ℕ
+hops stay = 0
+hops (go a m w) = suc (hops w)
+
+-- Some walk from u to t has the pair p.
+pub record PairWalk (arcs : List Arc) (u t : ℕ) (p : Pair) : Type 0 where
+  pub walk : Walk arcs u t (p .seconds)
+  pub its-hops : hops walk ≡ p .hops
+
+-- p is the least pair over all walks from u to t, however many arcs they have. "Least now means least pair."
+abbrev pub LeastPair : List Arc → ℕ → ℕ → Pair → Type 0
+LeastPair arcs u t p = LeastPairOf (PairWalk arcs u t) p
 
 -- ---- "Ways and least walks are compared as lists of places"
 

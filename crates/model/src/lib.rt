@@ -11,10 +11,12 @@ pub enum Kind {
     Local,
 }
 
-// The answer to a question about two nodes: "a time, none, or a refusal; the first two carry far or local and the pairs tried".
+// The answer to a question about two nodes: "a time, none, or a refusal; the first two carry far or local and the pairs tried". Of a time "each answer states
+// both numbers" (document 02, T-07): its seconds, and its hops, which are document 02's number of roads.
 pub enum Answer {
     Time {
         seconds: u32,
+        hops: u32,
         kind: Kind,
         pairs: u32,
     },

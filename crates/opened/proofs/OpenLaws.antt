@@ -1,5 +1,5 @@
 -- How an oracle comes to be opened, and stays so. Assumes nothing.
-use Prim.Native.Nat.{ℕ, _+_, _≤_, _<_}
+use Prim.Native.Nat.{ℕ, _+_, _-_, _≤_, _<_}
 use native.Mathlib.Nat.{add-zero}
 use native.Mathlib.Omega.{arith}
 use mathlib.Core.Path.{_≡_, sym, ap, _∙_, subst}
@@ -26,6 +26,7 @@ use Rattle.checks.specs.Grids.{oracleGrid}
 use Rattle.checks.proofs.RulesKept.{some-node}
 use Rattle.words.specs.Frames.{Only, OnlyIn, KeptFrom}
 use Rattle.words.proofs.Stays.{kept-more}
+use Rattle.words.proofs.Windows.{room-left, index-fits}
 use Rattle.words.proofs.TimeLaws.{time-at}
 use Rattle.opened.specs.Opened.{gridIn, Opened, Stays}
 
@@ -95,12 +96,18 @@ pub stays-then : (o : Bytes) (w₀ w₁ w₂ : List ℕ) → Stays o w₀ w₁ �
 stays-then o w₀ w₁ w₂ p q = record { opened = q .opened; rest = q .rest ∙ p .rest }
 
 -- The spans stand between the grid and the index.
+join : (a b : ℕ) → a + 2 < b → a + (b - a) ≡ b
+join a b h = omega arith
+
+pub spans-end : (n : ℕ) → 2 ≤ n → spansAt n + spanCount n ≡ indexAt n
+spans-end n two = join (spansAt n) (indexAt n) (room-left n two .1)
+
 pub stays-noted : (o : Bytes) (w w′ : List ℕ) → Opened o w → 2 ≤ nodeCount (nodeBody o) → length w′ ≡ length w
     → OnlyIn (spansAt (nodeCount (nodeBody o))) (spanCount (nodeCount (nodeBody o))) w w′ → Stays o w w′
 unfolding wordsNeeded
 stays-noted o w w′ h two l k =
     let n = nodeCount (nodeBody o) in
-    let e : spansAt n + spanCount n ≡ indexAt n = omega arith in
+    let e = spans-end n two in
     let back : KeptFrom (indexAt n) w w′ = subst (λ (i : ℕ). KeptFrom i w w′) e (k .back) in
     record {
       opened = record {
@@ -109,7 +116,7 @@ stays-noted o w w′ h two l k =
         grid = grid-before n w w′ (spansAt n) (omega arith) (k .front) ∙ h .grid;
         roads = roads-kept (edgeBody o) n w w′ back (h .roads);
       };
-      rest = kept-more (indexAt n) (workWords n) w w′ (omega arith) back;
+      rest = kept-more (indexAt n) (workWords n) w w′ (omega (arith, index-fits n two)) back;
     }
 
 -- ---- what a search asks for, of the bodies and the number of nodes as the code has them

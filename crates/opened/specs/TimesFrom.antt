@@ -10,12 +10,13 @@ use Rattle.model.specs.Walk.{Arc}
 use Rattle.algorithms.specs.Rounds.{distanceWords}
 use Rattle.arcs.specs.Arcs.{arcsIn}
 use Rattle.words.specs.Regions.{timesIn}
+use Rattle.words.specs.Times.{timeWords}
 use Rattle.way.specs.Distances.{wayIn}
 
--- The first words are the distances from s in the oracle's network.
+-- The times are the distances from s in the oracle's network.
 pub record TimesFrom (o : Bytes) (s : ℕ) (work : List ℕ) : Type 0 where
   pub times : timesIn (nodeCount (nodeBody o)) work ≡ distanceWords (arcsIn (edgeBody o)) (nodeCount (nodeBody o)) s
-  pub room : nodeCount (nodeBody o) ≤ length work
+  pub room : timeWords (nodeCount (nodeBody o)) ≤ length work
 
 -- The way from s to t over these arcs, by the distances from t: roads run both ways (theory `both-ways`).
 unfoldable pub wayOver : List Arc → ℕ → ℕ → ℕ → List ℕ

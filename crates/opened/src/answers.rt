@@ -5,15 +5,16 @@ ghost use Prim.Native.Nat.{_<_};
 ghost use Rattle.model.specs.Contents.{nodeBody};
 ghost use Rattle.model.specs.Network.{network, nodeCount};
 ghost use Rattle.model.specs.Oracle.{coded};
-ghost use Rattle.model.specs.Query.{distanceOf, farAnswer, localAnswer, timeAnswer, timeWord};
+ghost use Rattle.model.specs.Query.{distanceOf, farAnswer, localAnswer, timeAnswer, secondsWord};
 ghost use Rattle.model.specs.Rules.{wellShaped};
 ghost use Rattle.words.specs.Frames.{KeptFrom};
 ghost use Rattle.opened.specs.Opened.{Opened};
 ghost use Rattle.opened.specs.Room.{WayGiven};
 ghost use Rattle.words.specs.Regions.{gridAt};
-use crate::local::local_seconds;
+use crate::local::local_key;
 use crate::opening::opened_kind;
 use crate::ways::write_way_to;
+use codec::keys;
 use codec::records::NO_WALK;
 use model::Answer;
 use model::Kind;
@@ -47,7 +48,7 @@ fn local_of(o: &[u8], s: usize, t: usize, work: &mut [u32]) -> Answer
     ensures answer { λ r. ⌜ r ≡ localAnswer (network (now (o .entry))) s t ⌝ }
     ensures others { λ _. ⌜ KeptFrom (gridAt (nodeCount (nodeBody (now (o .entry))))) (now (work .entry)) (now (work .exit)) ⌝ }
 {
-    answer_of(Kind::Local, 0, local_seconds(o, s, t, work))
+    answer_of(Kind::Local, 0, local_key(o, s, t, work))
 }
 
 // The answer by the kind of the pair.
@@ -63,28 +64,29 @@ pub fn time_of(o: &[u8], s: usize, t: usize, work: &mut [u32]) -> Answer
     }
 }
 
-// The seconds of an answer as the table marks them.
-pub fn seconds_of(a: Answer) -> u32
+// The key of an answer's time, with 'no walk' marked as in the table.
+pub fn key_of(a: Answer) -> u64
     ensures { λ r. ⌜ r ≡ coded (distanceOf a) ⌝ }
 {
     match a {
         Answer::Time {
             seconds,
+            hops,
             kind,
             pairs,
-        } => seconds,
+        } => keys::key_of(seconds, hops),
         Answer::None { kind, pairs } => NO_WALK,
         Answer::Refused { rule } => NO_WALK,
     }
 }
 
-// The time alone, marked so.
+// The seconds alone, marked so.
 pub fn seconds_between(o: &[u8], s: usize, t: usize, work: &mut [u32]) -> u32
     requires { ⌜ Opened (now o) (now work) × (s < nodeCount (nodeBody (now o))) × (t < nodeCount (nodeBody (now o))) ⌝ }
-    ensures time { λ r. ⌜ r ≡ timeWord (now (o .entry)) s t ⌝ }
+    ensures seconds { λ r. ⌜ r ≡ secondsWord (now (o .entry)) s t ⌝ }
     ensures others { λ _. ⌜ KeptFrom (gridAt (nodeCount (nodeBody (now (o .entry))))) (now (work .entry)) (now (work .exit)) ⌝ }
 {
-    seconds_of(time_of(o, s, t, work))
+    keys::seconds_of(key_of(time_of(o, s, t, work)))
 }
 
 // The way where no rule before 15 is broken.

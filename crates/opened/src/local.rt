@@ -5,7 +5,7 @@ ghost use lib.ListN.{set, replicate};
 ghost use Rattle.model.specs.Contents.{nodeBody};
 ghost use Rattle.model.specs.Distance.{dist};
 ghost use Rattle.model.specs.Network.{network, distance, maxNodes, nodeCount};
-ghost use Rattle.model.specs.Oracle.{coded};
+ghost use Rattle.model.specs.Oracle.{noWalk, coded};
 ghost use Rattle.algorithms.specs.Stops.{Stopped};
 ghost use Rattle.sheet.specs.ArcsUnder.{arcsUnder};
 ghost use Rattle.arcs.specs.Leaving.{EdgesUnder};
@@ -49,17 +49,10 @@ pub fn search_to(
     search_wanted_under(edges, lines, n, s, 1, work)
 }
 
-// The distance from s to t over them.
-pub fn search_seconds(
-    edges: &[u8],
-    lines: &[u8],
-    n: usize,
-    s: usize,
-    t: usize,
-    work: &mut [u32],
-) -> u32
+// The distance from s to t over them, as a key.
+pub fn search_key(edges: &[u8], lines: &[u8], n: usize, s: usize, t: usize, work: &mut [u32]) -> u64
     requires { ⌜ (n ≤ maxNodes) × (s < n) × (t < n) × Enough n (now work) × EdgesUnder (now edges) (now lines) n (now work) × (2 ≤ n) ⌝ }
-    ensures seconds { λ r. ⌜ r ≡ coded (dist (arcsUnder (now (edges .entry)) (now (lines .entry))) n s t) ⌝ }
+    ensures key { λ r. ⌜ (r ≡ coded (dist (arcsUnder (now (edges .entry)) (now (lines .entry))) n s t)) × (r ≤ noWalk) ⌝ }
     ensures others { λ _. ⌜ KeptFrom (gridAt n) (now (work .entry)) (now (work .exit)) ⌝ }
 {
     search_to(edges, lines, n, s, t, work);
@@ -67,14 +60,14 @@ pub fn search_seconds(
 }
 
 // The distance from s to t in the oracle's network. From a node to itself nothing is searched.
-pub fn local_seconds(o: &[u8], s: usize, t: usize, work: &mut [u32]) -> u32
+pub fn local_key(o: &[u8], s: usize, t: usize, work: &mut [u32]) -> u64
     requires { ⌜ Opened (now o) (now work) × (s < nodeCount (nodeBody (now o))) × (t < nodeCount (nodeBody (now o))) ⌝ }
-    ensures seconds { λ r. ⌜ r ≡ coded (distance (network (now (o .entry))) s t) ⌝ }
+    ensures key { λ r. ⌜ (r ≡ coded (distance (network (now (o .entry))) s t)) × (r ≤ noWalk) ⌝ }
     ensures others { λ _. ⌜ KeptFrom (gridAt (nodeCount (nodeBody (now (o .entry))))) (now (work .entry)) (now (work .exit)) ⌝ }
 {
     if s == t {
         return 0;
     }
     let edges = oracle_body(o, EDGES);
-    search_seconds(edges, &edges[..0], node_count(o), s, t, work)
+    search_key(edges, &edges[..0], node_count(o), s, t, work)
 }

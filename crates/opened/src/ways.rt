@@ -23,7 +23,7 @@ use search::front::search_front;
 use way::after::LONGEST;
 use way::whole::whole_way;
 
-// The times from s stand in the first words afterwards.
+// The times are those from s afterwards.
 pub fn times_from(o: &[u8], s: usize, work: &mut [u32])
     requires { ⌜ Opened (now o) (now work) × (s < nodeCount (nodeBody (now o))) × (2 ≤ nodeCount (nodeBody (now o))) ⌝ }
     ensures times { λ _. ⌜ TimesFrom (now (o .entry)) s (now (work .exit)) ⌝ }
@@ -44,7 +44,7 @@ pub fn write_way_itself(s: usize, out: &mut [u8]) -> Route
     Route { rule: 0, nodes: 1 }
 }
 
-// Writes the way from s at the front of the output, by the times in the first words. It is found before any output is written.
+// Writes the way from s at the front of the output, by the times in the working words. It is found before any output is written.
 fn write_way_from(
     edges: &[u8],
     lines: &[u8],

@@ -13,7 +13,7 @@ ghost use Rattle.sheet.specs.Sheet.{effects};
 ghost use Rattle.sheet.specs.Under.{wayUnder};
 ghost use Rattle.sheet.specs.SheetCalls.{timeUnderResult, wayUnderRefusal};
 ghost use Rattle.opened.specs.Opened.{Opened, OpenCall, Stays};
-ghost use Rattle.block.specs.Block.{blockOf, blockRefusal, blockAfter};
+ghost use Rattle.block.specs.Block.{blockRefusal, blockAfter};
 ghost use Rattle.wages.specs.Wages.{wagesBytes, wagesRefusal};
 ghost use Rattle.capi.specs.Replies.{reply};
 use block::Block;
@@ -79,7 +79,7 @@ pub extern "C" fn jukesogbi_opened_block(
 ) -> Block
     requires { ⌜ Opened (now o) (now work) ⌝ }
     ensures result { λ r. ⌜ r ≡ blockAfter (blockRefusal (now (o .entry)) (now (starts .entry)) (now (ends .entry)) (now (work .entry)))
-        (blockOf (now (o .entry)) (now (starts .entry)) (now (ends .entry))) ⌝ }
+        (now (o .entry)) (now (starts .entry)) (now (ends .entry)) ⌝ }
     ensures opened { λ _. ⌜ Opened (now (o .entry)) (now (work .exit)) ⌝ }
     ensures rest { λ _. ⌜ drop (wordsNeeded (now (o .entry))) (now (work .exit)) ≡ drop (wordsNeeded (now (o .entry))) (now (work .entry)) ⌝ }
 {

@@ -19,7 +19,7 @@ use Rattle.bitset.specs.Bits.{setWords, isIn, flags}
 use Rattle.crossing.specs.Sets.{memberFlags, either, ones}
 use Rattle.crossing.specs.SetLaws.{flags-test, test-flags-same, either-test, no-members}
 use Rattle.marks.specs.Due.{Flagged}
-use Rattle.words.specs.Regions.{regionAt, region, regionFlags, want, own, transit, wantIn, searchWords}
+use Rattle.words.specs.Regions.{regionAt, region, regionFlags, want, own, transit, wantIn, timesIn, searchWords}
 use Rattle.words.proofs.Windows.{region-later, region-kept, flags-kept}
 use Rattle.emit.specs.PartLaws.{concat-same, time-same}
 use Rattle.bitset.specs.Members.{membersOf}
@@ -104,10 +104,11 @@ module _ (n left : ℕ) (w : List ℕ) (g : Sought n left w) where
 
   -- The same from the words that the search leaves.
   pub list-searched : (w′ : List ℕ) → KeptFrom (searchWords n) w w′ → (arcs : List Arc) (s : ℕ) (order : List ℕ)
-      → Stopped arcs n s (wantIn n w) (take n w′) order
-      → listBytesOf (take n w′) (membersIn n transit w′) (membersIn n own w′) ≡ listBytesOf (distanceWords arcs n s) (membersIn n transit w) (membersIn n own w)
+      → Stopped arcs n s (wantIn n w) (timesIn n w′) order
+      → listBytesOf (timesIn n w′) (membersIn n transit w′) (membersIn n own w′)
+      ≡ listBytesOf (distanceWords arcs n s) (membersIn n transit w) (membersIn n own w)
   list-searched w′ e arcs s order f =
-      rw (kept transit (omega arith), kept own (omega arith)) (sought-list arcs s (take n w′) order f (membersIn n transit w))
+      rw (kept transit (omega arith), kept own (omega arith)) (sought-list arcs s (timesIn n w′) order f (membersIn n transit w))
     where
       kept : (k : ℕ) → searchWords n ≤ regionAt n k → membersIn n k w′ ≡ membersIn n k w
       kept k h = ap (λ (l : List ℕ). membersOf n (take (setWords n) l)) (kept-more (searchWords n) (regionAt n k) w w′ h e)

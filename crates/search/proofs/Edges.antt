@@ -11,7 +11,7 @@ use Rattle.model.specs.Bytes.{Bytes}
 use Rattle.model.specs.Walk.{Arc}
 use Rattle.model.specs.Network.{edge, edgeCount, someEdgeBroken}
 use Rattle.model.specs.Oracle.{noWalk}
-use Rattle.theory.specs.Sound.{edge-fine}
+use Rattle.theory.specs.Sound.{edge-fine, maxCost}
 use Rattle.algorithms.specs.Dijkstra.{at, relax, relax-all, relax-all-le, relax-all-same, relax-append}
 use Rattle.heap.specs.Queue.{lowered}
 use Rattle.words.specs.Frames.{Enough, KeptFrom}
@@ -19,9 +19,8 @@ use Rattle.words.specs.Regions.{frontIn, timesIn, searchWords, indexAt}
 use Rattle.words.proofs.Parts.{front-is}
 use Rattle.words.proofs.Stays.{kept-more}
 use Rattle.sheet.specs.Sheet.{linesIn, holds}
-use Rattle.sheet.specs.Under.{left}
 use Rattle.sheet.specs.ArcsUnder.{arcsUnder, arcsLeft}
-use Rattle.sheet.specs.Spans.{leftIn}
+use Rattle.sheet.specs.Spans.{costLeft}
 use Rattle.arcs.specs.Arcs.{leaving}
 use Rattle.arcs.specs.Cursor.{PassedEdges, Stepped}
 use Rattle.arcs.specs.declared.cursor.Cursor.{Cursor}
@@ -35,15 +34,18 @@ use Rattle.search.specs.Holds.{Holds, Relaxed, SettledWithin}
 pub edge-room : (n : ℕ) (edges : Bytes) (i : ℕ) (w : List ℕ) → someEdgeBroken n edges ≡ false → i < edgeCount edges → Enough n w → searchWords n ≤ length w
 edge-room n edges i w ends h long = omega (arith, edge-fine n edges ends i h .first-in)
 
--- ---- one edge i at u: s and v are its seconds and its other end, as the code has read them
+-- ---- one edge i at u: s and v are its cost and its other end, as the code has read them
 module _ (edges lines : Bytes) (n u i : ℕ) (ends : someEdgeBroken n edges ≡ false) (h : i < edgeCount edges) (end : EndAt edges lines u i)
     (first second v s : ℕ) (p : first ≡ edge edges i .first) (q : second ≡ edge edges i .second) (o : Other first second u v)
-    (r : left (holds (linesIn lines) i) (edge edges i) ≡ leftIn s (edge edges i)) where
+    (r : s ≡ costLeft (holds (linesIn lines) i) (edge edges i)) where
   here : LeftAt edges lines n u (record { edge = i; stop = 0; link = 0; size = 0 }) (record { to = v; cost = s; edge = i; stop = 0; link = 0; size = 0 })
   here = left-some edges lines n u (record { edge = i; stop = 0; link = 0; size = 0 }) ends h end first second v s p q o r
 
   pub end-in : v < n
   end-in = here .inside h
+
+  pub cost-low : (s ≡ noWalk → ⊥) → s ≤ maxCost
+  cost-low = here .low
 
   pub one-arc : (s ≡ noWalk → ⊥) → leaving u (arcsLeft edges lines i) ≡ record { from = u; to = v; cost = s } ∷ []
   one-arc d = here .arc h ∙ rw (ne-eqb s noWalk d)

@@ -4,7 +4,6 @@ use native.Mathlib.Omega.{arith}
 use mathlib.Core.Path.{_≡_, refl, sym, ap, _∙_}
 use mathlib.Core.List.{List, [], _∷_, _++_}
 use lib.ListN.{length, take, drop}
-use lib.Seq.{take-take}
 use Rattle.model.specs.Bytes.{Bytes}
 use Rattle.model.specs.Walk.{Arc}
 use Rattle.algorithms.specs.Dijkstra.{at, relax, relax-all, relax-all-le, relax-all-same, relax-append}
@@ -15,7 +14,8 @@ use Rattle.words.specs.Frames.{KeptFrom}
 use Rattle.search.specs.Holds.{Holds, Relaxed, SettledWithin}
 use Rattle.arcs.proofs.Kept.{passes-kept, edges-kept}
 use Rattle.words.specs.Times.{time}
-use Rattle.words.proofs.TimeLaws.{time-at}
+use Rattle.words.proofs.TimeLaws.{time-at, times-front}
+use Rattle.words.proofs.Windows.{times-fit}
 use Rattle.words.specs.Regions.{frontIn, timesIn, searchWords}
 use Rattle.words.proofs.Parts.{front-is, front-others}
 use Rattle.arcs.specs.declared.leaving.ArcAt.{ArcAt}
@@ -26,7 +26,7 @@ relaxed-as n e d d′ w w′ r t p = rw p at t
 
 -- d is the time of u, as it is read in all the words.
 pub time-read : (n u : ℕ) (w : List ℕ) → u < n → (d : ℕ) → d ≡ time n w u → at (timesIn n (frontIn n w)) u ≡ d
-time-read n u w i d e = ap (λ (l : List ℕ). at l u) (take-take n (searchWords n) w (omega arith)) ∙ (time-at n w u i ∙ sym e)
+time-read n u w i d e = ap (λ (l : List ℕ). at l u) (times-front n (searchWords n) w (times-fit n)) ∙ (time-at n w u i ∙ sym e)
 
 -- From w₀ to w, with k nodes held: the arcs that the walk has passed are relaxed.
 pub record RelaxedArcs (b lines : Bytes) (n e u d : ℕ) (w₀ : List ℕ) (a : ArcAt) (w : List ℕ) (k : ℕ) : Type 0 where

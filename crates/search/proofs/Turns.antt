@@ -5,9 +5,11 @@ use mathlib.Core.Path.{_≡_, refl, ap, _∙_}
 use mathlib.Core.Logic.{_⊎_, inl, inr, ⊎-elim}
 use mathlib.Core.List.{List, []}
 use lib.ListN.{set, take, drop, replicate, length-take, drop-of-length-le}
-use Rattle.model.specs.Network.{maxNodes, maxSeconds}
+use Rattle.model.specs.Lists.{Distinct}
+use Rattle.model.specs.Network.{maxNodes}
 use Rattle.model.specs.Oracle.{noWalk}
 use Rattle.model.specs.Walk.{Arc}
+use Rattle.theory.specs.Sound.{maxCost}
 use Rattle.algorithms.specs.Dijkstra.{at, relax-all, at-set}
 use Rattle.algorithms.specs.Rounds.{Found, State, state-first, state-turn, state-found}
 use Rattle.arcs.specs.Arcs.{leaving}
@@ -17,7 +19,7 @@ use Rattle.search.specs.Held.{time-in}
 use Rattle.search.specs.Round.{Settles, Round}
 use Rattle.search.proofs.Keeps.{unsettled-below}
 use Rattle.words.specs.Regions.{timesIn, orderIn, settledIn}
-use Rattle.search.specs.Order.{Distinct, settleOrder}
+use Rattle.search.specs.Order.{settleOrder}
 
 -- ---- a round: u is settled, from w to w₁
 module _ (n k e u : ℕ) (w w₁ : List ℕ) (t : Settles n k e w w₁ u) where
@@ -72,13 +74,18 @@ module _ (arcs : List Arc) (n s : ℕ) (few : n ≤ maxNodes) (s-in : s < n) (fa
     -- No node is held, so none is reached that is not settled.
     all-settled : k ≡ 0 → (v : ℕ) → v < n → at (settledIn n w) v ≡ 0 → at (timesIn n w) v ≡ noWalk
     all-settled z v i f =
-        omega (arith, time-in n w v i, g .holds .queue .unreached v i (omega arith) (unsettled-below n k e v w (g .holds) i f), g .state .inv .fits v)
+        omega (
+          arith,
+          time-in n w (g .holds .two) v i,
+          g .holds .queue .unreached v i (omega arith) (unsettled-below n k e v w (g .holds) i f),
+          g .state .inv .fits v,
+        )
 
     pub last : k ≡ 0 → (w′ : List ℕ) → timesIn n w′ ≡ timesIn n w → orderIn n e w′ ≡ settleOrder n e w
         → Found arcs n s (timesIn n w′) (orderIn n e w′) × (e ≤ n) × Distinct (orderIn n e w′)
     last z w′ p q =
         rw (p, q) (
-          state-found arcs n s (fair .within) s-in (timesIn n w) (settledIn n w) (settleOrder n e w) (g .state) maxSeconds (fair .cost)
+          state-found arcs n s (fair .within) s-in (timesIn n w) (settledIn n w) (settleOrder n e w) (g .state) maxCost (fair .cost)
               (omega arith) (all-settled z),
           g .holds .queue .room,
           g .once,

@@ -1,5 +1,5 @@
 -- A search up to the wanted nodes: how many are lacking between its rounds, and what is found at its stop. Assumes nothing.
-use Prim.Native.Nat.{ℕ, _+_, _-_, _≤_, _<_}
+use Prim.Native.Nat.{ℕ, _+_, _-_, _/_, _≤_, _<_}
 use native.Mathlib.Decide.{ℕ-discrete}
 use native.Mathlib.Omega.{arith}
 use mathlib.Core.Path.{_≡_, refl, sym, ap, _∙_}
@@ -7,17 +7,19 @@ use mathlib.Core.Logic.{_⊎_, inl, inr}
 use mathlib.Core.Bool.{Bool, true, false}
 use mathlib.Core.List.{List, _∷_}
 use borrow.Rule.Slice.PartMut.{midOf}
-use lib.ListN.{length, getD, set, take, drop, replicate, List·getD-map}
+use lib.ListN.{length, getD, set, take, drop, replicate, length-drop, List·getD-map}
 use lib.Seq.{getD-take, getD-drop}
-use Rattle.model.specs.Network.{maxNodes, maxSeconds}
+use Rattle.model.specs.Network.{maxNodes}
 use Rattle.model.specs.Walk.{Arc}
+use Rattle.theory.specs.Sound.{maxCost}
 use Rattle.algorithms.specs.Dijkstra.{at}
 use Rattle.algorithms.specs.Stops.{Stopped, lacking, lacking-wanted, lacking-other, lacking-none, found-stopped, state-stopped}
 use Rattle.arcs.proofs.Bodies.{Bounded}
-use Rattle.bitset.specs.Bits.{isIn, flags}
+use Rattle.model.specs.Rules.{workWords}
+use Rattle.bitset.specs.Bits.{setWords, isIn, flags}
 use Rattle.bitset.proofs.Members.{flag-in, flag-out}
 use Rattle.heap.specs.Words.{low}
-use Rattle.words.specs.Frames.{KeptFrom}
+use Rattle.words.specs.Frames.{Enough, KeptFrom}
 use Rattle.search.specs.Round.{Round}
 use Rattle.search.proofs.Turns.{Standing, next, last}
 use Rattle.words.specs.Regions.{frontIn, timesIn, orderIn, settledIn, wantIn, searchWords}
@@ -25,6 +27,18 @@ use Rattle.search.specs.Order.{settleOrder}
 use Rattle.words.proofs.Parts.{back-part}
 
 -- ---- the bit of a node in the wanted set
+
+-- m is its place, as the code has it.
+want-fits : (n : ℕ) → 0 < n → searchWords n + setWords n ≤ workWords n
+want-fits n h = omega arith
+
+within : (m s l v k : ℕ) → m + s ≤ k → k ≤ l → v < s → v < l - m
+within m s l v k h r i = omega arith
+
+pub want-bit : (n m v : ℕ) (w : List ℕ) → m ≡ searchWords n → Enough n w → v < n → v / 32 < length (midOf m (length w - m) w)
+want-bit n m v w e long i = rw (back-part w m, length-drop, e)
+    (within (searchWords n) (setWords n) (length w) (v / 32) (workWords n) (want-fits n (omega arith)) long (omega arith))
+
 module _ (n : ℕ) (w : List ℕ) (v : ℕ) (i : v < n) where
   pub want-set : isIn (midOf (searchWords n) (length w - searchWords n) w) v ≡ true → at (wantIn n w) v ≡ 1
   unfolding wantIn
@@ -91,7 +105,7 @@ module _ (arcs : List Arc) (n s : ℕ) (small : n ≤ maxNodes) (s-in : s < n) (
     stop z w′ p q = (pick z, g .standing .holds .queue .room)
       where
         pick : (k ≡ 0) ⊎ (left ≡ 0) → Stopped arcs n s want (timesIn n w′) (orderIn n e w′)
-        pick (inl y) = found-stopped arcs n s (fair .within) s-in maxSeconds (fair .cost) (omega arith) (timesIn n w′) (orderIn n e w′)
+        pick (inl y) = found-stopped arcs n s (fair .within) s-in maxCost (fair .cost) (omega arith) (timesIn n w′) (orderIn n e w′)
             (last arcs n s small s-in fair k e w (g .standing) y w′ p q .0) want
         pick (inr y) =
             rw (p, q)

@@ -1,5 +1,6 @@
 // Dijkstra's method (document 002, 2.1) from one node, in the first of the lent words: to every node.
 ghost use Prim.Native.Nat.{_<_, _≤_};
+ghost use Rattle.model.specs.Lists.{Distinct};
 ghost use Rattle.model.specs.Network.{maxNodes};
 ghost use Rattle.algorithms.specs.Rounds.{Found};
 ghost use Rattle.sheet.specs.ArcsUnder.{arcsUnder};
@@ -8,7 +9,6 @@ ghost use Rattle.arcs.specs.Leaving.{EdgesUnder};
 ghost use Rattle.index.specs.Index.{IndexedEdges};
 ghost use Rattle.words.specs.Regions.{timesIn, orderIn, searchWords};
 ghost use Rattle.words.specs.Frames.{Enough, KeptFrom};
-ghost use Rattle.search.specs.Order.{Distinct};
 use crate::rounds::begin;
 use crate::rounds::finish;
 use crate::rounds::round;

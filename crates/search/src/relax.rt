@@ -2,9 +2,10 @@
 ghost use mathlib.Core.Path.{_≡_};
 ghost use mathlib.Core.Bool.{false};
 ghost use mathlib.Core.List.{[]};
-ghost use Prim.Native.Nat.{_<_};
+ghost use Prim.Native.Nat.{_<_, _≤_};
 ghost use Rattle.algorithms.specs.Dijkstra.{at, relax-all};
 ghost use Rattle.model.specs.Network.{edgeCount, someEdgeBroken};
+ghost use Rattle.model.specs.Oracle.{noWalk};
 ghost use Rattle.sheet.specs.ArcsUnder.{arcsUnder, arcsLeft};
 ghost use Rattle.sheet.specs.Spans.{SpannedIn};
 ghost use Rattle.arcs.specs.Arcs.{leaving};
@@ -22,7 +23,7 @@ use codec::records::EDGE_SIZE;
 use codec::records::NO_WALK;
 use codec::records::edge_first;
 use codec::records::edge_second;
-use sheet::spans::seconds_left;
+use sheet::spans::cost_left;
 use words::regions::search_words;
 use words::times::time_of;
 
@@ -35,7 +36,7 @@ fn relax_plain(edges: &[u8], work: &mut [u32], n: usize, k: usize, e: usize, u: 
         (frontIn n (now (work .entry))) (frontIn n (now (work .exit))) r ⌝ }
     ensures others { λ _. ⌜ KeptFrom (searchWords n) (now (work .entry)) (now (work .exit)) ⌝ }
 {
-    let d = time_of(work, n, u) as u64;
+    let d = time_of(work, n, u);
     let front = search_words(n);
     let mut held = k;
     let c = first_edge(edges, n, work, u);
@@ -47,8 +48,7 @@ fn relax_plain(edges: &[u8], work: &mut [u32], n: usize, k: usize, e: usize, u: 
     held
 }
 
-// The edge i at u as the lines of a sheet leave it: unless they close it, its other end can be reached by it, in d seconds and its own. The number of nodes
-// held.
+// The edge i at u as the lines of a sheet leave it: unless they close it, its other end can be reached by it, in d and its cost. The number of nodes held.
 fn offer_edge(
     edges: &[u8],
     lines: &[u8],
@@ -60,20 +60,20 @@ fn offer_edge(
     d: u64,
     i: usize,
 ) -> usize
-    requires { ⌜ Holds n k e (frontIn n (now work)) × SettledWithin n d (frontIn n (now work)) × Enough n (now work) × (d < 4294967296) ⌝ }
+    requires { ⌜ Holds n k e (frontIn n (now work)) × SettledWithin n d (frontIn n (now work)) × Enough n (now work) × (d ≤ noWalk) ⌝ }
     requires { ⌜ (someEdgeBroken n (now edges) ≡ false) × (i < edgeCount (now edges)) × EndAt (now edges) (now lines) u i
         × SpannedIn (now lines) n (now work) ⌝ }
     ensures relaxed { λ r. ⌜ Relaxed n e (relax-all d (leaving u (arcsLeft (now (edges .entry)) (now (lines .entry)) i))
         (timesIn n (frontIn n (now (work .entry))))) (frontIn n (now (work .entry))) (frontIn n (now (work .exit))) r ⌝ }
     ensures others { λ _. ⌜ KeptFrom (searchWords n) (now (work .entry)) (now (work .exit)) ⌝ }
 {
-    let s = seconds_left(edges, lines, n, work, i);
-    if s == NO_WALK {
+    let cost = cost_left(edges, lines, n, work, i);
+    if cost == NO_WALK {
         return k;
     }
     let v = other_end(edge_first(edges, i), edge_second(edges, i), u);
     let front = search_words(n);
-    offer_in(&mut work[..front], n, k, e, v, d + s as u64)
+    offer_in(&mut work[..front], n, k, e, v, d + cost)
 }
 
 // The same over the edges as the lines leave them.
@@ -93,7 +93,7 @@ fn relax_under(
         (frontIn n (now (work .entry))) (frontIn n (now (work .exit))) r ⌝ }
     ensures others { λ _. ⌜ KeptFrom (searchWords n) (now (work .entry)) (now (work .exit)) ⌝ }
 {
-    let d = time_of(work, n, u) as u64;
+    let d = time_of(work, n, u);
     let m = edges.len() / EDGE_SIZE;
     let mut held = k;
     let mut c = first_edge(edges, n, work, u);

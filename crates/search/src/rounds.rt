@@ -19,7 +19,7 @@ use words::regions::search_words;
 
 // Only s is reached, and no node is settled. The number of nodes held.
 pub fn begin(work: &mut [u32], n: usize, s: usize) -> usize
-    requires { ⌜ (n ≤ maxNodes) × (s < n) × (searchWords n ≤ length (now work)) ⌝ }
+    requires { ⌜ (2 ≤ n) × (n ≤ maxNodes) × (s < n) × (searchWords n ≤ length (now work)) ⌝ }
     ensures holds { λ r. ⌜ Holds n r n (frontIn n (now (work .exit))) ⌝ }
     ensures times { λ _. ⌜ timesIn n (frontIn n (now (work .exit))) ≡ set (replicate n noWalk) s 0 ⌝ }
     ensures settled { λ _. ⌜ settledIn n (frontIn n (now (work .exit))) ≡ replicate n 0 ⌝ }

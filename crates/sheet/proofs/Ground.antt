@@ -76,14 +76,13 @@ module _ (b lines : Bytes) (n : ℕ) (ends : someEdgeBroken n b ≡ false) (slow
         second-in = omega (arith, r .second-in, c .second);
         apart = λ q. r .apart (c .first ∙ (q ∙ sym (c .second)));
         at-most = ltb-false maxSeconds (e .seconds) (unfold tooSlow in none-any tooSlow (leftUnder b lines) slow m);
-        at-least = omega (arith, r .at-least, c .seconds);
       }
 
   pub arcs-within : Within n (arcsUnder b lines)
   unfolding arcsUnder
   arcs-within = sound.arcs-within n (leftUnder b lines) left-fine
 
-  pub arcs-cost : Costs maxSeconds (arcsUnder b lines)
+  pub arcs-cost : Costs sound.maxCost (arcsUnder b lines)
   unfolding arcsUnder
   arcs-cost = sound.arcs-cost n (leftUnder b lines) left-fine
 

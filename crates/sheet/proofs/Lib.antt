@@ -3,7 +3,7 @@ pub mod Effects
 pub mod Abouts
 pub mod Lasts
 pub mod Noting
-pub mod Seconds
+pub mod Costs
 pub mod Ground
 pub mod Forms
 pub mod SlowLines

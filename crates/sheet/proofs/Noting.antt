@@ -3,15 +3,16 @@ use Prim.Native.Nat.{ℕ, suc, _+_, _-_, _*_, _/_, _%_, _≤_, _<_}
 use native.Mathlib.Omega.{arith}
 use native.Mathlib.Nat.{mul-le-mul, zero-mul, mod-lt, div-mul-le-self, div-lt-iff-lt-mul}
 use native.Mathlib.Decide.{decLt, ℕ-discrete}
-use mathlib.Core.Path.{_≡_, sym, _∙_, ap, subst}
+use mathlib.Core.Path.{_≡_, refl, sym, _∙_, ap, subst}
 use mathlib.Core.List.{List, []}
 use lib.ListN.{length, getD, set, take, drop, length-set, length-drop}
 use lib.Seq.{getD-set-same, getD-set-other, getD-take, getD-drop, length-take-le}
 use borrow.Rule.Slice.PartMut.{midOf, putMid}
 use Rattle.model.specs.Bytes.{Bytes}
-use Rattle.words.specs.Regions.{spansAt, spanCount, spansIn}
+use Rattle.model.specs.Rules.{workWords}
+use Rattle.words.specs.Regions.{spansAt, spanCount, spansIn, indexAt}
 use Rattle.words.specs.Frames.{Enough, KeptFrom, OnlyIn}
-use Rattle.words.proofs.Windows.{put-only, put-part}
+use Rattle.words.proofs.Windows.{put-only, put-part, room-left, index-fits}
 use Rattle.sheet.specs.Sheet.{line, lineCount}
 use Rattle.sheet.specs.Spans.{blockLines, spanOf, InSpan, Spanned, SpannedTo, SpannedIn, Widened}
 
@@ -99,17 +100,34 @@ module _ (lines : Bytes) (k size e j r : ℕ) (spans : List ℕ) (some : 0 < len
       pick i h (no d) = older i (omega arith)
 
 -- ---- in the working words
-spans-length : (n : ℕ) (w : List ℕ) → 2 ≤ n → n ≤ 4096 → Enough n w → length (spansIn n w) ≡ spanCount n
-unfolding spansIn
-spans-length n w two few long = length-take-le (spanCount n) (drop (spansAt n) w) (simp length-drop (omega arith))
 
-pub span-read : (n : ℕ) (w : List ℕ) (a c i : ℕ) → 2 ≤ n → n ≤ 4096 → Enough n w → a ≡ spansAt n → c ≡ spanCount n
+-- Some spans, within the words: a and m are their place and number.
+between : (s i k l a m : ℕ) → s + 2 < i → i + k ≤ l → a ≡ s → m ≡ i - s → (0 < m) × (a + m ≤ l)
+between s i k l a m h r p q = (omega arith, omega arith)
+
+pub spans-room : (n : ℕ) → 2 ≤ n → (a m : ℕ) → a ≡ spansAt n → m ≡ spanCount n → (0 < m) × (a + m ≤ workWords n)
+spans-room n two a m p q = between (spansAt n) (indexAt n) n (workWords n) a m (room-left n two .1) (index-fits n two) p q
+
+pub span-place : (n : ℕ) → 2 ≤ n → (a m i : ℕ) → a ≡ spansAt n → m ≡ spanCount n → a + i % m < workWords n
+span-place n two a m i p q = let r = spans-room n two a m p q in omega (arith, r .1, mod-lt i {m = m} (r .0))
+
+part-size : (a m k : ℕ) (w : List ℕ) → a + m ≤ k → k ≤ length w → length (take m (drop a w)) ≡ m
+part-size a m k w r h = length-take-le m (drop a w) (simp length-drop (omega arith))
+
+spans-length : (n : ℕ) (w : List ℕ) → 2 ≤ n → Enough n w → length (spansIn n w) ≡ spanCount n
+unfolding spansIn
+spans-length n w two long = part-size (spansAt n) (spanCount n) (workWords n) w (spans-room n two (spansAt n) (spanCount n) refl refl .1) long
+
+span-word : (n : ℕ) (w : List ℕ) (j : ℕ) → j < spanCount n → getD (spansIn n w) j 0 ≡ getD w (spansAt n + j) 0
+unfolding spansIn
+span-word n w j h = getD-take (spanCount n) (drop (spansAt n) w) j 0 h ∙ getD-drop (spansAt n) w j 0
+
+pub span-read : (n : ℕ) (w : List ℕ) (a c i : ℕ) → 2 ≤ n → Enough n w → a ≡ spansAt n → c ≡ spanCount n
     → getD w (a + i % c) 0 ≡ spanOf (spansIn n w) i
 unfolding spanOf
-span-read n w a c i two few long p q =
-    let l : i % spanCount n < spanCount n = mod-lt i {m = spanCount n} (omega arith) in
-    rw (p, q, spans-length n w two few long)
-    (unfold spansIn in sym (getD-take (spanCount n) (drop (spansAt n) w) (i % spanCount n) 0 l ∙ getD-drop (spansAt n) w (i % spanCount n) 0))
+span-read n w a c i two long p q =
+    rw (p, q, spans-length n w two long)
+    (sym (span-word n w (i % spanCount n) (mod-lt i {m = spanCount n} (spans-room n two (spansAt n) (spanCount n) refl refl .0))))
 
 -- The spans lent, and come back: a and m are their place and number, as the code has them.
 module _ (n a m : ℕ) (w : List ℕ) (p : a ≡ spansAt n) (q : m ≡ spanCount n) (h : a + m ≤ length w) (ys : List ℕ)

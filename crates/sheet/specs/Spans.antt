@@ -2,15 +2,14 @@
 -- The lines are counted in blocks, of one line each up to 65,534 lines. A word holds the first block, times 65536, and one more than the last block of the
 -- lines about the edges that share it: edge i has word i % (number of words). 0 is no block.
 use Prim.Native.Nat.{ℕ, _+_, _*_, _/_, _%_, _<_, _≤_}
-use mathlib.Core.Bool.{cond}
-use mathlib.Core.List.{List, [], _∷_}
+use mathlib.Core.List.{List}
 use lib.ListN.{length, getD}
-use lib.Dec.{eqb}
 use Rattle.model.specs.Bytes.{Bytes}
+use Rattle.model.specs.Pair.{key}
 use Rattle.model.specs.Network.{Edge}
 use Rattle.model.specs.Oracle.{noWalk}
 use Rattle.words.specs.Regions.{spansIn}
-use Rattle.sheet.specs.Sheet.{line, lineCount}
+use Rattle.sheet.specs.Sheet.{line, lineCount, Effect, Effect.shut, Effect.delayed}
 
 -- Lines to a block.
 unfoldable pub blockLines : Bytes → ℕ
@@ -49,6 +48,7 @@ pub record Widened (x q r : ℕ) : Type 0 where
 abbrev pub SpannedIn : Bytes → ℕ → List ℕ → Type 0
 SpannedIn lines n w = Spanned lines (spansIn n w)
 
--- What is left of an edge, as the code has its seconds: 'no walk' for nothing.
-unfoldable pub leftIn : ℕ → Edge → List Edge
-leftIn s e = cond (eqb s noWalk) [] (record { first = e .first; second = e .second; seconds = s } ∷ [])
+-- What an edge costs as an effect leaves it: the key of its seconds and one hop, or 'no walk' where nothing is left.
+unfoldable pub costLeft : Effect → Edge → ℕ
+costLeft shut e = noWalk
+costLeft (delayed n) e = key (e .seconds + n) 1

@@ -1,4 +1,4 @@
-// Day sheets (document 02, T-03): their lines, rules 18 to 20, and the seconds of an edge under one.
+// Day sheets (document 02, T-03): their lines, rules 18 to 20, and the cost of an edge under one.
 pub mod form;
 pub mod lines;
 pub mod names;

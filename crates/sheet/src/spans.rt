@@ -1,21 +1,21 @@
-// Where the lines about an edge stand, noted in the working words, and the seconds of an edge under a sheet.
+// Where the lines about an edge stand, noted in the working words, and the cost of an edge under a sheet.
 ghost use mathlib.Core.Path.{_≡_};
 ghost use Prim.Native.Nat.{ℕ, _+_, _*_, _/_, _%_, _<_, _≤_, min, max};
 ghost use lib.ListN.{length};
-ghost use Rattle.model.specs.Network.{maxNodes, maxSeconds, edge, edgeCount};
+ghost use Rattle.model.specs.Network.{maxNodes, edge, edgeCount};
 ghost use Rattle.words.specs.Regions.{spansAt, spanCount, spansIn};
 ghost use Rattle.words.specs.Frames.{Enough, OnlyIn};
-ghost use Rattle.sheet.specs.Sheet.{line, lineCount, linesIn, holds, Effect.delayed};
-ghost use Rattle.sheet.specs.Under.{left};
+ghost use Rattle.sheet.specs.Sheet.{line, lineCount, linesIn, holds};
 ghost use Rattle.sheet.specs.Codes.{effectIn};
-ghost use Rattle.sheet.specs.Spans.{blockLines, spanOf, InSpan, Spanned, SpannedTo, SpannedIn, Widened, leftIn};
+ghost use Rattle.sheet.specs.Spans.{blockLines, spanOf, InSpan, Spanned, SpannedTo, SpannedIn, Widened, costLeft};
 use crate::lines::LINE_SIZE;
 use crate::lines::SHUT;
 use crate::lines::effect_among;
 use crate::lines::line_edge;
 use bitset::words::fill;
+use codec::keys::edge_key;
+use codec::records::HOP_BASE;
 use codec::records::NO_WALK;
-use codec::records::edge_seconds;
 use words::regions::span_count;
 use words::regions::spans_at;
 
@@ -97,7 +97,7 @@ pub fn note_lines(lines: &[u8], n: usize, work: &mut [u32])
     note_all(lines, &mut work[a..e]);
 }
 
-// ---- the seconds of an edge
+// ---- the cost of an edge
 
 // The word of edge i.
 fn span_of(work: &[u32], n: usize, i: usize) -> u32
@@ -122,21 +122,20 @@ fn effect_in(lines: &[u8], x: u32, i: usize) -> u64
     effect_among(lines, first, m, i)
 }
 
-// The seconds of edge i as the lines leave it, or 'no walk' where they close it. An edge that shares no span with a line costs one word.
-pub fn seconds_left(edges: &[u8], lines: &[u8], n: usize, work: &[u32], i: usize) -> u32
+// The cost of edge i as the lines leave it, or 'no walk' where they close it. For an edge that shares no span with a line one word is read.
+pub fn cost_left(edges: &[u8], lines: &[u8], n: usize, work: &[u32], i: usize) -> u64
     requires { ⌜ (2 ≤ n) × (n ≤ maxNodes) × Enough n (now work) × SpannedIn (now lines) n (now work) ⌝ }
-    requires { ⌜ (i < edgeCount (now edges)) × (edge (now edges) i .seconds ≤ maxSeconds) ⌝ }
-    requires { ⌜ ((x : ℕ) → holds (linesIn (now lines)) i ≡ delayed x → edge (now edges) i .seconds + x ≤ maxSeconds) ⌝ }
-    ensures { λ r. ⌜ left (holds (linesIn (now (lines .entry))) i) (edge (now (edges .entry)) i) ≡ leftIn r (edge (now (edges .entry)) i) ⌝ }
+    requires { ⌜ i < edgeCount (now edges) ⌝ }
+    ensures { λ r. ⌜ r ≡ costLeft (holds (linesIn (now (lines .entry))) i) (edge (now (edges .entry)) i) ⌝ }
 {
-    let s = edge_seconds(edges, i);
+    let cost = edge_key(edges, i);
     let x = span_of(work, n, i);
     if x == 0 {
-        return s;
+        return cost;
     }
-    let f = effect_in(lines, x, i);
-    if SHUT <= f {
+    let added = effect_in(lines, x, i);
+    if SHUT <= added {
         return NO_WALK;
     }
-    s + f as u32
+    cost + added * HOP_BASE
 }

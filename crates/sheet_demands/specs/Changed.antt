@@ -7,6 +7,7 @@ use mathlib.Core.List.{List·Memᴰ, List·Memᴰ·head, List·Memᴰ·tail}
 use Rattle.model.specs.Lists.{concatMap}
 use Rattle.model.specs.Bytes.{Bytes}
 use Rattle.model.specs.Contents.{edgeBody}
+use Rattle.model.specs.Pair.{key}
 use Rattle.model.specs.Walk.{Arc}
 use Rattle.model.specs.Network.{Edge, Network, network, edge, order, arcsOf, arcs}
 use Rattle.theory.specs.Members.{→concatMap}
@@ -57,26 +58,26 @@ module _ (effect : ℕ → Effect) (f : Bytes) where
   unfolding arcs arcsOf
   slower = arc-of (Was (arcs (network f))) (net .edges) (λ e m. onward (was m)) (λ e m. homeward (was m))
     where
-      onward : {e : Edge} → Comes (network f .edges) e → Was (concatMap arcsOf (network f .edges)) (e .first) (e .second) (e .seconds)
+      onward : {e : Edge} → Comes (network f .edges) e → Was (concatMap arcsOf (network f .edges)) (e .first) (e .second) (key (e .seconds) 1)
       onward c =
           let x : Edge = c .old in
           record {
-            arc = record { from = x .first; to = x .second; cost = x .seconds };
+            arc = record { from = x .first; to = x .second; cost = key (x .seconds) 1 };
             listed = →concatMap arcsOf (network f .edges) (c .listed) (List·Memᴰ·head refl);
             starts = c .first;
             ends = c .second;
-            cost = c .seconds;
+            cost = omega (arith, c .seconds);
           }
 
-      homeward : {e : Edge} → Comes (network f .edges) e → Was (concatMap arcsOf (network f .edges)) (e .second) (e .first) (e .seconds)
+      homeward : {e : Edge} → Comes (network f .edges) e → Was (concatMap arcsOf (network f .edges)) (e .second) (e .first) (key (e .seconds) 1)
       homeward c =
           let x : Edge = c .old in
           record {
-            arc = record { from = x .second; to = x .first; cost = x .seconds };
+            arc = record { from = x .second; to = x .first; cost = key (x .seconds) 1 };
             listed = →concatMap arcsOf (network f .edges) (c .listed) (List·Memᴰ·tail (List·Memᴰ·head refl));
             starts = c .second;
             ends = c .first;
-            cost = c .seconds;
+            cost = omega (arith, c .seconds);
           }
 
   pub sane : Sound f → Sane net

@@ -1,11 +1,13 @@
 -- ---- the words and the laws
 pub mod SheetOutcomes
+pub mod Keyed
 pub mod Slower
 pub mod Changed
 pub mod LineLaws
 pub mod DrivenLaws
 pub mod UnderLaws
 pub mod UnderCalls
+pub mod EmptySheets
 pub mod SheetLaws
 pub mod Former
 pub mod FormerLaws

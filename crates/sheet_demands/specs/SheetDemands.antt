@@ -1,4 +1,4 @@
--- What document 02 promises under a day sheet (T-03, T-05), over the calls: each statement is about any outcome that keeps the calls' contracts.
+-- What document 02 promises under a day sheet (T-03, T-05, T-07), over the calls: each statement is about any outcome that keeps the calls' contracts.
 -- `TimeUnderCall` and `WayUnderCall` are the contracts of the time and the way under a sheet, `TimeCall` and `WayCall` those of `time` and `way`.
 -- `roads f sheet` are the arcs that the sheet leaves of a file's roads. The other words used here are defined in `SheetOutcomes`, in `sheet`, Sheet,
 -- and in `demands`, Outcomes; the proofs are in `SheetLaws` and below it. Assumes nothing.
@@ -11,9 +11,10 @@ use lib.ListN.{length}
 use Rattle.model.specs.Lists.{member}
 use Rattle.model.specs.Bytes.{Bytes}
 use Rattle.model.specs.Contents.{nodeBody}
-use Rattle.model.specs.Walk.{Arc, Walk, LeastOf}
+use Rattle.model.specs.Pair.{Pair}
+use Rattle.model.specs.Walk.{Arc, LeastOf, PairWalk}
 use Rattle.model.specs.Distance.{Distance}
-use Rattle.model.specs.Network.{Edge, network, nodeCount, arcs, distance}
+use Rattle.model.specs.Network.{Edge, network, nodeCount, timedArcs, arcs, distance}
 use Rattle.model.specs.Query.{ruleOf, nexts, way}
 use Rattle.model.specs.Rules.{firstBroken, networkRules, shapeRules, pairRules, wellShaped, wordsNeeded}
 use Rattle.model.specs.Calls.{Build, TimeCall, WayCall}
@@ -21,12 +22,12 @@ use Rattle.model.specs.declared.Division.{Division}
 use Rattle.model.specs.declared.Kind.{Kind}
 use Rattle.model.specs.declared.Kind.the-variants.{Local}
 use Rattle.model.specs.declared.Answer.{Answer}
-use Rattle.model.specs.declared.Answer.the-variants.{Time, None}
+use Rattle.model.specs.declared.Answer.the-variants.{None}
 use Rattle.model.specs.declared.Built.{Built}
 use Rattle.model.specs.declared.Route.{Route}
 use Rattle.theory.specs.Way.{Exact, Step}
 use Rattle.theory.specs.Passed.{all-shaped}
-use Rattle.demands.specs.Outcomes.{Refuses, handed, Answers, WayWritten}
+use Rattle.demands.specs.Outcomes.{Refuses, handed, timed, Answers, WayWritten}
 use Rattle.sheet.specs.Sheet.{Line, Effect.shut, Effect.delayed, lineCount, lineBody, closes, effectOf, holds, NoneCloses, Last, effects, sheetBroken}
 use Rattle.sheet.specs.Under.{networkUnder, slowBroken, stillDriven, oldStands, wayUnder}
 use Rattle.sheet.specs.SheetCalls.{sheetRules, pairUnderRules, timeUnderRules, wayUnderRules, TimeUnderCall, WayUnderCall}
@@ -35,6 +36,7 @@ use Rattle.sheet_demands.specs.SheetOutcomes.{Left, Slowed, roads, Betwe
 use Rattle.sheet_demands.specs.Changed as changed
 use Rattle.sheet_demands.specs.LineLaws as lines
 use Rattle.sheet_demands.specs.DrivenLaws as drives
+use Rattle.sheet_demands.specs.EmptySheets as empty
 use Rattle.sheet_demands.specs.SheetLaws as laws
 use Rattle.sheet_demands.specs.Former.{lastHolds, formerly, Reopened, Reopening, TimeBy, WayBy}
 use Rattle.sheet_demands.specs.FormerLaws as former
@@ -84,8 +86,8 @@ road-was f sheet m = changed.was-there (effects sheet) f m
 -- ==== Under a sheet over any well-shaped oracle, built or not
 
 -- "Its every step can still be driven in its old time." Where d is exact over the old arcs, the arc by which a step of a least walk was taken has the
--- least seconds between its two nodes, and the step is still driven just where some new arc between the two, the same road's or one beside it, takes
--- just as many.
+-- least cost between its two nodes, and the step is still driven just where some new arc between the two, the same road's or one beside it, costs just as
+-- much. (Each is one road, so its cost as a key is as good as its seconds: `still-driven` says the same in seconds.)
 module _ (old : List Arc) (t : ℕ) (d : ℕ → Distance) (exact : Exact old t d) {u v : ℕ} (step : Step d old u v) where
   pub step-least : LeastOf (Between old u v) (step .arc .cost)
   step-least = drives.step-least old t d exact step
@@ -94,15 +96,15 @@ module _ (old : List Arc) (t : ℕ) (d : ℕ → Distance) (exact : Exact old t 
   step-again new = drives.step-again old t d exact step new
 
 module _ (o : Bytes) (shaped : wellShaped o ≡ true) (sheet : Bytes) (s t : ℕ) (hs : s < nodeCount (nodeBody o)) (ht : t < nodeCount (nodeBody o)) where
-  -- The same of all steps of the old way.
-  pub still-driven : (stillDriven (λ v. distance (network o) v t) (roads o sheet) (way (network o) s t) ≡ true)
-      ↔ Driven (arcs (network o)) (roads o sheet) (way (network o) s t)
+  -- The same of all steps of the old way, in seconds.
+  pub still-driven : (stillDriven (λ v. distance (network o) v t) (arcs (networkUnder (effects sheet) o)) (way (network o) s t) ≡ true)
+      ↔ Driven (timedArcs (network o)) (roads o sheet) (way (network o) s t)
   still-driven = laws.still-driven o shaped sheet s t hs ht
 
   -- "If there is an old way and its every step can still be driven in its old time, or the old answer was 'none'", b being the old answer.
   pub stands-just : {others others′ : List ℕ} {b : Answer} → TimeCall o s t others b others′ → wordsNeeded o ≤ length others
       → (oldStands (effects sheet) o s t ≡ true) ↔
-      (((kind : Kind) × (pairs : ℕ) × (b ≡ None kind pairs)) ⊎ Driven (arcs (network o)) (roads o sheet) (way (network o) s t))
+      (((kind : Kind) × (pairs : ℕ) × (b ≡ None kind pairs)) ⊎ Driven (timedArcs (network o)) (roads o sheet) (way (network o) s t))
   stands-just = laws.stands-just o shaped sheet s t hs ht
 
   module _ (kept : firstBroken (sheetRules o sheet) ≡ 0) where
@@ -113,24 +115,24 @@ module _ (o : Bytes) (shaped : wellShaped o ≡ true) (sheet : Bytes) (s t : ℕ
       time-stands = laws.time-stands o shaped sheet s t hs ht kept query enough
 
       -- .. "otherwise the roads are searched and the answer is marked local with 0 pairs".
-      pub time-searched : oldStands (effects sheet) o s t ≡ false → Answers (Walk (roads o sheet) s t) Local 0 a
+      pub time-searched : oldStands (effects sheet) o s t ≡ false → Answers (PairWalk (roads o sheet) s t) Local 0 a
       time-searched = laws.time-searched o shaped sheet s t hs ht kept query enough
 
-    -- The way, over the oracle's own roads as the sheet leaves them: the nodes of a least walk, before which no other least walk's nodes come by node
-    -- numbers; where there is no walk it has no node.
+    -- The way, over the oracle's own roads as the sheet leaves them: the nodes of a walk with the least pair, before which no other such walk's nodes come by
+    -- node numbers; where there is no walk it has no node.
     module _ {words words′ : List ℕ} {room room′ : Bytes} {route : Route} (query : WayUnderCall o sheet s t words room route words′ room′)
         (enough : wordsNeeded o ≤ length words) (fits : 2 * length (wayUnder (effects sheet) o s t) ≤ length room) where
       pub way-under-succeeds : route .rule ≡ 0
       way-under-succeeds = laws.way-succeeds o shaped sheet s t hs ht kept query enough fits
 
-      pub way-under-first : {m : ℕ} → Walk (roads o sheet) s t m → (n : ℕ) × WayWritten (roads o sheet) s t n room route room′
+      pub way-under-first : {p : Pair} → PairWalk (roads o sheet) s t p → (q : Pair) × WayWritten (roads o sheet) s t q room route room′
       way-under-first = laws.way-first o shaped sheet s t hs ht kept query enough fits
 
-      pub way-under-none : ((n : ℕ) → Walk (roads o sheet) s t n → ⊥) → (route .nodes ≡ 0) × (room′ ≡ room)
+      pub way-under-none : ((p : Pair) → PairWalk (roads o sheet) s t p → ⊥) → (route .nodes ≡ 0) × (room′ ≡ room)
       way-under-none = laws.way-none o shaped sheet s t hs ht kept query enough fits
 
       -- Where the old way can still be driven, it is the way under the sheet: the call hands back and writes what `way` does.
-      pub way-again : Driven (arcs (network o)) (roads o sheet) (way (network o) s t)
+      pub way-again : Driven (timedArcs (network o)) (roads o sheet) (way (network o) s t)
           → {others others′ : List ℕ} {plain-room : Bytes} {plain-route : Route} → WayCall o s t others room plain-route others′ plain-room
           → wordsNeeded o ≤ length others → (route ≡ plain-route) × (room′ ≡ plain-room)
       way-again = laws.way-again o shaped sheet s t hs ht kept query enough fits
@@ -142,10 +144,11 @@ module _ {f : Bytes} {dv : Division} {work work′ : List ℕ} {out out′ : Byt
   abbrev o : Bytes
   o = handed r out′
 
-  -- Nothing is refused. The answer is a time n just where n is the least total over walks on the roads as the sheet leaves them, and 'none' just where
-  -- there is no walk on them; its kind and pairs are those of the old answer where that stands, else local and 0.
+  -- Nothing is refused. The answer is a time just where its seconds and hops are the least pair over walks on the roads as the sheet leaves them, and 'none'
+  -- just where there is no walk on them ("Least now means least pair, also under day sheets", T-07); its kind and pairs are those of the old answer where
+  -- that stands, else local and 0.
   pub time-under-built : {words words′ : List ℕ} {a : Answer} → TimeUnderCall o sheet s t words a words′ → wordsNeeded f ≤ length words
-      → Answers (Walk (roads f sheet) s t) (kindUnder o sheet s t) (pairsUnder o sheet s t) a
+      → Answers (PairWalk (roads f sheet) s t) (kindUnder o sheet s t) (pairsUnder o sheet s t) a
   time-under-built = laws.time-built call done sheet kept s t hs ht
 
   module _ {words words′ : List ℕ} {room room′ : Bytes} {route : Route} (query : WayUnderCall o sheet s t words room route words′ room′)
@@ -153,18 +156,18 @@ module _ {f : Bytes} {dv : Division} {work work′ : List ℕ} {out out′ : Byt
     pub way-built-succeeds : route .rule ≡ 0
     way-built-succeeds = laws.way-built-succeeds call done sheet kept s t hs ht query enough fits
 
-    -- The way's total is the time answered.
+    -- The way has as many seconds and roads as the answer says.
     pub way-under-built : {others others′ : List ℕ} {a : Answer} → TimeUnderCall o sheet s t others a others′ → wordsNeeded f ≤ length others
-        → {n pairs : ℕ} {kind : Kind} → a ≡ Time n kind pairs → WayWritten (roads f sheet) s t n room route room′
+        → {p : Pair} {pairs : ℕ} {kind : Kind} → a ≡ timed p kind pairs → WayWritten (roads f sheet) s t p room route room′
     way-under-built = laws.way-built call done sheet kept s t hs ht query enough fits
 
-    pub way-built-first : {m : ℕ} → Walk (roads f sheet) s t m → (n : ℕ) × WayWritten (roads f sheet) s t n room route room′
+    pub way-built-first : {p : Pair} → PairWalk (roads f sheet) s t p → (q : Pair) × WayWritten (roads f sheet) s t q room route room′
     way-built-first = laws.way-built-first call done sheet kept s t hs ht query enough fits
 
-    pub way-built-none : ((n : ℕ) → Walk (roads f sheet) s t n → ⊥) → (route .nodes ≡ 0) × (room′ ≡ room)
+    pub way-built-none : ((p : Pair) → PairWalk (roads f sheet) s t p → ⊥) → (route .nodes ≡ 0) × (room′ ≡ room)
     way-built-none = laws.way-built-none call done sheet kept s t hs ht query enough fits
 
-    pub way-built-again : Driven (arcs (network f)) (roads f sheet) (way (network f) s t)
+    pub way-built-again : Driven (timedArcs (network f)) (roads f sheet) (way (network f) s t)
         → {others others′ : List ℕ} {plain-room : Bytes} {plain-route : Route} → WayCall o s t others room plain-route others′ plain-room
         → wordsNeeded f ≤ length others → (route ≡ plain-route) × (room′ ≡ plain-room)
     way-built-again = laws.way-built-again call done sheet kept s t hs ht query enough fits
@@ -179,14 +182,14 @@ pub empty-way : (o sheet : Bytes) → sheetBroken sheet ≡ false → lineCount 
     → {work work′ plain-work : List ℕ} {out out′ plain-out : Bytes} {r plain-r : Route}
     → WayUnderCall o sheet s t work out r work′ out′ → WayCall o s t work out plain-r plain-work plain-out
     → (r ≡ plain-r) × (work′ ≡ plain-work) × (out′ ≡ plain-out)
-empty-way = laws.empty-way
+empty-way = empty.empty-way
 
 -- All that the time call does, where a time that is answered has an old way (a far time over an oracle that was never built need not have one: then
 -- the roads are searched) ..
 pub empty-time : (o sheet : Bytes) → sheetBroken sheet ≡ false → lineCount (lineBody sheet) ≡ 0 → (s t : ℕ)
     → {work work′ plain-work : List ℕ} {a b : Answer} → TimeUnderCall o sheet s t work a work′ → TimeCall o s t work b plain-work
     → HasWay o s t b → (a ≡ b) × (work′ ≡ plain-work)
-empty-time = laws.empty-time
+empty-time = empty.empty-time
 
 -- .. as it has over what `build` hands over.
 pub empty-built : {f : Bytes} {dv : Division} {work work′ : List ℕ} {out out′ : Bytes} {r : Built} → Build f dv work out r work′ out′ → r .rule ≡ 0

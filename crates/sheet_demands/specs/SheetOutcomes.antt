@@ -5,14 +5,14 @@ use mathlib.Core.Bool.{cond}
 use mathlib.Core.List.{List, [], _∷_}
 use Rattle.model.specs.Bytes.{Bytes}
 use Rattle.model.specs.Contents.{edgeBody}
-use Rattle.model.specs.Walk.{Arc, Mem, Walk, LeastOf}
-use Rattle.model.specs.Network.{Edge, network, edge, edgeCount, maxSeconds, arcs}
+use Rattle.model.specs.Pair.{Pair}
+use Rattle.model.specs.Walk.{Arc, Mem, LeastOf, PairWalk}
+use Rattle.model.specs.Network.{Edge, network, edge, edgeCount, maxSeconds, timedArcs}
 use Rattle.model.specs.Query.{kindBetween}
 use Rattle.model.specs.declared.Kind.{Kind}
 use Rattle.model.specs.declared.Kind.the-variants.{Local}
 use Rattle.model.specs.declared.Answer.{Answer}
-use Rattle.model.specs.declared.Answer.the-variants.{Time}
-use Rattle.demands.specs.Outcomes.{pairsTried}
+use Rattle.demands.specs.Outcomes.{pairsTried, timed}
 use Rattle.sheet.specs.Sheet.{Line, Effect, Effect.delayed, linesIn, lineBody, effectOf, NoneCloses, Last, effects}
 use Rattle.sheet.specs.Under.{networkUnder, oldStands}
 
@@ -37,11 +37,11 @@ pub record Slowed (f sheet : Bytes) : Type 0 where
   pub delays : effectOf line ≡ delayed added
   pub over : maxSeconds < edge (edgeBody f) i .seconds + added
 
--- What walks take under a sheet.
+-- What walks take under a sheet. An arc costs its seconds.
 abbrev pub roads : Bytes → Bytes → List Arc
-roads f sheet = arcs (networkUnder (effects sheet) f)
+roads f sheet = timedArcs (networkUnder (effects sheet) f)
 
--- ---- "its every step can still be driven in its old time"
+-- ---- "its every step can still be driven in its old time": a step's old time is its old seconds, as each step is one road before and after
 
 -- An arc from u to v that takes c seconds.
 pub record Between (es : List Arc) (u v c : ℕ) : Type 0 where
@@ -72,4 +72,4 @@ pairsUnder o sheet s t = cond (oldStands (effects sheet) o s t) (pairsTried (kin
 
 -- Where the answer is a time, there is an old way.
 abbrev pub HasWay : Bytes → ℕ → ℕ → Answer → Type 0
-HasWay o s t b = (n pairs : ℕ) (kind : Kind) → b ≡ Time n kind pairs → (m : ℕ) × Walk (arcs (network o)) s t m
+HasWay o s t b = (p : Pair) (pairs : ℕ) (kind : Kind) → b ≡ timed p kind pairs → (q : Pair) × PairWalk (timedArcs (network o)) s t q

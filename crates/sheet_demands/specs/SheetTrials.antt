@@ -19,13 +19,19 @@ use Rattle.sheet.specs.Sheet as sheets
 use Rattle.sheet.specs.Under as under
 use Rattle.sheet.specs.SheetCalls as calls
 
--- ---- networks and oracles: document 01's Line and Fork, and two more
+-- ---- networks and oracles: document 01's Line and Fork, and three more
 
 -- Line with its second road twice.
 doubled : Bytes
 doubled =
     file networkEdition (concatMap bytes32 (0 ∷ 0 ∷ 30 ∷ 0 ∷ 60 ∷ 0 ∷ [])
     ∷ (concatMap bytes16 (0 ∷ 1 ∷ 7 ∷ 0 ∷ []) ++ concatMap bytes16 (1 ∷ 2 ∷ 9 ∷ 0 ∷ []) ++ concatMap bytes16 (1 ∷ 2 ∷ 9 ∷ 0 ∷ [])) ∷ [] ∷ [])
+
+-- From place 0 to place 2 by one road of 1 second, or by place 1: 2 seconds, and then a road of 0 seconds. Places 1 and 2 lie side by side.
+side : Bytes
+side =
+    file networkEdition (concatMap bytes32 (0 ∷ 0 ∷ 30 ∷ 0 ∷ 31 ∷ 0 ∷ [])
+    ∷ (concatMap bytes16 (0 ∷ 1 ∷ 2 ∷ 0 ∷ []) ++ concatMap bytes16 (1 ∷ 2 ∷ 0 ∷ 0 ∷ []) ++ concatMap bytes16 (0 ∷ 2 ∷ 1 ∷ 0 ∷ [])) ∷ [] ∷ [])
 
 -- An oracle that was never built: o with the roads of f, so that its lists and its table still go by its own.
 unbuilt : Bytes → Bytes → Bytes
@@ -51,7 +57,7 @@ kind Far = 0
 kind Local = 1
 
 told : Answer → List ℕ
-told (Time seconds k pairs) = 0 ∷ seconds ∷ kind k ∷ pairs ∷ []
+told (Time seconds hops k pairs) = 0 ∷ seconds ∷ hops ∷ kind k ∷ pairs ∷ []
 told (None k pairs) = 1 ∷ kind k ∷ pairs ∷ []
 told (Refused rule) = 2 ∷ rule ∷ []
 
@@ -94,26 +100,27 @@ trials =
     let forkOracle = oracle (fork []) (usual 6) in
     let withoutOracle = oracle forkWithout4 (usual 6) in
     let doubledOracle = oracle doubled (usual 6) in
+    let sideOracle = oracle side (usual 1) in
     -- No lines: the old answer, kind and pairs, and the old way.
-    (time forkOracle [] 0 4 ⇒ told (Time 11 Far 4)) ∷
-    (time forkOracle [] 0 3 ⇒ told (Time 10 Local 0)) ∷
+    (time forkOracle [] 0 4 ⇒ told (Time 11 3 Far 4)) ∷
+    (time forkOracle [] 0 3 ⇒ told (Time 10 2 Local 0)) ∷
     (route forkOracle [] 0 4 ⇒ 0 ∷ 4 ∷ 0 ∷ 0 ∷ 1 ∷ 0 ∷ 3 ∷ 0 ∷ 4 ∷ 0 ∷ []) ∷
     -- A closure on the old way 0, 1, 3, 4: the other way is as quick, but was searched for.
-    (time forkOracle (close 0 ∷ []) 0 4 ⇒ told (Time 11 Local 0)) ∷
+    (time forkOracle (close 0 ∷ []) 0 4 ⇒ told (Time 11 3 Local 0)) ∷
     (route forkOracle (close 0 ∷ []) 0 4 ⇒ 0 ∷ 4 ∷ 0 ∷ 0 ∷ 2 ∷ 0 ∷ 3 ∷ 0 ∷ 4 ∷ 0 ∷ []) ∷
     -- A second more on it does the same. On the last road there is no other way: 12.
-    (time forkOracle (delay 0 1 ∷ []) 0 4 ⇒ told (Time 11 Local 0)) ∷
-    (time forkOracle (delay 4 1 ∷ []) 0 4 ⇒ told (Time 12 Local 0)) ∷
+    (time forkOracle (delay 0 1 ∷ []) 0 4 ⇒ told (Time 11 3 Local 0)) ∷
+    (time forkOracle (delay 4 1 ∷ []) 0 4 ⇒ told (Time 12 3 Local 0)) ∷
     -- A closure or a delay beside the old way: the old answer stands. So it does with a delay of 0 seconds on it.
-    (time forkOracle (close 1 ∷ []) 0 4 ⇒ told (Time 11 Far 4)) ∷
-    (time forkOracle (delay 3 50 ∷ []) 0 4 ⇒ told (Time 11 Far 4)) ∷
-    (time forkOracle (delay 0 0 ∷ delay 4 0 ∷ []) 0 4 ⇒ told (Time 11 Far 4)) ∷
+    (time forkOracle (close 1 ∷ []) 0 4 ⇒ told (Time 11 3 Far 4)) ∷
+    (time forkOracle (delay 3 50 ∷ []) 0 4 ⇒ told (Time 11 3 Far 4)) ∷
+    (time forkOracle (delay 0 0 ∷ delay 4 0 ∷ []) 0 4 ⇒ told (Time 11 3 Far 4)) ∷
     -- A closure that leaves no walk: none, and a way of no node. One place twice needs no road.
     (time lineOracle (close 1 ∷ []) 0 2 ⇒ told (None Local 0)) ∷
     (route lineOracle (close 1 ∷ []) 0 2 ⇒ 0 ∷ 0 ∷ 7 ∷ 7 ∷ 7 ∷ 7 ∷ 7 ∷ 7 ∷ 7 ∷ 7 ∷ []) ∷
-    (time lineOracle (close 1 ∷ close 0 ∷ []) 1 1 ⇒ told (Time 0 Local 0)) ∷
+    (time lineOracle (close 1 ∷ close 0 ∷ []) 1 1 ⇒ told (Time 0 0 Local 0)) ∷
     -- Road 0 has 7 seconds. A delay to 100,000 passes, to 100,001 it gives 20.
-    (time lineOracle (delay 0 99_993 ∷ []) 0 1 ⇒ told (Time 100_000 Local 0)) ∷
+    (time lineOracle (delay 0 99_993 ∷ []) 0 1 ⇒ told (Time 100_000 1 Local 0)) ∷
     (time lineOracle (delay 0 99_994 ∷ []) 0 1 ⇒ told (Refused 20)) ∷
     (time lineOracle (delay 0 4_294_967_295 ∷ []) 0 1 ⇒ told (Refused 20)) ∷
     -- A closure holds over a delay, wherever it stands; so for 20, which a delay that does not hold cannot give.
@@ -126,13 +133,22 @@ trials =
     (time lineOracle (close 0 ∷ delay 0 99_994 ∷ []) 0 1 ⇒ told (None Local 0)) ∷
     (time lineOracle (close 1 ∷ delay 0 99_994 ∷ []) 0 1 ⇒ told (Refused 20)) ∷
     -- The last of two delays holds; so for 20.
-    (time lineOracle (delay 0 5 ∷ delay 0 3 ∷ []) 0 1 ⇒ told (Time 10 Local 0)) ∷
-    (time lineOracle (delay 0 99_994 ∷ delay 0 1 ∷ []) 0 1 ⇒ told (Time 8 Local 0)) ∷
+    (time lineOracle (delay 0 5 ∷ delay 0 3 ∷ []) 0 1 ⇒ told (Time 10 1 Local 0)) ∷
+    (time lineOracle (delay 0 99_994 ∷ delay 0 1 ∷ []) 0 1 ⇒ told (Time 8 1 Local 0)) ∷
     (time lineOracle (delay 0 1 ∷ delay 0 99_994 ∷ []) 0 1 ⇒ told (Refused 20)) ∷
     -- One of two equal roads side by side is closed: the other serves, and the old answer stands. Both closed: none.
-    (time doubledOracle (close 1 ∷ []) 0 2 ⇒ told (Time 16 Far 1)) ∷
-    (time doubledOracle (close 2 ∷ delay 1 4 ∷ []) 0 2 ⇒ told (Time 20 Local 0)) ∷
+    (time doubledOracle (close 1 ∷ []) 0 2 ⇒ told (Time 16 2 Far 1)) ∷
+    (time doubledOracle (close 2 ∷ delay 1 4 ∷ []) 0 2 ⇒ told (Time 20 2 Local 0)) ∷
     (time doubledOracle (close 1 ∷ close 2 ∷ []) 0 2 ⇒ told (None Local 0)) ∷
+    -- Of equal seconds the fewer roads (T-07): a second more on the single road, and it is still the way; another, and it is not. A road of 0 seconds may be
+    -- delayed, by 0 as by more.
+    (time sideOracle [] 0 2 ⇒ told (Time 1 1 Local 0)) ∷
+    (time sideOracle (delay 2 1 ∷ []) 0 2 ⇒ told (Time 2 1 Local 0)) ∷
+    (route sideOracle (delay 2 1 ∷ []) 0 2 ⇒ 0 ∷ 2 ∷ 0 ∷ 0 ∷ 2 ∷ 0 ∷ 7 ∷ 7 ∷ 7 ∷ 7 ∷ []) ∷
+    (time sideOracle (delay 2 2 ∷ []) 0 2 ⇒ told (Time 2 2 Local 0)) ∷
+    (route sideOracle (delay 2 2 ∷ []) 0 2 ⇒ 0 ∷ 3 ∷ 0 ∷ 0 ∷ 1 ∷ 0 ∷ 2 ∷ 0 ∷ 7 ∷ 7 ∷ []) ∷
+    (time sideOracle (delay 1 0 ∷ []) 1 2 ⇒ told (Time 0 1 Local 0)) ∷
+    (time sideOracle (delay 1 5 ∷ close 2 ∷ []) 0 2 ⇒ told (Time 7 2 Local 0)) ∷
     -- Fork without road 4: an old 'none' stays 'none', with its kind and pairs, and no line can be about the road that is left out.
     (time withoutOracle [] 3 4 ⇒ told (None Local 0)) ∷
     (time withoutOracle (close 0 ∷ []) 0 4 ⇒ told (None Far 0)) ∷
@@ -155,11 +171,12 @@ trials =
     (told (calls.timeUnderResult lineOracle (sheets.sheetOf (close 1 ∷ [])) 0 1 []) ⇒ told (Refused 14)) ∷
     (calls.wayUnderRefusal lineOracle (sheets.sheetOf (close 1 ∷ [])) 0 1 words (replicate 3 7) ∷ [] ⇒ 15 ∷ []) ∷
     -- Over an oracle that was never built a far time may have no way. Without a sheet it is answered; under one, even without lines, it is not kept.
-    (plain (unbuilt forkOracle forkWithout4) 0 4 ⇒ told (Time 11 Far 4)) ∷
+    (plain (unbuilt forkOracle forkWithout4) 0 4 ⇒ told (Time 11 3 Far 4)) ∷
     (time (unbuilt forkOracle forkWithout4) [] 0 4 ⇒ told (None Local 0)) ∷
     []
 
 -- Every trial holds.
 pub trials-hold : all holds trials ≡ true
-unfolding trials holds doubled unbuilt close delay odd close-with kind told words plain time-by time route _⇒_ line fork forkWithout4 sheets-computed computed
+unfolding trials holds doubled side unbuilt close delay odd close-with kind told words plain time-by time route _⇒_ line fork forkWithout4
+    sheets-computed computed
 trials-hold = refl

@@ -1,14 +1,14 @@
 -- A loop over the entries of a list that keeps the least, in terms of what is left from entry i on. Assumes nothing.
-use Prim.Native.Nat.{ℕ, _+_, _<_, _≤_}
+use Prim.Native.Nat.{ℕ, _+_, _<_, _≤_, min}
 use native.Mathlib.Omega.{arith}
 use mathlib.Core.Path.{_≡_, refl, sym, ap}
 use mathlib.Core.List.{map}
 use Rattle.model.specs.Bytes.{Bytes}
 use Rattle.model.specs.Distance.{Distance, unreachable, finite, sooner, soonest}
-use Rattle.model.specs.Oracle.{noWalk, decoded, listCount, AccessEntry, accessEntry, accessList}
+use Rattle.model.specs.Oracle.{noWalk, listCount, AccessEntry, accessEntry, accessList}
 use Rattle.theory.specs.RangeLaws.{rest, rest-step, rest-end, rest-all}
-use Rattle.tables.specs.Premises.{entryWith}
-use Rattle.tables.proofs.Values.{no-walk}
+use Rattle.tables.specs.Premises.{summed}
+use Rattle.tables.proofs.Values.{summed-none, lesser-tells}
 
 sooner-none : (x : Distance) → sooner x unreachable ≡ x
 unfolding sooner
@@ -22,25 +22,21 @@ sooner-assoc (finite k) unreachable z = refl
 sooner-assoc (finite k) (finite m) unreachable = refl
 sooner-assoc (finite k) (finite m) (finite n) = ap finite (omega arith)
 
--- The entry whose index and value were read.
-pub entry-read : (e : AccessEntry) (index value : ℕ) → index ≡ e .index → decoded value ≡ e .distance → entryWith index value ≡ e
-entry-read e index value p q = λ k. record { index = p k; distance = q k }
-
 -- The least of `least` and of f for each entry from i up to n.
 abbrev pub leastLeft : (AccessEntry → Distance) → Bytes → ℕ → ℕ → ℕ → ℕ → Distance
-leastLeft f b u n least i = sooner (decoded least) (soonest f (map (accessEntry b u) (rest i n)))
+leastLeft f b u n least i = sooner (summed least) (soonest f (map (accessEntry b u) (rest i n)))
 
 module _ (f : AccessEntry → Distance) (b : Bytes) (u n : ℕ) where
   pub least-all : n ≡ listCount b u → soonest f (accessList b u) ≡ leastLeft f b u n noWalk 0
   unfolding accessList sooner
-  least-all e = rw (no-walk noWalk refl, e, ← rest-all (listCount b u))
+  least-all e = rw (summed-none noWalk (omega arith), e, ← rest-all (listCount b u))
 
-  pub least-next : (i least x next : ℕ) → i < n → decoded x ≡ f (accessEntry b u i) → decoded next ≡ sooner (decoded least) (decoded x)
+  pub least-next : (i least x next : ℕ) → i < n → summed x ≡ f (accessEntry b u i) → next ≡ min least x
       → leastLeft f b u n least i ≡ leastLeft f b u n next (i + 1)
   unfolding soonest
-  least-next i least x next h e l = rw (rest-step i n h, l, e) (sym (sooner-assoc (decoded least) (f (accessEntry b u i))
+  least-next i least x next h e l = rw (rest-step i n h, l, lesser-tells least x, e) (sym (sooner-assoc (summed least) (f (accessEntry b u i))
       (soonest f (map (accessEntry b u) (rest (i + 1) n)))))
 
-  pub least-end : (i least : ℕ) → n ≤ i → leastLeft f b u n least i ≡ decoded least
+  pub least-end : (i least : ℕ) → n ≤ i → leastLeft f b u n least i ≡ summed least
   unfolding soonest
-  least-end i least h = rw (rest-end i n h) (sooner-none (decoded least))
+  least-end i least h = rw (rest-end i n h) (sooner-none (summed least))

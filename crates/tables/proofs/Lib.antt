@@ -1,3 +1,4 @@
 mod Values
 mod Leasts
 mod Counts
+mod Rows

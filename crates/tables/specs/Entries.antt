@@ -2,7 +2,7 @@
 use Prim.Native.Nat.{ℕ, zero, suc, _+_, _*_, _<_, _≤_}
 use native.Mathlib.Nat.{zero-add, suc-mul, mul-le-mul-right}
 use native.Mathlib.Omega.{arith}
-use mathlib.Core.Path.{_≡_, _∙_}
+use mathlib.Core.Path.{_≡_, refl, _∙_}
 use mathlib.Core.Bool.{true, false}
 use mathlib.Core.List.{List, [], _∷_, map}
 use lib.ListN.{length, getD, length-map}
@@ -10,8 +10,10 @@ use lib.Dec.{eqb, ltb, leb}
 use borrow.Author.Tests.{eqb-true, ne-eqb, ltb-true, ltb-false, leb-false}
 use Rattle.model.specs.Lists.{Part, gapless, any, range, rising, upTo}
 use Rattle.model.specs.Bytes.{Bytes, numberSize}
-use Rattle.model.specs.Oracle.{startSize, entrySize, listSize, valueSize, noWalk, maxValue, decoded, value, valueBroken, tableEntry, listStart, listCount}
-use Rattle.model.specs.Oracle.{listPart, accessAt, accessEntry, indexes, entryBroken, listBroken, accessBroken, cellBroken, tableBroken}
+use Rattle.model.specs.Pair.{secondsOf, hopsOf}
+use Rattle.model.specs.Oracle.{startSize, entrySize, listSize, valueSize, noWalk, maxValue, maxHops, decoded, valueKey, value, keyBroken, valueBroken}
+use Rattle.model.specs.Oracle.{tableEntry, listStart, listCount, listPart, accessAt, accessEntry, indexes, entryBroken, listBroken, accessBroken}
+use Rattle.model.specs.Oracle.{cellBroken, tableBroken}
 use Rattle.theory.specs.Tests.{both}
 use Rattle.theory.specs.RangeLaws.{length-range, getD-map-range}
 use Rattle.theory.specs.Members.{none-any, →upTo}
@@ -24,8 +26,10 @@ use Rattle.tables.specs.Premises.{HasList, InRange}
 
 -- A value that was read at a position where none is out of range.
 in-range : (b : Bytes) (p v : ℕ) → valueBroken b p ≡ false → decoded v ≡ value b p → InRange v
-unfolding valueBroken
-in-range b p v h e ne = ltb-false maxValue v (rw (← value-number b p v e, ne-eqb v noWalk ne) at h)
+unfolding valueBroken keyBroken
+in-range b p v h e ne =
+    let q = or-false (ltb maxValue (secondsOf v)) (ltb maxHops (hopsOf v)) (rw (← value-number b p v e, ne-eqb v noWalk ne) at h) in
+    omega (arith, ltb-false maxValue (secondsOf v) (q .0), ltb-false maxHops (hopsOf v) (q .1))
 
 -- ---- a list of the access body
 
@@ -98,6 +102,9 @@ module _ (T : ℕ) (b : Bytes) (u : ℕ) (has : HasList T b u) where
     pub value-in-range : (v : ℕ) → decoded v ≡ accessEntry b u i .distance → InRange v
     unfolding accessEntry
     value-in-range v e = in-range b (accessAt b u i + numberSize) v (its-entry .1) e
+
+    pub key-in-range : InRange (valueKey b (accessAt b u i + numberSize))
+    key-in-range = value-in-range _ (unfold accessEntry value in refl)
 
 -- ---- the table
 

@@ -1,10 +1,12 @@
 -- What the functions ask of the bodies that they are lent and of values, and what they make of them. Assumes nothing.
-use Prim.Native.Nat.{ℕ, _*_, _<_, _≤_}
+use Prim.Native.Nat.{ℕ, _+_, _*_, _<_, _≤_, min}
 use mathlib.Core.Path.{_≡_}
 use mathlib.Core.Bool.{false}
 use lib.ListN.{length}
 use Rattle.model.specs.Bytes.{Bytes}
-use Rattle.model.specs.Oracle.{noWalk, maxValue, decoded, listCount, AccessEntry, accessList, accessBroken}
+use Rattle.model.specs.Pair.{key}
+use Rattle.model.specs.Distance.{Distance, plus}
+use Rattle.model.specs.Oracle.{valueSize, noWalk, maxValue, maxHops, decoded, valueKey, value, listCount, AccessEntry, accessList, accessBroken}
 use Rattle.model.specs.Query.{answer, farDistance}
 use Rattle.model.specs.declared.Kind.the-variants.{Far}
 use Rattle.model.specs.declared.Answer.{Answer}
@@ -23,13 +25,34 @@ ListedBelow b u = (T : ℕ) × HasList T b u
 abbrev pub HasEntry : Bytes → ℕ → ℕ → Type 0
 HasEntry b u i = ListedBelow b u × (i < listCount b u)
 
--- A value that is not 'no walk' is a time of at most 409,500,000 seconds.
-abbrev pub InRange : ℕ → Type 0
-InRange v = (v ≡ noWalk → ⊥) → v ≤ maxValue
+-- A key that is not 'no walk' is at most that of 409,500,000 seconds and 4,095 hops.
+abbrev pub maxKey : ℕ
+maxKey = key maxValue maxHops
 
--- The entry with this index and this value.
-abbrev pub entryWith : ℕ → ℕ → AccessEntry
-entryWith index value = record { index = index; distance = decoded value }
+abbrev pub InRange : ℕ → Type 0
+InRange k = (k ≡ noWalk → ⊥) → k ≤ maxKey
+
+-- What a sum of keys means: from the key of 'no walk' on, 'no walk'. So no part is tested for it: it is more than three times come to, and with it a sum is
+-- no less.
+unfoldable pub summed : ℕ → Distance
+summed k = decoded (min k noWalk)
+
+-- A sum of two keys that is a time is at most twice the greatest.
+abbrev pub InTwo : ℕ → Type 0
+InTwo k = k < noWalk → k ≤ maxKey + maxKey
+
+-- A row of the table begins here: the value of each of T columns stands in it, in range.
+pub record Row (T : ℕ) (b : Bytes) : Type 0 where
+  pub within : (k : ℕ) → k < T → valueSize * k + valueSize ≤ length b
+  pub range : (k : ℕ) → k < T → InRange (valueKey b (valueSize * k))
+
+-- The list of u, and a row with the columns that it names.
+abbrev pub HasRow : Bytes → ℕ → Bytes → Type 0
+HasRow access u row = (T : ℕ) × HasList T access u × Row T row
+
+-- The sum for an entry and the value in its column of a row.
+unfoldable pub sumIn : Bytes → AccessEntry → Distance
+sumIn row b = plus (value row (valueSize * b .index)) (b .distance)
 
 -- The far answer from an access body and a table for T transit nodes.
 abbrev pub farFrom : ℕ → Bytes → Bytes → ℕ → ℕ → Answer

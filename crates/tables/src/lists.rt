@@ -27,7 +27,7 @@ pub fn list_count(access: &[u8], u: usize) -> usize
 }
 
 // Where entry i of the list of node u stands.
-fn entry_at(access: &[u8], u: usize, i: usize) -> usize
+pub fn entry_at(access: &[u8], u: usize, i: usize) -> usize
     requires { ⌜ HasEntry (now access) u i ⌝ }
     ensures { λ r. ⌜ r ≡ accessAt (now (access .entry)) u i ⌝ }
 {
@@ -41,7 +41,7 @@ pub fn entry_index(access: &[u8], u: usize, i: usize) -> usize
     read16(access, entry_at(access, u, i)) as usize
 }
 
-pub fn entry_value(access: &[u8], u: usize, i: usize) -> u32
+pub fn entry_value(access: &[u8], u: usize, i: usize) -> u64
     requires { ⌜ HasEntry (now access) u i ⌝ }
     ensures { λ r. ⌜ (decoded r ≡ accessEntry (now (access .entry)) u i .distance) × InRange r ⌝ }
 {

@@ -1,38 +1,28 @@
-// The values of the table, and their sums.
+// The sums of the far answer, and the lesser of two.
 ghost use mathlib.Core.Path.{_≡_};
-ghost use mathlib.Core.Bool.{false};
-ghost use Prim.Native.Nat.{_<_};
-ghost use Rattle.model.specs.Distance.{plus, sooner};
-ghost use Rattle.model.specs.Oracle.{decoded, tableEntry, tableBroken};
-ghost use Rattle.tables.specs.Premises.{InRange};
-use codec::records::NO_WALK;
-use codec::records::VALUE_SIZE;
-use codec::values::read_value;
+ghost use Prim.Native.Nat.{_+_, _≤_, min};
+ghost use lib.ListN.{length};
+ghost use Rattle.model.specs.Oracle.{valueSize, valueKey};
+use codec::bytes::read16;
+use codec::bytes::read32;
+use codec::records::HOP_BASE;
+use codec::records::SECONDS_SIZE;
 
-// The value in the row of transit node i and the column of transit node j.
-pub fn table_value(t: usize, table: &[u8], i: usize, j: usize) -> u32
-    requires { ⌜ (tableBroken t (now table) ≡ false) × (i < t) × (j < t) ⌝ }
-    ensures { λ r. ⌜ (decoded r ≡ tableEntry (now (table .entry)) t i j) × InRange r ⌝ }
+// The sum of the values at i in a row and at j in the lists, for each pair that is tried: seconds are added to seconds before they become a key.
+pub fn sum(row: &[u8], i: usize, access: &[u8], j: usize) -> u64
+    requires { ⌜ (i + valueSize ≤ length (now row)) × (j + valueSize ≤ length (now access)) ⌝ }
+    ensures { λ r. ⌜ r ≡ valueKey (now (row .entry)) i + valueKey (now (access .entry)) j ⌝ }
 {
-    read_value(table, VALUE_SIZE * (i * t + j))
+    let seconds = read32(row, i) as u64 + read32(access, j) as u64;
+    let hops = read16(row, i + SECONDS_SIZE) + read16(access, j + SECONDS_SIZE);
+    HOP_BASE * seconds + hops as u64
 }
 
-// 'No walk' is no time: a sum with such a part is 'no walk'.
-pub fn sum(a: u32, b: u32, c: u32) -> u32
-    requires { ⌜ InRange a × InRange b × InRange c ⌝ }
-    ensures { λ r. ⌜ decoded r ≡ plus (decoded a) (plus (decoded b) (decoded c)) ⌝ }
+pub fn lesser(a: u64, b: u64) -> u64
+    ensures { λ r. ⌜ r ≡ min a b ⌝ }
 {
-    if a == NO_WALK || b == NO_WALK || c == NO_WALK {
-        return NO_WALK;
+    if b < a {
+        return b;
     }
-    a + b + c
-}
-
-pub fn lesser(a: u32, b: u32) -> u32
-    ensures { λ r. ⌜ decoded r ≡ sooner (decoded a) (decoded b) ⌝ }
-{
-    if a < b {
-        return a;
-    }
-    b
+    a
 }

@@ -1,22 +1,33 @@
 -- Access nodes in terms of walks: the listed ones are exactly those of document 01's words. Assumes nothing.
-use Prim.Native.Nat.{ℕ, _+_, _<_}
+use Prim.Native.Nat.{ℕ, _+_, _≤_, _<_}
 use native.Mathlib.Omega.{arith}
-use mathlib.Core.Path.{_≡_, refl, sym, ap}
+use mathlib.Core.Path.{_≡_, refl, sym, ap, subst}
 use mathlib.Core.Logic.{_↔_}
 use mathlib.Core.Bool.{Bool, true, _&&_, true≢false}
 use mathlib.Core.List.{List, List·Memᴰ}
 use lib.ListN.{length}
 use Rattle.model.specs.Lists.{any, member, upTo}
-use Rattle.model.specs.Walk.{Arc, Least}
+use Rattle.model.specs.Pair.{Pair, add, hopBase, pairOf, hopsOf}
+use Rattle.model.specs.Walk.{Arc, Least, LeastPair}
 use Rattle.model.specs.Distance.{Distance, unreachable, finite, plus, agree}
-use Rattle.model.specs.Network.{Edge, Network, order, arcs, distance}
+use Rattle.model.specs.Network.{Edge, Network, order, timedArcs, arcs, distance, maxNodes}
 use Rattle.model.specs.Grid.{Grid, Cell}
 use Rattle.model.specs.Access.{crossingEnd, crosses, crossings, between, accessNodes}
 use Rattle.theory.specs.Tests.{and, both, eqb-true, true-eqb}
 use Rattle.theory.specs.Members.{filter→, →filter, any→, →any, map→, member→, →member, →upTo}
 use Rattle.theory.specs.FarModel.{exact, distance-least}
+use Rattle.theory.specs.Keys.{keyOf, key-sum}
+use Rattle.theory.specs.PairModel.{least-pair, pair-least}
 
--- a lies on a least walk from p to q: the totals are d(p, a), d(a, q) and their sum d(p, q).
+-- a lies on a least walk from p to q: the pairs are d(p, a), d(a, q) and their sum d(p, q). Arcs cost their seconds.
+pub record OnLeastPair (timed : List Arc) (p q a : ℕ) : Type 0 where
+  pub i : Pair
+  pub j : Pair
+  pub before : LeastPair timed p a i
+  pub after : LeastPair timed a q j
+  pub whole : LeastPair timed p q (add i j)
+
+-- The same by keys.
 pub record OnLeast (arcs : List Arc) (p q a : ℕ) : Type 0 where
   pub i : ℕ
   pub j : ℕ
@@ -32,7 +43,7 @@ pub record AccessNode (net : Network) (grid : Grid) (cs : List Cell) (c : Cell) 
   pub q : ℕ
   pub start : List·Memᴰ p (crossings cs (net .edges) 0 c)
   pub end : List·Memᴰ q (crossings cs (net .edges) (grid .outer) c)
-  pub on : OnLeast (arcs net) p q a
+  pub on : OnLeastPair (timedArcs net) p q a
 
 -- Three distances of which the first two add up to the third, and all are finite.
 record Adds (x y z : Distance) : Type 0 where
@@ -62,6 +73,30 @@ module _ (net : Network) (ends : (e : Edge) → List·Memᴰ e (net .edges) → 
         (true-eqb {m = o .i + o .j} refl),
   )
 
+  pub on-pair : order net ≤ maxNodes → (p q a : ℕ) → p < order net → a < order net → OnLeast (arcs net) p q a ↔ OnLeastPair (timedArcs net) p q a
+  on-pair few p q a hp ha = (
+    λ o.
+        let b = least-pair net ends few hp a (o .before) in
+        let c = least-pair net ends few ha q (o .after) in
+        let s : hopsOf (o .i) + hopsOf (o .j) < hopBase = omega (arith, few, b .1, c .1) in
+        record {
+          i = pairOf (o .i);
+          j = pairOf (o .j);
+          before = b .0;
+          after = c .0;
+          whole = subst (λ (x : Pair). LeastPair (timedArcs net) p q x) (key-sum (o .i) (o .j) s) (least-pair net ends few hp q (o .whole) .0);
+        },
+    λ o.
+        let e : keyOf (add (o .i) (o .j)) ≡ keyOf (o .i) + keyOf (o .j) = unfold add in omega arith in
+        record {
+          i = keyOf (o .i);
+          j = keyOf (o .j);
+          before = pair-least net ends few hp a (o .before);
+          after = pair-least net ends few ha q (o .after);
+          whole = subst (λ (k : ℕ). Least (arcs net) p q k) e (pair-least net ends few hp q (o .whole));
+        },
+  )
+
   -- A crossing node is a node.
   pub crossing-node : (cs : List Cell) (r : ℕ) (c : Cell) {x : ℕ} → List·Memᴰ x (crossings cs (net .edges) r c) → x < order net
   unfolding crossings crossingEnd
@@ -70,7 +105,7 @@ module _ (net : Network) (ends : (e : Edge) → List·Memᴰ e (net .edges) → 
       let i = filter→ (crosses cs r c) (net .edges) (e .1) in
       omega (arith, e .2, ends (e .0) (i .0))
 
-  module _ (grid : Grid) (cs : List Cell) (size : length cs ≡ order net) (c : Cell) (a : ℕ) where
+  module _ (few : order net ≤ maxNodes) (grid : Grid) (cs : List Cell) (size : length cs ≡ order net) (c : Cell) (a : ℕ) where
     abbrev ps : List ℕ
     ps = crossings cs (net .edges) 0 c
 
@@ -98,19 +133,22 @@ module _ (net : Network) (ends : (e : Edge) → List·Memᴰ e (net .edges) → 
             let m = member→ a inside (b .0) in
             let p = any→ (λ p. any (λ q. between (distance net) p q a) qs) ps (b .1) in
             let q = any→ (λ q. between (distance net) (p .0) q a) qs (p .2) in
+            let hp = crossing-node cs 0 c (p .1) in
+            let ha = crossing-node cs (grid .inner) c m in
             record {
               inner = m;
               p = p .0;
               q = q .0;
               start = p .1;
               end = q .1;
-              on = between-walks (p .0) (q .0) a (crossing-node cs 0 c (p .1))
-                  (crossing-node cs (grid .inner) c m) .0 (q .2);
+              on = on-pair few (p .0) (q .0) a hp ha .0 (between-walks (p .0) (q .0) a hp ha .0 (q .2));
             }
 
         passes : AccessNode net grid cs c a → test a ≡ true
         passes n =
+            let hp = crossing-node cs 0 c (n .start) in
+            let ha = crossing-node cs (grid .inner) c (n .inner) in
             and (→member a inside (n .inner))
             (→any (λ p. any (λ q. between (distance net) p q a) qs) ps (n .start)
             (→any (λ q. between (distance net) (n .p) q a) qs (n .end)
-            (between-walks (n .p) (n .q) a (crossing-node cs 0 c (n .start)) (crossing-node cs (grid .inner) c (n .inner)) .1 (n .on))))
+            (between-walks (n .p) (n .q) a hp ha .1 (on-pair few (n .p) (n .q) a hp ha .1 (n .on)))))

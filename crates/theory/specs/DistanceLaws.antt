@@ -8,8 +8,8 @@ use mathlib.Core.Logic.{_⊎_, inl, inr}
 use mathlib.Core.List.{List, [], _∷_, List·Memᴰ·head, List·Memᴰ·tail, List·Memᴰ·not-nil, List·Memᴰ·cases-cons}
 use lib.ListN.{length, set, replicate, length-set, length-replicate}
 use lib.Seq.{getD-set-same, getD-set-other, set-out}
-use Rattle.model.specs.Walk.{Arc, Mem, Walk, stay, go}
-use Rattle.theory.specs.Walks.{Within, along, hops}
+use Rattle.model.specs.Walk.{Arc, Mem, Walk, stay, go, hops}
+use Rattle.theory.specs.Walks.{Within, along}
 use Rattle.model.specs.Distance.{Distance, unreachable, finite, sooner, later, at, start, relax, round, rounds, dist}
 
 -- What stands at a node after a store.

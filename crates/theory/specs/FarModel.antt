@@ -9,6 +9,7 @@ use mathlib.Core.Bool.{Bool, true, false, _&&_, xor}
 use mathlib.Core.List.{List, [], _∷_, List·Memᴰ, List·Memᴰ·head, List·Memᴰ·tail, List·Memᴰ·cases-cons, List·Memᴰ·eq-of-singleton, Memᴰ·cast}
 use lib.ListN.{length}
 use Rattle.model.specs.Lists.{any, member, upTo}
+use Rattle.model.specs.Pair.{key}
 use Rattle.model.specs.Walk.{Arc, Walk, Least}
 use Rattle.theory.specs.Walks.{Within, Symmetric, reverse, least-stay}
 use Rattle.model.specs.Distance.{Distance, unreachable, finite, plus, agree, IsLeast}
@@ -55,8 +56,8 @@ module _ (net : Network) (ends : (e : Edge) → List·Memᴰ e (net .edges) → 
   inside a m = let r = edge-of m in step (r .0) (ends (r .0) (r .1)) (List·Memᴰ·cases-cons (r .2))
     where
       step : (e : Edge) → (e .first < order net) × (e .second < order net)
-          → (a ≡ record { from = e .first; to = e .second; cost = e .seconds }) ⊎ List·Memᴰ a
-          (record { from = e .second; to = e .first; cost = e .seconds } ∷ [])
+          → (a ≡ record { from = e .first; to = e .second; cost = key (e .seconds) 1 }) ⊎ List·Memᴰ a
+          (record { from = e .second; to = e .first; cost = key (e .seconds) 1 } ∷ [])
           → (a .from < order net) × (a .to < order net)
       step e h (inl q) = (rw (ap (λ x. x .from) q) (h .0), rw (ap (λ x. x .to) q) (h .1))
       step e h (inr m) = let q = List·Memᴰ·eq-of-singleton m in (rw (ap (λ x. x .from) q) (h .1), rw (ap (λ x. x .to) q) (h .0))
@@ -66,8 +67,8 @@ module _ (net : Network) (ends : (e : Edge) → List·Memᴰ e (net .edges) → 
   symmetric a m = let r = edge-of m in step (r .0) (r .1) (List·Memᴰ·cases-cons (r .2))
     where
       step : (e : Edge) → List·Memᴰ e (net .edges)
-          → (a ≡ record { from = e .first; to = e .second; cost = e .seconds }) ⊎ List·Memᴰ a
-          (record { from = e .second; to = e .first; cost = e .seconds } ∷ [])
+          → (a ≡ record { from = e .first; to = e .second; cost = key (e .seconds) 1 }) ⊎ List·Memᴰ a
+          (record { from = e .second; to = e .first; cost = key (e .seconds) 1 } ∷ [])
           → List·Memᴰ (reverse a) (arcs net)
       step e k (inl q) = →concatMap arcsOf (net .edges) k (List·Memᴰ·tail (List·Memᴰ·head (ap reverse q)))
       step e k (inr m) = →concatMap arcsOf (net .edges) k (List·Memᴰ·head (ap reverse (List·Memᴰ·eq-of-singleton m)))
@@ -120,8 +121,8 @@ module _ (net : Network) (ends : (e : Edge) → List·Memᴰ e (net .edges) → 
         end e m q h = (Memᴰ·cast q (crossing-edge r c e m h), unfold crossingEnd in omega (arith, q, ends e m))
 
         step : (e : Edge) → List·Memᴰ e (net .edges)
-            → (k .arc ≡ record { from = e .first; to = e .second; cost = e .seconds }) ⊎ List·Memᴰ (k .arc)
-            (record { from = e .second; to = e .first; cost = e .seconds } ∷ [])
+            → (k .arc ≡ record { from = e .first; to = e .second; cost = key (e .seconds) 1 }) ⊎ List·Memᴰ (k .arc)
+            (record { from = e .second; to = e .first; cost = key (e .seconds) 1 } ∷ [])
             → List·Memᴰ x (crossings cs (net .edges) r (cellAt cs c)) × (x < order net)
         step e m (inl q) =
             let apart : sq r c (e .first) ≢ sq r c (e .second) = λ z. k .across (ap (λ a. sq r c (a .from)) q ∙ (z ∙ sym (ap (λ a. sq r c (a .to)) q))) in

@@ -22,6 +22,10 @@ pub mod Far
 pub mod FarGrid
 pub mod FarOver
 pub mod FarModel
+-- ---- seconds and hops
+pub mod Keys
+pub mod PairModel
+-- ---- access and transit nodes
 pub mod AccessLaws
 pub mod Transit
 -- ---- built oracles
@@ -41,4 +45,6 @@ pub mod BuiltCalls
 -- ---- the way
 pub mod Way
 pub mod NetWays
+pub mod Simple
+pub mod PairWays
 pub mod Ways

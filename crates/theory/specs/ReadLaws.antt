@@ -11,8 +11,10 @@ use lib.Dec.{eqb}
 use borrow.Author.Tests.{ne-eqb, eqb-true}
 use Rattle.model.specs.Lists.{concat, concatMap, indexOf, range, upTo}
 use Rattle.model.specs.Bytes.{Bytes, word16, word32, bytes16, bytes32, numberSize}
+use Rattle.model.specs.Pair.{secondsOf, hopsOf}
 use Rattle.model.specs.Distance.{Distance, unreachable, finite}
-use Rattle.model.specs.Oracle.{noWalk, coded, valueSize, valueBytes, decoded, value, tableBytes, tableEntry, startSize, starts, countSize, entrySize}
+use Rattle.model.specs.Oracle.{noWalk, coded, secondsSize, valueSize, valueBytes, decoded, valueKey, value, tableBytes, tableEntry}
+use Rattle.model.specs.Oracle.{startSize, starts, countSize, entrySize}
 use Rattle.model.specs.Oracle.{listSize, entryBytes, listBytes, accessBytes, listStart, listCount, AccessEntry, accessAt, accessEntry, accessList}
 use Rattle.theory.specs.FileLaws.{word16-append, word32-append, word16-read, word32-read, drop-concat, startOf, start-step, concat-bound}
 use Rattle.theory.specs.RangeLaws.{length-range, getD-map-range}
@@ -67,35 +69,49 @@ coded-decoded v = step (eqb v noWalk) refl
     step true e = sym (eqb-true v noWalk e)
     step false e = refl
 
--- The bytes of a value are those of its number, and a value that was read is the number that stands there.
-pub value-bytes : (v : ℕ) → valueBytes (decoded v) ≡ bytes32 v
+-- The bytes of a value are those of its key, and a value that was read is the key that stands there.
+pub value-bytes : (v : ℕ) → valueBytes (decoded v) ≡ bytes32 (secondsOf v) ++ bytes16 (hopsOf v)
 unfolding valueBytes
-value-bytes v = ap bytes32 (coded-decoded v)
+value-bytes v = rw (coded-decoded v)
 
 pub value-recoded : (x : Distance) → valueBytes (decoded (coded x)) ≡ valueBytes x
 unfolding valueBytes
 value-recoded x = value-bytes (coded x)
 
-pub value-number : (b : Bytes) (p v : ℕ) → decoded v ≡ value b p → v ≡ word32 b p
+pub value-number : (b : Bytes) (p v : ℕ) → decoded v ≡ value b p → v ≡ valueKey b p
 unfolding value
-value-number b p v e = sym (coded-decoded v) ∙ (ap coded e ∙ coded-decoded (word32 b p))
+value-number b p v e = sym (coded-decoded v) ∙ (ap coded e ∙ coded-decoded (valueKey b p))
 
 pub length-value : (x : Distance) → length (valueBytes x) ≡ valueSize
 unfolding valueBytes bytes32 bytes16
 length-value x = refl
 
 pub value-drop : (b : Bytes) (p n : ℕ) → value b (p + n) ≡ value (drop p b) n
-unfolding value
-value-drop b p n = ap decoded (word32-drop b p n)
+unfolding value valueKey
+value-drop b p n = ap decoded (rw (word32-drop b p n, add-assoc, word16-drop b p (n + secondsSize)))
 
 pub value-append : (xs ys : Bytes) (n : ℕ) → value (xs ++ ys) (length xs + n) ≡ value ys n
-unfolding value
-value-append xs ys n = ap decoded (word32-append xs ys n)
+unfolding value valueKey
+value-append xs ys n = ap decoded (rw (word32-append xs ys n, add-assoc, word16-append xs ys (n + secondsSize)))
+
+-- The key that is read is the key that was written.
+key-read : (k : ℕ) (l : Bytes) → k ≤ noWalk → valueKey (bytes32 (secondsOf k) ++ (bytes16 (hopsOf k) ++ l)) 0 ≡ k
+unfolding valueKey bytes32 bytes16
+key-read k l s =
+    let a = word32-read (secondsOf k) (bytes16 (hopsOf k) ++ l) (omega arith) in
+    let b : word16 (bytes32 (secondsOf k) ++ (bytes16 (hopsOf k) ++ l)) secondsSize ≡ hopsOf k =
+    word16-append (bytes32 (secondsOf k)) (bytes16 (hopsOf k) ++ l) 0 ∙ word16-read (hopsOf k) l (omega arith) in
+    rw (a, b) (omega arith)
+
+coded-small : (x : Distance) → Small x → coded x ≤ noWalk
+unfolding coded
+coded-small unreachable s = omega arith
+coded-small (finite n) s = omega arith
 
 pub value-read : (x : Distance) (l : Bytes) → Small x → value (valueBytes x ++ l) 0 ≡ x
-unfolding value valueBytes coded decoded
-value-read unreachable l s = unfold word32 word16 bytes32 bytes16 in refl
-value-read (finite n) l s = rw (word32-read n l (omega arith)) (simp (ne-eqb n noWalk (λ e. omega arith)))
+unfolding value valueBytes
+value-read x l s =
+    rw (append-assoc (bytes32 (secondsOf (coded x))) (bytes16 (hopsOf (coded x))) l, key-read (coded x) l (coded-small x s)) (decoded-coded x s)
 
 -- ---- records of one size, each with a distance at its start
 

@@ -4,7 +4,7 @@ use native.Mathlib.Omega.{arith}
 use native.Mathlib.Nat.{add-zero, zero-add}
 use mathlib.Core.Path.{_≡_, refl, sym, _∙_, ap, subst}
 use mathlib.Core.Logic.{_⊎_, inl, inr}
-use mathlib.Core.Bool.{Bool, true, false, not, _&&_, cond, true≢false}
+use mathlib.Core.Bool.{Bool, true, false, not, _&&_, _||_, cond, true≢false}
 use mathlib.Core.List.{List, [], _∷_, _++_, map, List·Memᴰ, List·Memᴰ·head, List·Memᴰ·tail, List·Memᴰ·cases-cons, List·Memᴰ·not-nil}
 use lib.ListN.{length, getD, length-append}
 use lib.Seq.{getD-append-add}
@@ -14,7 +14,8 @@ use Rattle.model.specs.Lists.{Part, gapless, any, all, filter, rising, upTo, ra
 use Rattle.model.specs.Bytes.{Bytes, byte, word32, bytes16, bytes32}
 use Rattle.model.specs.Contents.{entry, entryAt, entries, file, bodyPart, contentsBroken, ofItsKind, bodiesBroken, headSize, contentsEntrySize}
 use Rattle.model.specs.Distance.{Distance, unreachable, finite}
-use Rattle.model.specs.Oracle.{noWalk, maxValue, decoded, value, valueBroken}
+use Rattle.model.specs.Pair.{secondsOf, hopsOf}
+use Rattle.model.specs.Oracle.{noWalk, maxValue, maxHops, decoded, value, valueKey, keyBroken, valueBroken}
 use Rattle.theory.specs.FileLaws.{nine, entries-step, startOf, start-step, file-offset, file-size, length-file}
 use Rattle.theory.specs.Tests.{both, and, true-eqb}
 use Rattle.theory.specs.Members.{filter→, range→}
@@ -48,16 +49,19 @@ kind-read k at (suc j) (b ∷ bs) l h =
 -- ---- a value that decodes to a distance within bounds is in range
 abbrev pub Bounded : Distance → Type 0
 Bounded unreachable = Unit {0}
-Bounded (finite n) = n ≤ maxValue
+Bounded (finite k) = (secondsOf k ≤ maxValue) × (hopsOf k ≤ maxHops)
 
 pub value-fine : (b : Bytes) (p : ℕ) (x : Distance) → value b p ≡ x → Bounded x → valueBroken b p ≡ false
-unfolding value decoded valueBroken
-value-fine b p x e h = step (eqb (word32 b p) noWalk) (word32 b p) x e h
+unfolding value decoded valueBroken keyBroken
+value-fine b p x e h = step (eqb (valueKey b p) noWalk) (valueKey b p) x e h
   where
-    step : (c : Bool) (v : ℕ) (x : Distance) → cond c unreachable (finite v) ≡ x → Bounded x → not c && ltb maxValue v ≡ false
+    step : (c : Bool) (v : ℕ) (x : Distance) → cond c unreachable (finite v) ≡ x → Bounded x
+        → not c && (ltb maxValue (secondsOf v) || ltb maxHops (hopsOf v)) ≡ false
     step true v x e h = refl
     step false v unreachable e h = absurd (apart (sym e))
-    step false v (finite n) e h = let q : v ≡ n = cc in le-ltb maxValue v (omega arith)
+    step false v (finite n) e h =
+        let q : v ≡ n = cc in
+        rw (le-ltb maxValue (secondsOf v) (omega (arith, h .0)), le-ltb maxHops (hopsOf v) (omega (arith, h .1)))
 
 -- ---- rising lists
 pub rising-range : (s n : ℕ) → rising (range s n) ≡ true

@@ -10,8 +10,8 @@ use lib.ListN.{length}
 use Rattle.model.specs.Lists.{upTo}
 use Rattle.theory.specs.RangeLaws.{length-range}
 use Rattle.theory.specs.Members.{→upTo}
-use Rattle.model.specs.Walk.{Arc, Mem, Walk, stay, go}
-use Rattle.theory.specs.Walks.{Within, hops, Costs}
+use Rattle.model.specs.Walk.{Arc, Mem, Walk, stay, go, hops}
+use Rattle.theory.specs.Walks.{Within, Costs}
 
 -- `x` in front, unless it is `p`.
 keep : {x p : ℕ} → Dec (x ≡ p) → List ℕ → List ℕ

@@ -11,13 +11,14 @@ use borrow.Author.Tests.{leb-false, ltb-false, ltb-true, eqb-true, eqb-false}
 use Rattle.model.specs.Lists.{any, rising, upTo, concatMap}
 use Rattle.model.specs.Bytes.{Bytes, numberSize, words16}
 use Rattle.model.specs.Contents.{nodeBody, edgeBody, closedBody}
+use Rattle.model.specs.Pair.{key}
 use Rattle.model.specs.Walk.{Arc, Mem}
 use Rattle.theory.specs.Walks.{Costs, Within, Positive}
 use Rattle.model.specs.Distance.{Distance, unreachable, finite}
 use Rattle.theory.specs.Exact.{dist-bound}
 use Rattle.model.specs.Network.{Edge, Network, network, nodes, edges, edge, order, nodeCount, edgeCount, arcs, arcsOf, distance}
 use Rattle.model.specs.Network.{nodesBroken, edgeBroken}
-use Rattle.model.specs.Network.{someEdgeBroken, edgesBroken, numbersBroken, maxNodes, maxEdges, maxSeconds, minSeconds, nodeSize, edgeSize}
+use Rattle.model.specs.Network.{someEdgeBroken, edgesBroken, numbersBroken, maxNodes, maxEdges, maxSeconds, nodeSize, edgeSize}
 use Rattle.theory.specs.RangeLaws.{length-range}
 use Rattle.theory.specs.ReadLaws.{Small}
 use Rattle.theory.specs.Tests.{both}
@@ -55,21 +56,18 @@ pub record Fine (n : ℕ) (e : Edge) : Type 0 where
   pub second-in : e .second < n
   pub apart : e .first ≡ e .second → ⊥
   pub at-most : e .seconds ≤ maxSeconds
-  pub at-least : minSeconds ≤ e .seconds
 
 kept-fine : (n : ℕ) (e : Edge) → edgeBroken n e ≡ false → Fine n e
 unfolding edgeBroken
 kept-fine n e a =
-    let p = or-false (leb n (e .first) || leb n (e .second) || eqb (e .first) (e .second) || ltb (e .seconds) minSeconds) (ltb maxSeconds (e .seconds)) a in
-    let q = or-false (leb n (e .first) || leb n (e .second) || eqb (e .first) (e .second)) (ltb (e .seconds) minSeconds) (p .0) in
-    let r = or-false (leb n (e .first) || leb n (e .second)) (eqb (e .first) (e .second)) (q .0) in
+    let p = or-false (leb n (e .first) || leb n (e .second) || eqb (e .first) (e .second)) (ltb maxSeconds (e .seconds)) a in
+    let r = or-false (leb n (e .first) || leb n (e .second)) (eqb (e .first) (e .second)) (p .0) in
     let s = or-false (leb n (e .first)) (leb n (e .second)) (r .0) in
     record {
       first-in = leb-false n (e .first) (s .0);
       second-in = leb-false n (e .second) (s .1);
       apart = eqb-false (e .first) (e .second) (r .1);
       at-most = ltb-false maxSeconds (e .seconds) (p .1);
-      at-least = ltb-false (e .seconds) minSeconds (q .1);
     }
 
 module _ (n : ℕ) (b : Bytes) (ok : someEdgeBroken n b ≡ false) where
@@ -82,15 +80,20 @@ module _ (n : ℕ) (b : Bytes) (ok : someEdgeBroken n b ≡ false) where
   each-fine e m = kept-fine n e (none-any (edgeBroken n) (edges b) ok m)
 
 -- ---- arcs
--- What holds of each edge's ends and seconds, in either order of the ends, holds of each arc.
-pub arc-of : (P : ℕ → ℕ → ℕ → Type 0) (es : List Edge) → ((e : Edge) → List·Memᴰ e es → P (e .first) (e .second) (e .seconds))
-    → ((e : Edge) → List·Memᴰ e es → P (e .second) (e .first) (e .seconds))
+-- The most that an arc costs.
+abbrev pub maxCost : ℕ
+maxCost = key maxSeconds 1
+
+-- What holds of each edge's ends and key, in either order of the ends, holds of each arc.
+pub arc-of : (P : ℕ → ℕ → ℕ → Type 0) (es : List Edge) → ((e : Edge) → List·Memᴰ e es → P (e .first) (e .second) (key (e .seconds) 1))
+    → ((e : Edge) → List·Memᴰ e es → P (e .second) (e .first) (key (e .seconds) 1))
     → (a : Arc) → Mem a (concatMap arcsOf es) → P (a .from) (a .to) (a .cost)
 unfolding arcsOf
 arc-of P es there back a m = let r = concatMap→ arcsOf es m in step (r .0) (r .1) (List·Memᴰ·cases-cons (r .2))
   where
     step : (e : Edge) → List·Memᴰ e es
-        → (a ≡ record { from = e .first; to = e .second; cost = e .seconds }) ⊎ Mem a (record { from = e .second; to = e .first; cost = e .seconds } ∷ [])
+        → (a ≡ record { from = e .first; to = e .second; cost = key (e .seconds) 1 })
+        ⊎ Mem a (record { from = e .second; to = e .first; cost = key (e .seconds) 1 } ∷ [])
         → P (a .from) (a .to) (a .cost)
     step e h (inl q) = subst (λ (a : Arc). P (a .from) (a .to) (a .cost)) (sym q) (there e h)
     step e h (inr k) = subst (λ (a : Arc). P (a .from) (a .to) (a .cost)) (sym (List·Memᴰ·eq-of-singleton k)) (back e h)
@@ -99,11 +102,11 @@ module _ (n : ℕ) (es : List Edge) (fine : (e : Edge) → List·Memᴰ e es →
   pub arcs-within : Within n (concatMap arcsOf es)
   arcs-within = arc-of (λ u v c. (u < n) × (v < n)) es (λ e m. (fine e m .first-in, fine e m .second-in)) (λ e m. (fine e m .second-in, fine e m .first-in))
 
-  pub arcs-cost : Costs maxSeconds (concatMap arcsOf es)
-  arcs-cost = arc-of (λ u v c. c ≤ maxSeconds) es (λ e m. fine e m .at-most) (λ e m. fine e m .at-most)
+  pub arcs-cost : Costs maxCost (concatMap arcsOf es)
+  arcs-cost = arc-of (λ u v c. c ≤ maxCost) es (λ e m. omega (arith, fine e m .at-most)) (λ e m. omega (arith, fine e m .at-most))
 
   pub arcs-positive : Positive (concatMap arcsOf es)
-  arcs-positive = arc-of (λ u v c. 0 < c) es (λ e m. omega (arith, fine e m .at-least)) (λ e m. omega (arith, fine e m .at-least))
+  arcs-positive = arc-of (λ u v c. 0 < c) es (λ e m. omega arith) (λ e m. omega arith)
 
 -- ---- the network of a file
 pub count-nodes : (f : Bytes) → order (network f) ≡ nodeCount (nodeBody f)
@@ -111,14 +114,14 @@ unfolding order network nodes
 count-nodes f = length-map (upTo (nodeCount (nodeBody f))) _ ∙ length-range 0 (nodeCount (nodeBody f))
 
 -- Distances stay far below 'no walk' where no arc costs more than a road may.
-pub net-near : (net : Network) → order net ≤ maxNodes → Within (order net) (arcs net) → Costs maxSeconds (arcs net)
+pub net-near : (net : Network) → order net ≤ maxNodes → Within (order net) (arcs net) → Costs maxCost (arcs net)
     → (u t : ℕ) → u < order net → Small (distance net u t)
 unfolding distance
 net-near net few within costs u t h = step (distance net u t) refl
   where
     step : (x : Distance) → distance net u t ≡ x → Small x
     step unreachable e = tt
-    step (finite k) e = omega (arith, few, dist-bound (arcs net) (order net) u t within h maxSeconds k costs e)
+    step (finite k) e = omega (arith, few, dist-bound (arcs net) (order net) u t within h maxCost k costs e)
 
 module _ (f : Bytes) (ok : Sound f) where
   abbrev n : ℕ
@@ -135,7 +138,7 @@ module _ (f : Bytes) (ok : Sound f) where
   unfolding arcs
   within = arcs-within (order (network f)) (network f .edges) fine
 
-  pub costs : Costs maxSeconds (arcs (network f))
+  pub costs : Costs maxCost (arcs (network f))
   unfolding arcs
   costs = arcs-cost (order (network f)) (network f .edges) fine
 

@@ -28,7 +28,8 @@ use Rattle.theory.specs.FarModel.{inside}
 use Rattle.theory.specs.Built.{Good, bodies-of, transit-of, lists-of, cells-of, access-of, count-lists, list-of, few-transit, few-access, in-transit}
 use Rattle.theory.specs.Built.{count-transit}
 use Rattle.theory.specs.Passed.{Passed, all-passed, shaped-all}
-use Rattle.theory.specs.Sound.{ends, costs, few, count-nodes}
+use Rattle.theory.specs.Sound.{maxCost, ends, costs, few, count-nodes}
+use Rattle.theory.specs.PairModel.{hops-few}
 use Rattle.theory.specs.Accepted.{good}
 use Rattle.theory.specs.Shape.{gapless-parts, Bounded, value-fine, rising-range, rising-filter, rising-index, any-none, contents-fine, bodies-fine}
 use Rattle.theory.specs.ReadLaws as read
@@ -86,12 +87,9 @@ module _ (f : Bytes) (dv : Division) (ok : Passed f dv) where
     where
       step : (x : Distance) → d u v ≡ x → Bounded x
       step unreachable e = tt
-      step (finite k) e = omega (
-        arith,
-        few f (ok .sound),
-        dist-bound (arcs (network f)) N u v (inside (network f) (ends f (ok .sound))) h 100000 k
-            (costs f (ok .sound)) e,
-      )
+      step (finite k) e =
+          let most = dist-bound (arcs (network f)) N u v (inside (network f) (ends f (ok .sound))) h maxCost k (costs f (ok .sound)) e in
+          (omega (arith, few f (ok .sound), most), omega (arith, few f (ok .sound), hops-few (network f) (ends f (ok .sound)) (few f (ok .sound)) h v k e))
 
   same-count : nodeCount (nodeBody o) ≡ N
   same-count = ap nodeCount (bodies-of f dv fine 0 (omega arith)) ∙ sym (count-nodes f)

@@ -9,13 +9,23 @@ use crate::memory::write32;
 
 pub const NO_WALK: u32 = 4294967295;
 
-// At most 16 places and 47 roads. Places lie no farther than `spread` from the origin, roads take at most `seconds` and one more.
+pub const NO_ROADS: u32 = 65535;
+
+// At most 16 places and 47 roads. Places lie no farther than `spread` from the origin, roads take at most `seconds`, and of four roads about so many as `zeros`
+// take 0.
 pub struct Network {
     seed: u32,
     pub n: u32,
     roads: u32,
     spread: u32,
     seconds: u32,
+    zeros: u32,
+}
+
+// The seconds and the roads of a walk. Where there is none, those that mark it.
+pub struct Total {
+    pub seconds: u32,
+    pub roads: u32,
 }
 
 // Number k of a seed, below n.
@@ -28,7 +38,7 @@ pub fn random(seed: u32, k: u32, n: u32) -> u32 {
     y as u32 % n
 }
 
-// With 0 all places lie in one spot, or all roads take as long.
+// With 0 all places lie in one spot, or all roads take 0 seconds.
 fn size(seed: u32, k: u32) -> u32 {
     let x = random(seed, k, 5);
     match x {
@@ -49,6 +59,7 @@ pub fn of_seed(seed: u32) -> Network {
         roads: random(seed, 1, most),
         spread: size(seed, 2),
         seconds: size(seed, 3),
+        zeros: random(seed, 5, 4),
     }
 }
 
@@ -73,7 +84,10 @@ fn second(net: Network, r: u32) -> u32 {
 }
 
 fn seconds(net: Network, r: u32) -> u32 {
-    sum(random(net.seed, sum(500, r), net.seconds), 1)
+    if random(net.seed, sum(600, r), 4) < net.zeros {
+        return 0;
+    }
+    random(net.seed, sum(500, r), sum(net.seconds, 1))
 }
 
 // ---- files
@@ -144,31 +158,69 @@ pub fn put_network(b: &mut [u8], net: Network) -> usize {
     put_head(b, net.n, net.roads)
 }
 
-// ---- another search
+// ---- another search, by pairs of seconds and roads
+
+fn none() -> Total {
+    Total {
+        seconds: NO_WALK,
+        roads: NO_ROADS,
+    }
+}
+
+// One road that takes so long, or none.
+pub fn step(seconds: u32) -> Total {
+    if seconds == NO_WALK {
+        return none();
+    }
+    Total { seconds, roads: 1 }
+}
 
 // The total of two parts, where both are walks.
-pub fn joined(a: u32, b: u32) -> u32 {
-    if (a == NO_WALK) | (b == NO_WALK) {
-        return NO_WALK;
+pub fn joined(a: Total, b: Total) -> Total {
+    if (a.seconds == NO_WALK) | (b.seconds == NO_WALK) {
+        return none();
     }
-    sum(a, b)
+    Total {
+        seconds: sum(a.seconds, b.seconds),
+        roads: sum(a.roads, b.roads),
+    }
 }
 
-// The time from s to t in a matrix of 16 by 16, NO_WALK at first.
-pub fn between(d: &[u32], s: u32, t: u32) -> u32 {
+// "Walks are compared by seconds, then by fewer roads."
+fn less(a: Total, b: Total) -> bool {
+    (a.seconds < b.seconds) | ((a.seconds == b.seconds) & (a.roads < b.roads))
+}
+
+// Where the seconds from s to t stand in a matrix of 16 by 16, NO_WALK at first; the roads stand in another behind it.
+fn square(s: u32, t: u32) -> usize {
+    (s % 16 * 16 + t % 16) as usize
+}
+
+pub fn between(d: &[u32], s: u32, t: u32) -> Total {
     if s == t {
-        return 0;
+        return Total {
+            seconds: 0,
+            roads: 0,
+        };
     }
-    word(d, (s % 16 * 16 + t % 16) as usize)
+    let seconds = word(d, square(s, t));
+    if seconds == NO_WALK {
+        return none();
+    }
+    Total {
+        seconds,
+        roads: word(d, plus(square(s, t), 256)),
+    }
 }
 
-fn lower(d: &mut [u32], s: u32, t: u32, x: u32) {
-    if x < between(d, s, t) {
-        put_word(d, (s % 16 * 16 + t % 16) as usize, x);
+fn lower(d: &mut [u32], s: u32, t: u32, x: Total) {
+    if less(x, between(d, s, t)) {
+        put_word(d, square(s, t), x.seconds);
+        put_word(d, plus(square(s, t), 256), x.roads);
     }
 }
 
-// Road r in both directions, for the times from s.
+// Road r in both directions, for the walks from s.
 fn relax(d: &mut [u32], net: Network, s: u32, r: u32) {
     if net.roads <= r {
         return;
@@ -176,8 +228,8 @@ fn relax(d: &mut [u32], net: Network, s: u32, r: u32) {
     let u = first(net, r);
     let v = second(net, r);
     let x = seconds(net, r);
-    lower(d, s, v, joined(between(d, s, u), x));
-    lower(d, s, u, joined(between(d, s, v), x));
+    lower(d, s, v, joined(between(d, s, u), step(x)));
+    lower(d, s, u, joined(between(d, s, v), step(x)));
 }
 
 // Bellman and Ford's: from each of 16 places 16 rounds over all roads.

@@ -1,5 +1,5 @@
 -- The network as the lines of a sheet leave it, as a search has it; and what the words of the searches say of both networks. Assumes nothing.
-use Prim.Native.Nat.{ℕ, _+_, _≤_, _<_}
+use Prim.Native.Nat.{ℕ, _≤_, _<_}
 use native.Mathlib.Omega.{arith}
 use mathlib.Core.Path.{_≡_, refl, sym, _∙_, ap, subst}
 use mathlib.Core.Bool.{Bool, false}
@@ -9,20 +9,20 @@ use Rattle.model.specs.Lists.{any}
 use Rattle.model.specs.Bytes.{Bytes}
 use Rattle.model.specs.Contents.{nodeBody, edgeBody}
 use Rattle.model.specs.Distance.{dist}
-use Rattle.model.specs.Network.{Edge, Network, network, maxNodes, maxSeconds, nodeCount, order, arcs, distance, someEdgeBroken}
+use Rattle.model.specs.Network.{Edge, Network, network, maxNodes, nodeCount, order, arcs, distance, someEdgeBroken}
 use Rattle.model.specs.Oracle.{coded, decoded}
 use Rattle.model.specs.Query.{answer, localAnswer, way}
 use Rattle.model.specs.Walk.{Arc}
 use Rattle.model.specs.declared.Kind.the-variants.{Local}
 use Rattle.theory.specs.Passed.{Shaped, all-shaped}
 use Rattle.model.specs.Rules.{wordsNeeded}
-use Rattle.theory.specs.Sound.{ends, count-nodes, node-bytes, net-near}
+use Rattle.theory.specs.Sound.{maxCost, ends, count-nodes, node-bytes, net-near}
 use Rattle.theory.specs.FarModel.{both-ways}
 use Rattle.theory.specs.ReadLaws.{decoded-coded}
 use Rattle.theory.specs.Walks.{Within, Costs, Positive}
 use Rattle.algorithms.specs.Rounds.{distanceWords}
 use Rattle.words.specs.Frames.{KeptFrom, OnlyIn}
-use Rattle.words.specs.Regions.{gridAt, spansAt, spanCount, indexAt}
+use Rattle.words.specs.Regions.{gridAt, spansAt, spanCount}
 use Rattle.index.specs.Index.{IndexedEdges}
 use Rattle.index.proofs.Laid.{roads-kept}
 use Rattle.sheet.specs.Under.{networkUnder, stillDriven, tooSlow}
@@ -33,10 +33,10 @@ use Rattle.arcs.specs.Leaving.{EdgesUnder}
 use Rattle.way.specs.Distances.{distanceIn}
 use Rattle.opened.specs.Opened.{Opened, Stays}
 use Rattle.opened.specs.TimesFrom.{wayOver}
-use Rattle.opened.proofs.OpenLaws.{stays, stays-noted, stays-then}
+use Rattle.opened.proofs.OpenLaws.{stays, stays-noted, stays-then, spans-end}
 use Rattle.opened.proofs.StoppedWays.{way-itself}
 use Rattle.opened.proofs.WayLaws.{Searched, own-searched, net-distance, word-is, way-over}
-use Rattle.words.specs.Times.{time}
+use Rattle.words.specs.Times.{timeWords, time}
 use Rattle.under.specs.Judged.{netUnder, QuickLines, NotedThen, Judged}
 
 module _ (o lines : Bytes) (shaped : Shaped o) where
@@ -74,7 +74,7 @@ module _ (o lines : Bytes) (shaped : Shaped o) where
         let f = left-fine (edgeBody o) lines n rule-six quick e (unfold leftUnder in m) in
         (omega (arith, f .first-in, new-order), omega (arith, f .second-in, new-order))
 
-    costs : Costs maxSeconds (arcs net)
+    costs : Costs maxCost (arcs net)
     costs = rw new-arcs (arcs-cost (edgeBody o) lines n rule-six quick)
 
     positive : Positive (arcs net)
@@ -128,8 +128,7 @@ pub noted-edges : (edges lines : Bytes) (n : ℕ) (w w′ : List ℕ) → 2 ≤ 
     false
     → SpannedIn lines n w′ → OnlyIn (spansAt n) (spanCount n) w w′ → EdgesUnder edges lines n w′
 noted-edges edges lines n w w′ two r quick k o =
-    let e : spansAt n + spanCount n ≡ indexAt n = omega arith in
-    record { roads = roads-kept edges n w w′ (subst (λ (i : ℕ). KeptFrom i w w′) e (o .back)) r; spanned = k; quick = quick }
+    record { roads = roads-kept edges n w w′ (subst (λ (i : ℕ). KeptFrom i w w′) (spans-end n two) (o .back)) r; spanned = k; quick = quick }
 
 pub noted-then : (n : ℕ) (w mid w′ : List ℕ) → length mid ≡ length w → OnlyIn (spansAt n) (spanCount n) w mid → KeptFrom (gridAt n) mid w′ → NotedThen n w w′
 noted-then n w mid w′ l o k = record { mid = mid; size = l; noted = o; later = k }
@@ -156,7 +155,7 @@ judged-over o lines {w} opened s t hs ht ne eb m p e w′ r l d k g z =
       stays = noted-stays o w w′ opened (omega arith) l (rw e at z);
     }
 
-pub read-time : (o : Bytes) (w : List ℕ) → Opened o w → (m : ℕ) → m ≡ nodeCount (nodeBody o) → m ≤ length w
+pub read-time : (o : Bytes) (w : List ℕ) → Opened o w → (m : ℕ) → m ≡ nodeCount (nodeBody o) → timeWords m ≤ length w
 unfolding wordsNeeded
 read-time o w h m e = omega (arith, h .room)
 

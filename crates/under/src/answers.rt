@@ -26,7 +26,7 @@ ghost use Rattle.under.specs.Judged.{netUnder, QuickLines, NotedThen, Ju
 use model::Answer;
 use model::Kind;
 use opened::answers;
-use opened::local::search_seconds;
+use opened::local::search_key;
 use opened::local::search_to;
 use opened::opening::opened_kind;
 use reader::oracle::EDGES;
@@ -88,6 +88,7 @@ fn is_none(a: Answer) -> bool
     match a {
         Answer::Time {
             seconds,
+            hops,
             kind,
             pairs,
         } => false,
@@ -103,8 +104,8 @@ fn searched(o: &[u8], lines: &[u8], s: usize, t: usize, work: &mut [u32]) -> Ans
     ensures answer { λ r. ⌜ r ≡ localAnswer (netUnder (now (lines .entry)) (now (o .entry))) s t ⌝ }
     ensures others { λ _. ⌜ KeptFrom (gridAt (nodeCount (nodeBody (now (o .entry))))) (now (work .entry)) (now (work .exit)) ⌝ }
 {
-    let seconds = search_seconds(oracle_body(o, EDGES), lines, node_count(o), s, t, work);
-    answer_of(Kind::Local, 0, seconds)
+    let found = search_key(oracle_body(o, EDGES), lines, node_count(o), s, t, work);
+    answer_of(Kind::Local, 0, found)
 }
 
 // The time, where no rule is broken. From a node to itself the old way has no step.

@@ -9,7 +9,7 @@ use Rattle.model.specs.Lists.{filter, concatMap, total}
 use Rattle.model.specs.Bytes.{Bytes, bytes32, bytes64, splice}
 use Rattle.theory.specs.FileLaws.{length-32}
 use Rattle.theory.specs.RangeLaws.{rest, rest-step, rest-end, rest-all}
-use Rattle.tables.specs.Bounds.{word-small}
+use Rattle.tables.specs.Bounds.{seconds-small}
 use Rattle.emit.proofs.Writing.{Then, WrittenFrom, from-start, from-next, from-end}
 use Rattle.wages.specs.Wages.{leg, legCount, legs, legTime, legTimes, isMarked, isTime, marked, totalOf, timesBytes, wagesBytes}
 use Rattle.wages.specs.Kept.{LegsKept}
@@ -105,7 +105,7 @@ module _ (o b old : Bytes) where
     far = omega arith;
     bytes = from-next next (p .bytes) (record { ends = omega (arith, length-32 time); spliced = s });
     few = few-on t time i (p .few);
-    small = small-on t time i (unfold legTime in word-small o (kept .shape) (leg b i .start) (leg b i .end) (kept .start i h) (kept .end i h)) (p .small);
+    small = small-on t time i (unfold legTime in seconds-small o (kept .shape) (leg b i .start) (leg b i .end) (kept .start i h) (kept .end i h)) (p .small);
   })
     where
       time : ℕ

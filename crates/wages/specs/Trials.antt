@@ -6,8 +6,8 @@ use mathlib.Core.List.{List, [], _∷_, _++_}
 use lib.ListN.{replicate}
 use Rattle.model.specs.Lists.{all, concatMap, total}
 use Rattle.model.specs.Bytes.{Bytes, bytes16, bytes32, bytes64}
-use Rattle.model.specs.Oracle.{oracle, noWalk}
-use Rattle.model.specs.Query.{timeWord}
+use Rattle.model.specs.Oracle.{oracle, noSeconds}
+use Rattle.model.specs.Query.{secondsWord}
 use Rattle.model.specs.Rules.{rule, firstBroken}
 use Rattle.model.specs.Calls.{outputAfter, sizeAfter}
 use Rattle.model.specs.Trials.{line, fork, forkWithout4, usual, Trial, _⇒_, holds}
@@ -53,7 +53,7 @@ trials =
     -- Fork: 0 to 4 is far; a leg entered again counts again.
     (wages forkOracle (named (0 ∷ 4 ∷ 1 ∷ 2 ∷ 0 ∷ 4 ∷ [])) 24 ⇒ sheet 24 (11 ∷ 10 ∷ 11 ∷ []) 0 32 0) ∷
     -- Fork with road 4 left out: no walk to place 4, by the table (0) and by the roads (3). Marked legs do not count in the total.
-    (wages withoutOracle (named (0 ∷ 4 ∷ 0 ∷ 3 ∷ 3 ∷ 4 ∷ [])) 26 ⇒ sheet 24 (noWalk ∷ 10 ∷ noWalk ∷ []) 2 10 2) ∷
+    (wages withoutOracle (named (0 ∷ 4 ∷ 0 ∷ 3 ∷ 3 ∷ 4 ∷ [])) 26 ⇒ sheet 24 (noSeconds ∷ 10 ∷ noSeconds ∷ []) 2 10 2) ∷
     -- No legs: twelve zeros.
     (wages lineOracle [] 13 ⇒ 0 ∷ 12 ∷ (replicate 12 0 ++ (7 ∷ []))) ∷
     -- A part of a leg that names no place: 17, for 12 does not look at it. A whole leg that names none and a part: 12.
@@ -71,7 +71,7 @@ trials =
     []
 
 pub trials-hold : all holds trials ≡ true
-unfolding trials holds _⇒_ named call wages seventeen sheet refused namedRules total bytes64 timeWord sizeAfter Wages.leg Wages.legCount Wages.legs
+unfolding trials holds _⇒_ named call wages seventeen sheet refused namedRules total bytes64 secondsWord sizeAfter Wages.leg Wages.legCount Wages.legs
     Wages.legNodes Wages.legsBroken Wages.legsRules Wages.openRules Wages.legTime Wages.legTimes Wages.isMarked Wages.isTime Wages.marked Wages.totalOf
     Wages.timesBytes Wages.wagesBytes Wages.wagesRules Wages.wagesRefusal line fork forkWithout4 computed
 trials-hold = refl

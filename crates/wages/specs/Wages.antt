@@ -7,8 +7,8 @@ use lib.ListN.{length}
 use lib.Dec.{eqb, ltb}
 use Rattle.model.specs.Lists.{upTo, filter, concatMap, total}
 use Rattle.model.specs.Bytes.{Bytes, word16, bytes32, bytes64, numberSize}
-use Rattle.model.specs.Oracle.{noWalk}
-use Rattle.model.specs.Query.{timeWord}
+use Rattle.model.specs.Oracle.{noSeconds}
+use Rattle.model.specs.Query.{secondsWord}
 use Rattle.model.specs.Rules.{Rule, rule, firstBroken, workTooSmall, outputTooSmall}
 use Rattle.model.specs.Calls.{workAfter, outputAfter, sizeAfter}
 use Rattle.model.specs.declared.Output.{Output}
@@ -56,16 +56,16 @@ openRules o b words = legsRules o b ++ (rule 14 (workTooSmall o words) ∷ [])
 
 -- ---- what is written
 
--- "A 32-bit time for each in the order entered": "each time is the answer for its leg".
+-- "A 32-bit time for each in the order entered": "each time is the answer for its leg". T-07: "wages .. keep seconds".
 unfoldable pub legTime : Bytes → Leg → ℕ
-legTime o l = timeWord o (l .start) (l .end)
+legTime o l = secondsWord o (l .start) (l .end)
 
 unfoldable pub legTimes : Bytes → Bytes → List ℕ
 legTimes o b = map (legTime o) (legs b)
 
 -- "'no walk' marked as in the table".
 unfoldable pub isMarked : ℕ → Bool
-isMarked t = eqb t noWalk
+isMarked t = eqb t noSeconds
 
 unfoldable pub isTime : ℕ → Bool
 isTime t = not (isMarked t)

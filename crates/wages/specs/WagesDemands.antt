@@ -1,4 +1,4 @@
--- What document 02 promises of the wages sheet (T-04), over the calls: each statement is about any outcome that keeps the calls' contracts.
+-- What document 02 promises of the wages sheet (T-04, T-07), over the calls: each statement is about any outcome that keeps the calls' contracts.
 -- `WagesCall o b` is the contract of `wages` over the oracle o and the legs' bytes b, `TimeCall` that of `time`. The words used here are defined in
 -- `Wages`, in `model` and in `demands`, Outcomes; the proofs are in `WagesLaws`. Assumes nothing.
 use Prim.Native.Nat.{ℕ, _+_, _*_, _≤_, _<_}
@@ -10,10 +10,10 @@ use lib.ListN.{length, take, drop, replicate}
 use Rattle.model.specs.Lists.{any, upTo}
 use Rattle.model.specs.Bytes.{Bytes, word32, word64}
 use Rattle.model.specs.Contents.{nodeBody}
-use Rattle.model.specs.Walk.{Walk}
-use Rattle.model.specs.Distance.{IsLeast}
-use Rattle.model.specs.Network.{network, nodeCount, arcs}
-use Rattle.model.specs.Oracle.{noWalk, coded, decoded}
+use Rattle.model.specs.Pair.{secondsOf}
+use Rattle.model.specs.Walk.{Walk, Least}
+use Rattle.model.specs.Network.{network, nodeCount, timedArcs}
+use Rattle.model.specs.Oracle.{noSeconds, coded}
 use Rattle.model.specs.Query.{distanceOf}
 use Rattle.model.specs.Rules.{rule, shapeRules, wellShaped, noSuchNode, wordsNeeded, workTooSmall, outputTooSmall}
 use Rattle.model.specs.Calls.{cleared, Build, TimeCall}
@@ -73,9 +73,9 @@ module _ {o b : Bytes} {work work′ : List ℕ} {out out′ : Bytes} {r : Outpu
     size-is = laws.size-is call given
 
     -- "A 32-bit time for each in the order entered ('no walk' marked as in the table)": "each time is the answer for its leg", what `time` hands back for
-    -- it, of any words that are enough.
+    -- it, of any words that are enough: its seconds (T-07: "wages .. keep seconds").
     pub time-written : (i : ℕ) → i < legCount b → {words words′ : List ℕ} {a : Answer} → TimeCall o (leg b i .start) (leg b i .end) words a words′
-        → wordsNeeded o ≤ length words → word32 out′ (4 * i) ≡ coded (distanceOf a)
+        → wordsNeeded o ≤ length words → word32 out′ (4 * i) ≡ secondsOf (coded (distanceOf a))
     time-written = laws.time-written call given
 
     -- The times written.
@@ -105,10 +105,10 @@ module _ {o b : Bytes} {work work′ : List ℕ} {out out′ : Bytes} {r : Outpu
 module _ {f : Bytes} {dv : Division} {work work′ : List ℕ} {out out′ : Bytes} {r : Built} (call : Build f dv work out r work′ out′) (done : r .rule ≡ 0)
     {b : Bytes} {words words′ : List ℕ} {room room′ : Bytes} {sheet : Output} (query : WagesCall (handed r out′) b words room sheet words′ room′)
     (given : sheet .rule ≡ 0) (i : ℕ) (h : i < legCount b) where
-  -- The time written is the least total over all walks on the network's open roads from the leg's start to its end ..
-  pub leg-least : IsLeast (Walk (arcs (network f)) (leg b i .start) (leg b i .end)) (decoded (word32 room′ (4 * i)))
+  -- The time written, where it is not marked, is the least seconds over all walks on the network's roads from the leg's start to its end ..
+  pub leg-least : (word32 room′ (4 * i) ≡ noSeconds → ⊥) → Least (timedArcs (network f)) (leg b i .start) (leg b i .end) (word32 room′ (4 * i))
   leg-least = laws.leg-least call done query given i h
 
   -- .. and it is marked 'no walk' exactly where there is none.
-  pub leg-none : (word32 room′ (4 * i) ≡ noWalk) ↔ ((n : ℕ) → Walk (arcs (network f)) (leg b i .start) (leg b i .end) n → ⊥)
+  pub leg-none : (word32 room′ (4 * i) ≡ noSeconds) ↔ ((n : ℕ) → Walk (timedArcs (network f)) (leg b i .start) (leg b i .end) n → ⊥)
   leg-none = laws.leg-none call done query given i h

@@ -12,23 +12,25 @@ use borrow.Author.Tests.{leb-true, le-leb, ltb-true, lt-ltb, le-ltb, eqb-false, 
 use Rattle.model.specs.Lists.{any, upTo, filter, concatMap, total, range}
 use Rattle.model.specs.Bytes.{Bytes, word32, word64, bytes16, bytes32, bytes64}
 use Rattle.model.specs.Contents.{nodeBody}
-use Rattle.model.specs.Walk.{Walk}
-use Rattle.model.specs.Distance.{IsLeast}
-use Rattle.model.specs.Network.{network, nodeCount, arcs}
-use Rattle.model.specs.Oracle.{noWalk, coded, decoded}
-use Rattle.model.specs.Query.{distanceOf, timeWord}
+use Rattle.model.specs.Pair.{secondsOf}
+use Rattle.model.specs.Walk.{Walk, hops, PairWalk, Least}
+use Rattle.model.specs.Distance.{IsLeastPair}
+use Rattle.model.specs.Network.{network, nodeCount, timedArcs}
+use Rattle.model.specs.Oracle.{noSeconds, noWalk, coded, decoded}
+use Rattle.model.specs.Query.{distanceOf, timeWord, secondsWord}
 use Rattle.model.specs.Rules.{rule, firstBroken, networkRules, shapeRules, wellShaped, noSuchNode, wordsNeeded, workTooSmall, outputTooSmall}
 use Rattle.model.specs.Calls.{cleared, outputAfter, sizeAfter, Build, TimeCall}
 use Rattle.model.specs.declared.Answer.{Answer}
 use Rattle.model.specs.declared.Built.{Built}
 use Rattle.model.specs.declared.Division.{Division}
 use Rattle.model.specs.declared.Output.{Output}
+use Rattle.theory.specs.Keys.{seconds-least}
 use Rattle.theory.specs.Firsts.{one-kept, split}
 use Rattle.theory.specs.Members.{any→, →any, map→, →map, range→, →upTo}
 use Rattle.theory.specs.Passed.{shape-counted}
 use Rattle.theory.specs.RangeLaws.{getD-map-range}
 use Rattle.theory.specs.Tests.{refuted}
-use Rattle.tables.specs.Bounds.{word-small, word-tells}
+use Rattle.tables.specs.Bounds.{seconds-small, word-tells, seconds-tell}
 use Rattle.emit.specs.PartLaws.{map-same}
 use Rattle.demands.specs.Outcomes.{Refuses, handed}
 use Rattle.demands.specs.CallLaws as laws
@@ -196,7 +198,7 @@ module _ {o b : Bytes} {work work′ : List ℕ} {out out′ : Bytes} {r : Outpu
     end-in : (i : ℕ) → i < legCount b → leg b i .end < nodeCount (nodeBody o)
     end-in = kept .legs .end
 
-    time-of : (i : ℕ) → i < legCount b → getD (legTimes o b) i 0 ≡ timeWord o (leg b i .start) (leg b i .end)
+    time-of : (i : ℕ) → i < legCount b → getD (legTimes o b) i 0 ≡ secondsWord o (leg b i .start) (leg b i .end)
     unfolding legTimes legs legTime
     time-of i h =
         let e : 0 + i ≡ i = omega arith in
@@ -206,7 +208,7 @@ module _ {o b : Bytes} {work work′ : List ℕ} {out out′ : Bytes} {r : Outpu
     small : Words (legTimes o b)
     small i h =
         let k : i < legCount b = omega (arith, count-times o b) in
-        rw (time-of i k) (word-small o (kept .legs .shape) (leg b i .start) (leg b i .end) (start-in i k) (end-in i k))
+        rw (time-of i k) (seconds-small o (kept .legs .shape) (leg b i .start) (leg b i .end) (start-in i k) (end-in i k))
 
     abbrev rest : Bytes
     rest = drop (length (wagesBytes o b)) out
@@ -215,14 +217,14 @@ module _ {o b : Bytes} {work work′ : List ℕ} {out out′ : Bytes} {r : Outpu
     unfolding wagesBytes
     output = after ∙ laws.bytes-done (wagesBytes o b) out
 
-    time-is : (i : ℕ) → i < legCount b → word32 out′ (4 * i) ≡ timeWord o (leg b i .start) (leg b i .end)
+    time-is : (i : ℕ) → i < legCount b → word32 out′ (4 * i) ≡ secondsWord o (leg b i .start) (leg b i .end)
     time-is i h = ap (λ (l : Bytes). word32 l (4 * i)) output ∙ (time-at (legTimes o b) rest small i (omega (arith, count-times o b)) ∙ time-of i h)
 
     pub time-written : (i : ℕ) → i < legCount b → {words words′ : List ℕ} {a : Answer} → TimeCall o (leg b i .start) (leg b i .end) words a words′
-        → wordsNeeded o ≤ length words → word32 out′ (4 * i) ≡ coded (distanceOf a)
-    unfolding timeWord
+        → wordsNeeded o ≤ length words → word32 out′ (4 * i) ≡ secondsOf (coded (distanceOf a))
+    unfolding secondsWord timeWord
     time-written i h single enough =
-        time-is i h ∙ ap (λ (x : Answer). coded (distanceOf x))
+        time-is i h ∙ ap (λ (x : Answer). secondsOf (coded (distanceOf x)))
         (sym (demands.time-is o (kept .legs .shape) (leg b i .start) (leg b i .end) (start-in i h) (end-in i h) single enough))
 
     -- ---- the number of marked legs, and the total
@@ -257,17 +259,39 @@ module _ {f : Bytes} {dv : Division} {work work′ : List ℕ} {out out′ : Byt
   abbrev t : ℕ
   t = leg b i .end
 
-  pub leg-least : IsLeast (Walk (arcs (network f)) s t) (decoded (word32 room′ (4 * i)))
-  leg-least =
+  abbrev word : ℕ
+  word = timeWord o s t
+
+  leg-pair : IsLeastPair (PairWalk (timedArcs (network f)) s t) (decoded word)
+  leg-pair =
       let hs : s < nodeCount (nodeBody o) = start-in query given i h in
       let ht : t < nodeCount (nodeBody o) = end-in query given i h in
-      rw (time-is query given i h, word-tells o (demands.handed-shape call done) s t hs ht)
+      rw (word-tells o (demands.handed-shape call done) s t hs ht)
       (demands.least call done s t (rw (demands.handed-count call done) at hs) (rw (demands.handed-count call done) at ht))
 
-  pub leg-none : (word32 room′ (4 * i) ≡ noWalk) ↔ ((n : ℕ) → Walk (arcs (network f)) s t n → ⊥)
+  seconds-are : word32 room′ (4 * i) ≡ secondsOf word
+  unfolding secondsWord
+  seconds-are = time-is query given i h
+
+  -- The seconds tell 'no walk' just where the key does.
+  is-marked : (word32 room′ (4 * i) ≡ noSeconds) ↔ (word ≡ noWalk)
+  unfolding secondsWord
+  is-marked = (
+    λ e. seconds-tell o (demands.handed-shape call done) s t (start-in query given i h) (end-in query given i h) (sym seconds-are ∙ e),
+    λ e. seconds-are ∙ ap secondsOf e,
+  )
+
+  pub leg-least : (word32 room′ (4 * i) ≡ noSeconds → ⊥) → Least (timedArcs (network f)) s t (word32 room′ (4 * i))
   unfolding decoded
-  leg-none = (λ e. rw (eq-eqb (word32 room′ (4 * i)) noWalk e) at leg-least, λ none. pick none (ℕ-discrete (word32 room′ (4 * i)) noWalk))
+  leg-least d = rw seconds-are (seconds-least (rw (ne-eqb word noWalk (λ e. d (is-marked .1 e))) at leg-pair))
+
+  pub leg-none : (word32 room′ (4 * i) ≡ noSeconds) ↔ ((n : ℕ) → Walk (timedArcs (network f)) s t n → ⊥)
+  unfolding decoded
+  leg-none = (
+    λ e n w. (rw (eq-eqb word noWalk (is-marked .0 e)) at leg-pair) (record { seconds = n; hops = hops w }) (record { walk = w; its-hops = refl }),
+    λ none. pick none (ℕ-discrete (word32 room′ (4 * i)) noSeconds),
+  )
     where
-      pick : ((n : ℕ) → Walk (arcs (network f)) s t n → ⊥) → Dec (word32 room′ (4 * i) ≡ noWalk) → word32 room′ (4 * i) ≡ noWalk
+      pick : ((n : ℕ) → Walk (timedArcs (network f)) s t n → ⊥) → Dec (word32 room′ (4 * i) ≡ noSeconds) → word32 room′ (4 * i) ≡ noSeconds
       pick none (yes e) = e
-      pick none (no d) = absurd (none (word32 room′ (4 * i)) ((rw (ne-eqb (word32 room′ (4 * i)) noWalk d) at leg-least) .has))
+      pick none (no d) = absurd (none (word32 room′ (4 * i)) (leg-least d .has))

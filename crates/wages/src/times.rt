@@ -18,7 +18,7 @@ use crate::legs::leg_end;
 use crate::legs::leg_start;
 use codec::bytes::write32;
 use codec::bytes::write64;
-use codec::records::NO_WALK;
+use codec::records::NO_SECONDS;
 use model::Output;
 use opened::answers::seconds_between;
 
@@ -41,7 +41,7 @@ fn tally_with(tally: Tally, time: u32) -> Tally
     requires { ⌜ (tally .marked < maxLegs) × (tally .total ≤ maxTotal) ⌝ }
     ensures { λ r. ⌜ r ≡ tallied tally time ⌝ }
 {
-    if time == NO_WALK {
+    if time == NO_SECONDS {
         return Tally {
             marked: tally.marked + 1,
             total: tally.total,

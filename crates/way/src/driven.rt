@@ -1,5 +1,5 @@
 // Whether the old way can still be driven under a day sheet, "its every step .. in its old time". The distances to the way's end over the edges as they were
-// stand in the first words.
+// are the times in the working words.
 ghost use mathlib.Core.Path.{_≡_};
 ghost use Prim.Native.Nat.{_<_, _≤_};
 ghost use mathlib.Core.List.{[]};
@@ -25,7 +25,7 @@ use codec::records::NO_WALK;
 use words::times::time_of;
 
 // Whether some arc that the sheet leaves leads from u to v in just the time by which v is nearer. A parallel road may serve.
-fn drives(edges: &[u8], lines: &[u8], n: usize, work: &[u32], u: usize, v: usize, left: u32) -> bool
+fn drives(edges: &[u8], lines: &[u8], n: usize, work: &[u32], u: usize, v: usize, left: u64) -> bool
     requires { ⌜ (distanceIn (timesIn n (now work)) u ≡ finite left) × (n ≤ maxNodes) × Enough n (now work) × (v < n) ⌝ }
     requires { ⌜ EdgesUnder (now edges) (now lines) n (now work) ⌝ }
     ensures { λ r. ⌜ r ≡ member v (nexts (distanceIn (timesIn n (now (work .entry))))

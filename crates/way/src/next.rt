@@ -1,5 +1,5 @@
-// The next node of a way: "the lowest-numbered neighbour v with road time + d(v, t) = d(u, t)". The distances to the way's end t stand in the
-// first words, and `left` is that of u, the time left.
+// The next node of a way: "the lowest-numbered neighbour v with road time + d(v, t) = d(u, t)", in pairs. The distances to the way's end t are the times in the
+// working words, as keys, and `left` is that of u.
 ghost use mathlib.Core.Path.{_≡_};
 ghost use mathlib.Core.Bool.{cond};
 ghost use Prim.Native.Nat.{_<_, _≤_, min};
@@ -8,28 +8,29 @@ ghost use Rattle.model.specs.Lists.{leastOf};
 ghost use Rattle.model.specs.Distance.{finite, plus, agree};
 ghost use Rattle.model.specs.Network.{maxNodes};
 ghost use Rattle.model.specs.Query.{nexts};
+ghost use Rattle.theory.specs.Sound.{maxCost};
 ghost use Rattle.sheet.specs.ArcsUnder.{arcsUnder};
 ghost use Rattle.words.specs.Frames.{Enough};
 ghost use Rattle.way.specs.Distances.{distanceIn};
 ghost use Rattle.words.specs.Regions.{timesIn};
-ghost use Rattle.arcs.specs.Leaving.{EdgesUnder, maxCost};
+ghost use Rattle.words.specs.Times.{timeWords};
+ghost use Rattle.arcs.specs.Leaving.{EdgesUnder};
 use arcs::cursor::first_edge;
 use arcs::leaving::arc_under;
 use arcs::leaving::next_under;
 use codec::records::NO_WALK;
 use words::times::time_of;
 
-// The lower of `best` and v where v is next by an arc of `cost` seconds, and else `best`. 'No walk' is no time to add, and the sum is wide, so that it
-// need not be kept small.
-pub fn lower(work: &[u32], n: usize, v: usize, cost: u64, left: u32, best: usize) -> usize
-    requires { ⌜ (n ≤ length (now work)) × (v < n) × (cost ≤ maxCost) ⌝ }
+// The lower of `best` and v where v is next by an arc of this cost, and else `best`. 'No walk' is no time to add.
+pub fn lower(work: &[u32], n: usize, v: usize, cost: u64, left: u64, best: usize) -> usize
+    requires { ⌜ (timeWords n ≤ length (now work)) × (v < n) × (cost ≤ maxCost) ⌝ }
     ensures { λ r. ⌜ r ≡ cond (agree (plus (finite cost) (distanceIn (timesIn n (now (work .entry))) v)) (finite left)) (min best v) best ⌝ }
 {
     let x = time_of(work, n, v);
     if x == NO_WALK {
         return best;
     }
-    if cost + x as u64 != left as u64 {
+    if cost + x != left {
         return best;
     }
     if v < best {
@@ -39,7 +40,7 @@ pub fn lower(work: &[u32], n: usize, v: usize, cost: u64, left: u32, best: usize
 }
 
 // The lowest of the next nodes of u, over the edges as the lines of a sheet leave them, or the number of nodes where there is none.
-pub fn next_node(edges: &[u8], lines: &[u8], n: usize, work: &[u32], u: usize, left: u32) -> usize
+pub fn next_node(edges: &[u8], lines: &[u8], n: usize, work: &[u32], u: usize, left: u64) -> usize
     requires { ⌜ (distanceIn (timesIn n (now work)) u ≡ finite left) × (n ≤ maxNodes) × Enough n (now work) ⌝ }
     requires { ⌜ EdgesUnder (now edges) (now lines) n (now work) ⌝ }
     ensures { λ r. ⌜ r ≡ leastOf n (nexts (distanceIn (timesIn n (now (work .entry))))

@@ -2,7 +2,7 @@
 use Prim.Native.Nat.{ℕ, _+_, _*_, _/_, _%_, _^_, _<_}
 use native.Mathlib.Omega.{arith}
 use native.Mathlib.Decide.{ℕ-discrete}
-use mathlib.Core.Path.{_≡_}
+use mathlib.Core.Path.{_≡_, subst}
 use mathlib.Core.Bool.{cond}
 use mathlib.Core.List.{List}
 use lib.ListN.{length, getD, set, take, drop, length-set}
@@ -21,6 +21,9 @@ half-shifted w p h = pick (ℕ-discrete (p % 2) 0)
     pick : Dec (p % 2 ≡ 0) → getD w (p / 2) 0 / 2 ^ (p % 2 * 16) % 65536 ≡ half w p
     pick (yes e) = rw e (omega arith)
     pick (no d) = let f : p % 2 ≡ 1 = omega (arith, d) in rw f (omega arith)
+
+pub half-small : (w : List ℕ) (p : ℕ) → getD w (p / 2) 0 < 4294967296 → half w p < 65536
+half-small w p h = subst (λ (y : ℕ). y < 65536) (half-shifted w p h) (omega arith)
 
 pub changed-low : (p x y : ℕ) → p % 2 ≡ 0 → x / 65536 * 65536 + y ≡ changed p x y
 unfolding changed
@@ -55,6 +58,15 @@ changed-other p q x y h d = pick (ℕ-discrete (p % 2) 0) (ℕ-discrete (q % 2) 
     pick (yes e) (no f) = rw (eq-eqb (p % 2) 0 e, ne-eqb (q % 2) 0 f) (omega arith)
     pick (no e) (yes f) = rw (ne-eqb (p % 2) 0 e, eq-eqb (q % 2) 0 f) (omega arith)
     pick (no e) (no f) = absurd (d (omega arith))
+
+-- Which word it stands in, and which word is written.
+pub half-alike : (w w′ : List ℕ) (p : ℕ) → getD w′ (p / 2) 0 ≡ getD w (p / 2) 0 → half w′ p ≡ half w p
+unfolding half
+half-alike w w′ p e = rw e
+
+pub put-apart : (w : List ℕ) (p y i : ℕ) → (i ≡ p / 2 → ⊥) → getD (putHalf w p y) i 0 ≡ getD w i 0
+unfolding putHalf
+put-apart w p y i d = getD-set-other w (p / 2) i _ 0 d
 
 pub put-length : (w : List ℕ) (p y : ℕ) → length (putHalf w p y) ≡ length w
 unfolding putHalf

@@ -14,7 +14,8 @@ use Rattle.model.specs.Rules.{workWords}
 use Rattle.bitset.specs.Bits.{setWords, isIn, insertIn, flags}
 use Rattle.bitset.proofs.Members.{flags-same, flags-insert, flags-none, insert-is, insert-from}
 use Rattle.words.specs.Halves.{halfWords}
-use Rattle.words.specs.Regions.{queueWords, searchWords, regionAt, region, regionFlags, counts, spansAt, indexAt, placeAt, indexWords}
+use Rattle.words.specs.Regions.{hopWords, queueWords, searchWords, regionAt, region, regionFlags, counts, spansAt, indexAt, placeAt, indexWords}
+use Rattle.words.specs.Times.{timeWords}
 use Rattle.words.specs.Frames.{OnlyIn, Only, KeptFrom}
 use Rattle.words.proofs.Stays.{kept-more, before-kept, after-kept, only-set}
 
@@ -45,12 +46,31 @@ index-fits n h = pick (ℕ-discrete n 2)
     pick (yes e) = rw e (omega arith)
     pick (no d) = omega (arith, d)
 
--- From two nodes on there is room for what later requests take: beside the counts another number of 16 bits for each node (T-07), and in an opened oracle these
--- numbers, two numbers of the grid (T-11) and a span.
-pub room-left : (n : ℕ) → 2 ≤ n → (regionAt n counts + 2 * halfWords n ≤ indexAt n) × (spansAt n + 2 + halfWords n < indexAt n)
+-- From two nodes on the hops have the words that they need, and the queue's words are those of the times. The words of a search have them in any case.
+pub hops-fit : (n : ℕ) → 2 ≤ n → hopWords n ≡ halfWords n
+hops-fit n h = omega arith
+
+pub times-fit : (n : ℕ) → timeWords n ≤ searchWords n
+times-fit n = omega arith
+
+-- Behind the sets there is room for the counts.
+counts-two : (n hops sets : ℕ) → 2 ≤ n → hops ≤ halfWords n → 32 * sets ≤ n + 32 → 2 * n + hops + 5 * sets + halfWords n ≤ workWords n
+counts-two n hops sets h l r = omega arith
+
+pub counts-fit : (n : ℕ) → 0 < n → regionAt n counts + halfWords n ≤ workWords n
+counts-fit n h = pick (ℕ-discrete n 1)
+  where
+    pick : Dec (n ≡ 1) → regionAt n counts + halfWords n ≤ workWords n
+    pick (yes e) = rw e (omega arith)
+    pick (no d) =
+        let two : 2 ≤ n = omega (arith, d) in
+        counts-two n (hopWords n) (setWords n) two (omega (arith, hops-fit n two)) (omega arith)
+
+-- From two nodes on the index stands behind them, and in an opened oracle there is room for T-11's two numbers of the grid, and a span behind them.
+pub room-left : (n : ℕ) → 2 ≤ n → (regionAt n counts + halfWords n ≤ indexAt n) × (spansAt n + 2 < indexAt n)
 room-left n h = (omega arith, pick (ℕ-discrete n 2) (ℕ-discrete n 3))
   where
-    pick : Dec (n ≡ 2) → Dec (n ≡ 3) → spansAt n + 2 + halfWords n < indexAt n
+    pick : Dec (n ≡ 2) → Dec (n ≡ 3) → spansAt n + 2 < indexAt n
     pick (yes e) d = rw e (omega arith)
     pick (no d) (yes e) = rw e (omega arith)
     pick (no d) (no e) = omega (arith, d, e)

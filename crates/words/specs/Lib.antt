@@ -1,4 +1,4 @@
 pub mod Halves
+pub mod Times
 pub mod Regions
 pub mod Frames
-pub mod Times

@@ -1,23 +1,34 @@
 -- What stands where in the working words, document 01's "8 × N words of 32 bits" (`workWords n` of them, model Rules). Assumes nothing.
---   0                a time for each node
+--   0                the seconds of each node's time
 --   n                the queue of a search, and its settle order when it has ended
---   2 n              sets of nodes, one bit a node: settled, and after a search the marks; wanted; own; gathered; transit
---   2 n + 5 sets     a number of 16 bits for each node, two to a word: the counts
+--   2 n              the hops of each node's time, numbers of 16 bits, two to a word
+--   queueWords n     sets of nodes, one bit a node: settled, and after a search the marks; wanted; own; gathered; transit
+--   behind the sets  a number of 16 bits for each node, two to a word: the counts
 --   behind them      room that is not in use
 --   indexAt n        the index of the edges, up to the end
 -- An opened oracle has its grid behind the wanted set, and a day sheet's spans behind the grid, up to the index.
-use Prim.Native.Nat.{ℕ, zero, suc, _+_, _-_, _*_, min}
-use mathlib.Core.List.{List}
+use Prim.Native.Nat.{ℕ, zero, suc, _+_, _-_, _*_, _/_, min}
+use mathlib.Core.List.{List, map}
 use lib.ListN.{take, drop}
+use Rattle.model.specs.Lists.{upTo}
 use Rattle.model.specs.Rules.{workWords}
 use Rattle.bitset.specs.Bits.{setWords, flags}
 use Rattle.words.specs.Halves.{halfWords, half, putHalf}
+use Rattle.words.specs.Times.{hopsAt, time}
 
 -- ---- where parts begin
 
--- The words of a search's queue, and all that a search is lent: behind the queue the settled set.
+-- 1 from two nodes on, and else 0: one node alone is never searched, and its 8 words have room for neither hops nor an index.
+abbrev pub several : ℕ → ℕ
+several n = min 1 (n - 1)
+
+-- The words of the hops: from two nodes on (n + 1) / 2.
+abbrev pub hopWords : ℕ → ℕ
+hopWords n = (n - 1) / 2 + several n
+
+-- The words of a search's queue with the times, and all that a search is lent: behind them the settled set.
 abbrev pub queueWords : ℕ → ℕ
-queueWords n = 2 * n
+queueWords n = hopsAt n + hopWords n
 
 abbrev pub searchWords : ℕ → ℕ
 searchWords n = queueWords n + setWords n
@@ -54,10 +65,10 @@ gridAt n = searchWords n + setWords n
 abbrev pub gridWords : ℕ
 gridWords = 4
 
--- Where the index stands, and how many words it has. Before it there is room for T-07's number of 16 bits for each node, and for T-11's two numbers of the grid
--- with a span behind them: from two nodes on, three words more than a word a node. For one node there is no room, and no index.
+-- Where the index stands, and how many words it has. Before it there is room for T-11's two numbers of the grid with a span behind them: from two nodes on,
+-- three words more than a word a node for hops and counts. For one node there is no room, and no index.
 abbrev pub spareWords : ℕ → ℕ
-spareWords n = min 3 (3 * (n - 1))
+spareWords n = 3 * several n
 
 abbrev pub indexAt : ℕ → ℕ
 indexAt n = 3 * n + 5 * setWords n + spareWords n
@@ -86,8 +97,8 @@ abbrev pub queueIn : ℕ → List ℕ → List ℕ
 queueIn n work = take (queueWords n) work
 
 -- The time of each node.
-abbrev pub timesIn : ℕ → List ℕ → List ℕ
-timesIn n work = take n work
+unfoldable pub timesIn : ℕ → List ℕ → List ℕ
+timesIn n work = map (time n work) (upTo n)
 
 -- The settled nodes from position e on, in an order that is filled from its end: the last settled stands first.
 abbrev pub orderIn : ℕ → ℕ → List ℕ → List ℕ

@@ -1,5 +1,5 @@
-// The regions of the working words: two of a word a node each, sets of nodes of one bit a node, and 16 bits a node for counts. The last words are an index's,
-// and every function over the regions keeps them.
+// The regions of the working words: two of a word a node each, 16 bits a node for hops, sets of nodes of one bit a node, and 16 bits a node for counts. The
+// last words are an index's, and every function over the regions keeps them.
 ghost use mathlib.Core.Path.{_≡_};
 ghost use Prim.Native.Nat.{_+_, _*_, _<_, _≤_};
 ghost use lib.Dec.{leb};
@@ -8,7 +8,7 @@ ghost use Rattle.model.specs.Network.{maxNodes};
 ghost use Rattle.bitset.specs.Bits.{setWords, isIn};
 ghost use Rattle.bitset.specs.Members.{HasBits};
 ghost use Rattle.words.specs.Halves.{halfWords};
-ghost use Rattle.words.specs.Regions.{searchWords, regionAt, region, regionFlags, counts, countsIn, putCount};
+ghost use Rattle.words.specs.Regions.{queueWords, searchWords, regionAt, region, regionFlags, counts, countsIn, putCount};
 ghost use Rattle.words.specs.Regions.{gridAt, placeAt, indexWords, spansAt, spanCount};
 ghost use Rattle.words.specs.Frames.{Enough, Only};
 use crate::halves::put_half;
@@ -17,12 +17,10 @@ use bitset::bits::insert_at;
 use bitset::bits::set_words;
 use bitset::words::fill;
 
-// Working words for each node: in all, and those that a search's queue is lent.
+// Working words for each node.
 pub const WORDS: usize = 8;
 
-pub const QUEUE: usize = 2;
-
-// The times and the settle order of a search, and the marks made after it, which stand over its settled set.
+// The seconds and the settle order of a search, and the marks made after it, which stand over its settled set.
 pub const TIMES: usize = 0;
 
 pub const ORDER: usize = 1;
@@ -50,6 +48,17 @@ pub const GRID_WORDS: usize = 4;
 // The words that are left free before the index, beyond a word a node with the counts.
 const SPARE: usize = 3;
 
+// The words of a search's queue with the times. One node alone is never searched, and has no hops.
+pub fn queue_words(n: usize) -> usize
+    requires { ⌜ queueWords n < 18446744073709551616 ⌝ }
+    ensures { λ r. ⌜ r ≡ queueWords n ⌝ }
+{
+    if n < 2 {
+        return 2 * n;
+    }
+    2 * n + (n + 1) / 2
+}
+
 // Where region k begins.
 pub fn region_at(n: usize, k: usize) -> usize
     requires { ⌜ regionAt n k < 18446744073709551616 ⌝ }
@@ -58,7 +67,7 @@ pub fn region_at(n: usize, k: usize) -> usize
     if k < MARKS {
         return k * n;
     }
-    QUEUE * n + (k - MARKS) * set_words(n)
+    queue_words(n) + (k - MARKS) * set_words(n)
 }
 
 // The words that a search is lent: those of its queue, and the settled set.
@@ -66,7 +75,7 @@ pub fn search_words(n: usize) -> usize
     requires { ⌜ n ≤ maxNodes ⌝ }
     ensures { λ r. ⌜ r ≡ searchWords n ⌝ }
 {
-    QUEUE * n + set_words(n)
+    queue_words(n) + set_words(n)
 }
 
 // The words of a number of 16 bits for each node.

@@ -99,12 +99,13 @@ pub fn end(number: u32) -> Item {
     Item::new(signs::end(Point { x: END_HALF, y: 0.0 }), 2.0 * END_HALF, format!("end: place {number}"))
 }
 
-/// The way and its total, in seconds and as hours, minutes and seconds.
+/// The way with its places and roads, and its total, in seconds and as hours, minutes and seconds.
 pub fn way(nodes: usize, seconds: u64) -> [Item; 2] {
     let sign = signs::way(&sample_line().map(|(a, b)| [a, b]).concat());
     let clock = format!("{}:{:02}:{:02}", seconds / 3600, seconds / 60 % 60, seconds % 60);
     let total = format!("total {} s ({clock})", grouped(seconds));
-    [Item::new(sign, SAMPLE, format!("way of {}", count(nodes, "place"))), Item::new(String::new(), 0.0, total)]
+    let passed = format!("way of {}, {}", count(nodes, "place"), count(nodes - 1, "road"));
+    [Item::new(sign, SAMPLE, passed), Item::new(String::new(), 0.0, total)]
 }
 
 pub fn no_way() -> Item {

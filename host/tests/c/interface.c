@@ -60,16 +60,18 @@ static void null_pointers(void) {
 static void sheets(void) {
     begin_sheet();
     check(time_under(0, PLACES - 1).kind == JUKESOGBI_FAR && time_under(2, 5).seconds == 12, "no lines change nothing");
+    check(time_under(0, PLACES - 1).roads == PLACES - 1 && time_under(2, 5).roads == 3, "the roads of a time");
     put_line(JUKESOGBI_DELAYED, 3, 100);
     check(time_under(2, 5).seconds == 112 && time_under(0, PLACES - 1).kind == JUKESOGBI_LOCAL, "a delay");
     put_line(JUKESOGBI_CLOSED, 3, 0);
     check(time_under(2, 5).seconds == JUKESOGBI_NO_WALK && time_under(4, 5).seconds == 5, "a closure");
+    check(time_under(2, 5).roads == JUKESOGBI_NO_ROADS, "no roads without a walk");
     put_line(JUKESOGBI_DELAYED, 3, 0);
     put_line(JUKESOGBI_DELAYED, 3, 100000);
     check(time_under(2, 5).rule == 0 && time_under(2, 5).seconds == JUKESOGBI_NO_WALK, "a delay does not end a closure");
     check(jukesogbi_way_under(oracle, oracle_size, sheet, sheet_size, 2, 5, work, WORDS, nodes, sizeof nodes).nodes == 0, "no way");
     put_line(JUKESOGBI_CLOSED, PLACES - 1, 0);
-    check(time_under(2, 5).rule == 19, "no such road");
+    check(time_under(2, 5).rule == 19 && time_under(2, 5).seconds == 0 && time_under(2, 5).roads == 0, "no such road");
     sheet[sheet_size - 1] = 1;
     check(time_under(2, 5).rule == 18, "seconds beside a closure");
     begin_sheet();
@@ -145,7 +147,7 @@ static void *asks(void *number) {
             seconds += i % 100 + 1;
         }
         jukesogbi_reply reply = jukesogbi_time(oracle, oracle_size, s, t, words, WORDS);
-        check(reply.rule == 0 && reply.seconds == seconds, "a time in a thread");
+        check(reply.rule == 0 && reply.seconds == seconds && reply.roads == (s < t ? t - s : s - t), "a time in a thread");
     }
     free(words);
     return NULL;
@@ -195,7 +197,9 @@ static void *block_asked(void *unused) {
     for (uint32_t i = 0; i < JUKESOGBI_SIDE; i++) {
         names[i] = 17 * i;
     }
-    check(jukesogbi_block(oracle, oracle_size, names, JUKESOGBI_SIDE, names, JUKESOGBI_SIDE, work, WORDS).times[0][1] == 153, "a block");
+    jukesogbi_times block = jukesogbi_block(oracle, oracle_size, names, JUKESOGBI_SIDE, names, JUKESOGBI_SIDE, work, WORDS);
+    check(block.rule == 0 && block.times[0][1] == 153 && block.roads[0][1] == 17, "a block");
+    check(block.times[5][5] == 0 && block.roads[5][5] == 0 && block.roads[11][0] == 187, "its last rows");
     return unused;
 }
 

@@ -40,6 +40,7 @@ fn oracles(mut text: String) -> (BTreeMap<String, &'static str>, String) {
             "oracle (fork []) (usual 6)" => "fork",
             "oracle forkWithout4 (usual 6)" => "fork-without-4",
             "oracle doubled (usual 6)" => "doubled",
+            "oracle side (usual 1)" => "side",
             _ => panic!("`{oracle}` is not known here"),
         };
         oracles.insert(name.to_string(), network);
@@ -103,12 +104,12 @@ fn line(text: &str) -> Option<Line> {
     }
 }
 
-/// `told (Time 11 Far 4)`, `told (None Local 0)` or `told (Refused 20)`.
+/// `told (Time 11 3 Far 4)`, `told (None Local 0)` or `told (Refused 20)`.
 fn time(outcome: &str) -> String {
     let answer = inside(outcome.strip_prefix("told ").unwrap_or_else(|| panic!("`{outcome}` tells no answer")));
     match parted(answer, ' ')[..] {
-        ["Time", seconds, kind, pairs] => format!("{} {} {}", number(seconds), kind.to_lowercase(), number(pairs)),
-        ["None", kind, pairs] => format!("- {} {}", kind.to_lowercase(), number(pairs)),
+        ["Time", seconds, roads, kind, pairs] => format!("{} {} {} {}", number(seconds), number(roads), kind.to_lowercase(), number(pairs)),
+        ["None", kind, pairs] => format!("- - {} {}", kind.to_lowercase(), number(pairs)),
         ["Refused", rule] => format!("refused {}", number(rule)),
         _ => panic!("`{answer}` is no answer"),
     }

@@ -3,6 +3,7 @@
 use super::networks;
 use super::program::oracle;
 use super::reference;
+use super::tables::Tables;
 
 /// Fork's oracle, damaged so that it breaks each of rules 1 to 7, 21 and 8 to 11 and none before it: the rule and the bytes. Those with closed roads break
 /// later rules as well.
@@ -17,6 +18,7 @@ pub fn forks() -> Vec<(u32, Vec<u8>)> {
     vec![
         (1, Vec::new()),
         (1, good[1..].to_vec()),
+        (1, Tables::of(&good, 5).edition_1(networks::fork().bodies(), 6)),
         (2, [&good[..], &[0]].concat()),
         (3, changed(&|b| b[0].clear())),
         (4, changed(&|b| b[0][3] = 0x7f)),

@@ -8,9 +8,11 @@ pub mod computed;
 pub mod convert;
 pub mod damaged;
 pub mod networks;
+pub mod no_time;
 pub mod program;
 pub mod random_sheets;
 pub mod reference;
+pub mod refusals;
 pub mod roads;
 pub mod sheets;
 pub mod stored;
@@ -19,7 +21,7 @@ pub mod terminal;
 pub mod wages;
 
 use jukesogbi::core::raw;
-use reference::{way_outcome, Answer, Built, Map, Outcome, Part, Times, SIDE, WORDS};
+use reference::{value, way_outcome, Answer, Block, Built, Map, Outcome, Pair, Part, SIDE, WORDS};
 use std::cell::Cell;
 use std::fmt::Debug;
 use std::rc::Rc;
@@ -157,13 +159,11 @@ fn built_record(result: Result<Built, u32>) -> raw::Built {
 
 fn answer_record(result: Result<Answer, u32>) -> raw::Answer {
     match result {
-        Ok(a) => raw::Answer {
-            rule: 0,
-            kind: if a.far { 1 } else { 2 },
-            seconds: a.seconds.map_or(reference::NO_WALK, |s| s as u32),
-            pairs: a.pairs as u32,
-        },
-        Err(rule) => raw::Answer { rule, kind: 0, seconds: 0, pairs: 0 },
+        Ok(a) => {
+            let (seconds, roads) = value(a.time);
+            raw::Answer { rule: 0, kind: if a.far { 1 } else { 2 }, seconds, roads, pairs: a.pairs as u32 }
+        }
+        Err(rule) => raw::Answer { rule, kind: 0, seconds: 0, roads: 0, pairs: 0 },
     }
 }
 
@@ -182,10 +182,10 @@ fn route_record(result: Result<usize, u32>) -> raw::Route {
     }
 }
 
-fn times_record(result: Result<Times, u32>) -> raw::Times {
+fn times_record(result: Result<Block, u32>) -> raw::Times {
     match result {
-        Ok(times) => raw::Times { rule: 0, times },
-        Err(rule) => raw::Times { rule, times: [[0; SIDE]; SIDE] },
+        Ok(Block { times, roads }) => raw::Times { rule: 0, times, roads },
+        Err(rule) => raw::Times { rule, times: [[0; SIDE]; SIDE], roads: [[0; SIDE]; SIDE] },
     }
 }
 
@@ -250,7 +250,7 @@ pub fn check_way(input: &Input, s: u32, t: u32, words: usize, room: usize, expec
     memory.check(expected, &at);
 }
 
-pub fn check_block(input: &Input, starts: &[u32], ends: &[u32], words: usize, expected: &Outcome<Times>) {
+pub fn check_block(input: &Input, starts: &[u32], ends: &[u32], words: usize, expected: &Outcome<Block>) {
     let at = || format!("{}: block from {starts:?} to {ends:?} with {words} words", (input.name)());
     let (file, mut memory) = (input.bytes(), Memory::lend(words, 0));
     let (from, to) = (Lent::holding(starts), Lent::holding(ends));
@@ -351,7 +351,7 @@ impl OracleCase {
         expected
     }
 
-    pub fn block(&self, starts: &[u32], ends: &[u32], words: usize) -> Outcome<Times> {
+    pub fn block(&self, starts: &[u32], ends: &[u32], words: usize) -> Outcome<Block> {
         let expected = self.reference.block(starts, ends, words);
         check_block(&self.input, starts, ends, words, &expected);
         expected
@@ -373,12 +373,12 @@ impl OracleCase {
 fn way_by_its_end(map: &Map, s: usize, t: usize) -> Vec<usize> {
     let Some(mut left) = map.d(t, s) else { return Vec::new() };
     let mut places = vec![s];
-    while left > 0 {
+    while left != Pair::ZERO {
         let u = *places.last().unwrap();
-        let on = map.steps().filter(|&(from, to, seconds)| from == u && map.d(t, to).is_some_and(|rest| seconds + rest == left));
-        let (_, next, seconds) = on.min_by_key(|&(_, to, _)| to).expect("a least walk begins with a road");
+        let on = map.steps().filter(|&(from, to, seconds)| from == u && map.d(t, to).is_some_and(|rest| Pair::road(seconds) + rest == left));
+        let (_, next, _) = on.min_by_key(|&(_, to, _)| to).expect("a least walk begins with a road");
         places.push(next);
-        left -= seconds;
+        left = map.d(t, next).unwrap();
     }
     places
 }
@@ -452,7 +452,7 @@ impl Opened<'_> {
         expected.result
     }
 
-    pub fn block(&mut self, starts: &[u32], ends: &[u32]) -> Result<Times, u32> {
+    pub fn block(&mut self, starts: &[u32], ends: &[u32]) -> Result<Block, u32> {
         let (at, file) = (self.at(format!("block from {starts:?} to {ends:?}")), self.case.input.bytes());
         let expected = self.case.block(starts, ends, self.case.words()).result;
         let (from, to) = (Lent::holding(starts), Lent::holding(ends));

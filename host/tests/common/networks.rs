@@ -1,5 +1,5 @@
-//! Networks to try the calls on: those of document 01's trials, and random ones with what tends to go wrong: ties, roads side by side, roads left out,
-//! islands, long roads, many places in one cell, extreme coordinates. And old networks, some of whose roads are closed.
+//! Networks to try the calls on: those of document 01's trials, and random ones with what tends to go wrong: ties, roads of no time, roads side by side,
+//! roads left out, islands, long roads, many places in one cell, extreme coordinates. And old networks, some of whose roads are closed.
 
 use super::reference::{self, bytes_16, bytes_32};
 use jukesogbi::sample::Random;
@@ -65,7 +65,7 @@ impl Old {
         Plan { places: self.plan.places.clone(), roads: open.map(|(_, road)| *road).collect() }
     }
 
-    /// The oracle that was built of it.
+    /// Its oracle, as it would be in today's edition.
     pub fn oracle(&self, g: u32) -> Vec<u8> {
         reference::Network::old(self.bytes()).oracle(g).bytes.clone()
     }
@@ -107,6 +107,27 @@ pub fn two_lines() -> Plan {
     Plan {
         places: vec![(0, 0), (30, 0), (60, 0), (0, 1), (30, 1), (60, 1)],
         roads: vec![(0, 1, 7), (1, 2, 9), (3, 4, 2), (4, 5, 100_000)],
+    }
+}
+
+/// A wide junction "as two places joined by a road of 0 seconds": Line with its middle place doubled.
+pub fn junction() -> Plan {
+    Plan { places: vec![(0, 0), (30, 0), (31, 0), (60, 0)], roads: vec![(0, 1, 7), (1, 2, 0), (2, 3, 9)] }
+}
+
+/// Three places in a ring of roads of 0 seconds between two others.
+pub fn ring() -> Plan {
+    Plan {
+        places: vec![(0, 0), (30, 0), (30, 10), (31, 0), (60, 0)],
+        roads: vec![(0, 1, 7), (1, 2, 0), (2, 3, 0), (3, 1, 0), (3, 4, 9)],
+    }
+}
+
+/// Two equally quick ways from 0 to 3, by 1 and 2 and, with one road less, by 4; and a single road that is slower.
+pub fn tie() -> Plan {
+    Plan {
+        places: vec![(0, 0), (10, 0), (20, 0), (30, 0), (15, 5)],
+        roads: vec![(0, 1, 2), (1, 2, 0), (2, 3, 2), (0, 4, 1), (4, 3, 3), (0, 3, 5)],
     }
 }
 
@@ -193,9 +214,14 @@ fn seconds(random: &mut Random, habit: u64, metres: i64) -> u32 {
         7 => metres,
         8 => between(random, 1, 100),
         9 => pick(random, &[1, 99_999, 100_000]),
-        _ => 100_000,
+        10 => 100_000,
+        // No time at all: everywhere, often, and now and then.
+        11 => 0,
+        12 => pick(random, &[0, 0, 1]),
+        13 => pick(random, &[0, 1, 2, 4]),
+        _ => pick(random, &[0, 5, 5, 100_000]),
     };
-    s.clamp(1, 100_000) as u32
+    s.clamp(0, 100_000) as u32
 }
 
 fn metres(a: (i32, i32), b: (i32, i32)) -> i64 {
@@ -218,7 +244,7 @@ pub fn old_network(random: &mut Random) -> Old {
 fn all_roads(random: &mut Random) -> Plan {
     let n = size(random);
     let places = places(random, n);
-    let habit = random.below(11);
+    let habit = random.below(15);
     let mut roads: Vec<(u16, u16, u32)> = Vec::new();
     let mut join = |a: usize, b: usize, random: &mut Random| {
         if a != b {
@@ -250,7 +276,7 @@ fn all_roads(random: &mut Random) -> Plan {
     for _ in 0..random.below(3) {
         if !roads.is_empty() {
             let (a, b, s) = pick(random, &roads);
-            let other = if random.once_in(2) { s } else { (s % 100_000) + 1 };
+            let other = if random.once_in(2) { s } else { pick(random, &[0, (s % 100_000) + 1]) };
             roads.push(if random.once_in(2) { (a, b, other) } else { (b, a, other) });
         }
     }

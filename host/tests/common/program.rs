@@ -12,7 +12,7 @@ use std::process::{Child, Command, Output, Stdio};
 pub const PROGRAM: &str = env!("CARGO_BIN_EXE_jukesogbi");
 
 /// The most bytes of an oracle, from document 01.
-pub const LONGEST_ORACLE: usize = 2 + 7 * 9 + 4096 * 8 + 16_384 * 8 + 16_384 * 2 + 2 + 4096 * 2 + 4096 * (4 + 2 + 4096 * 6) + 4 * 4096 * 4096;
+pub const LONGEST_ORACLE: usize = 2 + 7 * 9 + 4096 * 8 + 16_384 * 8 + 16_384 * 2 + 2 + 4096 * 2 + 4096 * (4 + 2 + 4096 * 8) + 6 * 4096 * 4096;
 
 /// A folder of one test's own, in which its commands run.
 pub struct Folder(pub PathBuf);

@@ -3,7 +3,7 @@
 use super::networks::{self, between, pick, Plan};
 use super::program::oracle;
 use super::reference::sheets::{CLOSED, DELAYED};
-use super::reference::{MOST_SECONDS, NO_WALK};
+use super::reference::{MOST_ROADS, MOST_SECONDS, NO_ROADS, NO_WALK};
 use super::sheets::Line;
 use super::tables::Tables;
 use jukesogbi::sample::Random;
@@ -48,14 +48,18 @@ pub fn never_built(random: &mut Random, plan: &Plan, g: u32) -> Vec<u8> {
         1 => Tables::of(&oracle(plan, g), n),
         _ => {
             let mut other = plan.clone();
-            other.roads.iter_mut().filter(|_| random.once_in(3)).for_each(|road| road.2 = road.2 % 100_000 + 1);
+            for road in &mut other.roads {
+                if random.once_in(3) {
+                    road.2 = pick(random, &[0, road.2 % 100_000 + 1]);
+                }
+            }
             other.roads.retain(|_| !random.once_in(5));
             Tables::of(&oracle(&other, g), n)
         }
     };
     for value in tables.values() {
         if random.once_in(4) {
-            *value = pick(random, &[NO_WALK, MOST_SECONDS, 0, 7]);
+            *value = pick(random, &[(NO_WALK, NO_ROADS), (MOST_SECONDS, MOST_ROADS), (0, 0), (7, 2), (7, 1)]);
         }
     }
     tables.oracle(plan, g)

@@ -2,7 +2,8 @@
 //! their definitions read: every notion is worked out by going over all places, roads and cells. It shares nothing with the core nor with the host's own
 //! modules; bytes, too, are read and written here.
 //!
-//! Until T-06 a network could have closed roads, and was answered as 01 says. `Network::old` and `Questions::old` still do so, to compare with.
+//! Until T-06 a network could have closed roads, and was answered as 01 says. `Network::old` and `Questions::old` still do so, to compare with; of T-07 they
+//! have all the rest, edition 2 of oracles too.
 
 #[path = "reference_convert.rs"]
 pub mod convert;
@@ -13,12 +14,15 @@ pub mod wages;
 
 use std::cell::{OnceCell, RefCell};
 use std::collections::{BTreeMap, BTreeSet};
+use std::ops::Add;
 use std::rc::Rc;
 
 /// In bodies 6 and 7: no walk.
 pub const NO_WALK: u32 = 4_294_967_295;
+pub const NO_ROADS: u32 = 65_535;
 /// Every other value there is at most 4,095 roads of 100,000 seconds.
 pub const MOST_SECONDS: u32 = 409_500_000;
+pub const MOST_ROADS: u32 = 4_095;
 /// The inner and the outer square reach so many cells beyond their middle.
 const INNER: i64 = 2;
 const OUTER: i64 = 4;
@@ -28,18 +32,20 @@ pub const WORDS: usize = 8;
 pub const SIDE: usize = 12;
 /// The editions, and the entries of a network and of an oracle.
 const NETWORK_EDITION: u8 = 1;
-const ORACLE_EDITION: u8 = 1;
+const ORACLE_EDITION: u8 = 2;
 const NETWORK: usize = 3;
 const ORACLE: usize = 7;
 
-/// Sizes in bytes: a place, a road, a 16-bit number, the grid body; in body 6 a start, a list's count and an entry; a value of bodies 6 and 7.
+/// Sizes in bytes: a place, a road, a 16-bit number, the grid body; in body 6 a start, a list's count and an entry; a value of bodies 6 and 7, which is
+/// seconds of 32 bits and a number of roads of 16.
 const PLACE: usize = 8;
 const ROAD: usize = 8;
 const NUMBER: usize = 2;
 const GRID: usize = 2;
 const START: usize = 4;
 const COUNT: usize = 2;
-const VALUE: usize = 4;
+const SECONDS: usize = 4;
+const VALUE: usize = SECONDS + NUMBER;
 const ENTRY: usize = NUMBER + VALUE;
 
 /// The edition and the entry count, then 9 bytes an entry: where entry k stands, and behind the last where body 1 begins.
@@ -142,7 +148,7 @@ fn breaks_5(roads: &[u8]) -> bool {
 fn breaks_6(roads: &[u8], n: usize) -> bool {
     roads.chunks(ROAD).any(|r| {
         let (first, second, seconds) = (number_16(r, 0) as usize, number_16(r, 2) as usize, number_32(r, 4));
-        first >= n || second >= n || first == second || !(1..=100_000).contains(&seconds)
+        first >= n || second >= n || first == second || seconds > 100_000
     })
 }
 
@@ -164,8 +170,20 @@ fn breaks_8_as_body(grid: &[u8]) -> bool {
     grid.len() != GRID || breaks_8(number_16(grid, 0))
 }
 
-fn out_of_range(value: u32) -> bool {
-    value > MOST_SECONDS && value != NO_WALK
+/// What an entry of a list or a square of the table holds: seconds and roads.
+pub type Value = (u32, u32);
+
+/// 'No walk' has both of its numbers; else each is at most its most.
+fn out_of_range((seconds, roads): Value) -> bool {
+    (seconds, roads) != (NO_WALK, NO_ROADS) && (seconds > MOST_SECONDS || roads > MOST_ROADS)
+}
+
+pub fn value_at(b: &[u8], at: usize) -> Value {
+    (number_32(b, at), number_16(b, at + SECONDS))
+}
+
+pub fn value_bytes((seconds, roads): Value) -> Vec<u8> {
+    [&bytes_32(seconds as usize)[..], &bytes_16(roads as usize)].concat()
 }
 
 /// The size of a list that stands at a position, its count included.
@@ -174,8 +192,8 @@ fn list_size(b: &[u8], at: usize) -> usize {
 }
 
 /// The entries of a list, its count included: index and value.
-fn list_entries(list: &[u8]) -> Vec<(u32, u32)> {
-    list[COUNT..].chunks(ENTRY).map(|e| (number_16(e, 0), number_32(e, NUMBER))).collect()
+pub fn list_entries(list: &[u8]) -> Vec<(u32, Value)> {
+    list[COUNT..].chunks(ENTRY).map(|e| (number_16(e, 0), value_at(e, NUMBER))).collect()
 }
 
 fn breaks_10(access: &[u8], n: usize, t: usize) -> bool {
@@ -192,7 +210,7 @@ fn breaks_10(access: &[u8], n: usize, t: usize) -> bool {
         if access.len() < end {
             return true;
         }
-        let (indices, values): (Vec<u32>, Vec<u32>) = list_entries(&access[next..end]).into_iter().unzip();
+        let (indices, values): (Vec<u32>, Vec<Value>) = list_entries(&access[next..end]).into_iter().unzip();
         if !rising(&indices) || indices.iter().any(|&i| i as usize >= t) || values.into_iter().any(out_of_range) {
             return true;
         }
@@ -202,7 +220,7 @@ fn breaks_10(access: &[u8], n: usize, t: usize) -> bool {
 }
 
 fn breaks_11(table: &[u8], t: usize) -> bool {
-    table.len() != VALUE * t * t || table.chunks(VALUE).any(|v| out_of_range(number_32(v, 0)))
+    table.len() != VALUE * t * t || table.chunks(VALUE).any(|v| out_of_range(value_at(v, 0)))
 }
 
 /// The first of rules 1 to 7 that a file with so many entries breaks.
@@ -270,6 +288,31 @@ fn oracle_rule(f: &[u8], closed: Closed) -> Option<u32> {
 
 // ---- Walks ----
 
+/// What walks are compared by: "by seconds, then by fewer roads". The derived order goes by the one and then by the other.
+#[derive(Clone, Copy, Debug, PartialEq, Eq, PartialOrd, Ord)]
+pub struct Pair {
+    pub seconds: u64,
+    pub roads: u64,
+}
+
+impl Pair {
+    /// That of a walk with no road.
+    pub const ZERO: Pair = Pair { seconds: 0, roads: 0 };
+
+    /// That of a walk of one road.
+    pub fn road(seconds: u64) -> Pair {
+        Pair { seconds, roads: 1 }
+    }
+}
+
+impl Add for Pair {
+    type Output = Pair;
+
+    fn add(self, other: Pair) -> Pair {
+        Pair { seconds: self.seconds + other.seconds, roads: self.roads + other.roads }
+    }
+}
+
 struct Road {
     ends: (usize, usize),
     seconds: u64,
@@ -282,7 +325,7 @@ pub struct Map {
     places: Vec<(i64, i64)>,
     roads: Vec<Road>,
     /// d from each place that was asked for.
-    rows: Vec<OnceCell<Vec<Option<u64>>>>,
+    rows: Vec<OnceCell<Vec<Option<Pair>>>>,
 }
 
 impl Map {
@@ -309,21 +352,21 @@ impl Map {
     }
 
     /// d(u, t), None where there is no walk.
-    pub fn d(&self, u: usize, t: usize) -> Option<u64> {
+    pub fn d(&self, u: usize, t: usize) -> Option<Pair> {
         self.rows[u].get_or_init(|| self.row(u))[t]
     }
 
-    /// The least totals from u (Bellman and Ford): go over all open roads until none leads to a lesser total.
-    fn row(&self, u: usize) -> Vec<Option<u64>> {
+    /// The least pairs from u (Bellman and Ford): go over all open roads until none leads to a lesser one. Each road counts, so this has an end.
+    fn row(&self, u: usize) -> Vec<Option<Pair>> {
         let mut least = vec![None; self.size()];
-        least[u] = Some(0);
+        least[u] = Some(Pair::ZERO);
         loop {
             let mut changed = false;
             for (from, to, seconds) in self.steps() {
                 if let Some(before) = least[from] {
-                    let total: u64 = before + seconds;
-                    if least[to].is_none_or(|known| total < known) {
-                        least[to] = Some(total);
+                    let pair = before + Pair::road(seconds);
+                    if least[to].is_none_or(|known| pair < known) {
+                        least[to] = Some(pair);
                         changed = true;
                     }
                 }
@@ -340,7 +383,7 @@ impl Map {
         if u == t {
             return vec![u];
         }
-        let leads_on = |&(from, to, seconds): &(usize, usize, u64)| from == u && self.d(to, t).is_some_and(|rest| seconds + rest == left);
+        let leads_on = |&(from, to, seconds): &(usize, usize, u64)| from == u && self.d(to, t).is_some_and(|rest| Pair::road(seconds) + rest == left);
         let next = self.steps().filter(leads_on).map(|(_, to, _)| to).min().expect("a least walk begins with a road");
         let mut places = vec![u];
         places.extend(self.way(next, t));
@@ -405,8 +448,9 @@ pub struct Oracle {
     pub transit: Vec<usize>,
 }
 
-fn value(d: Option<u64>) -> [u8; VALUE] {
-    bytes_32(d.unwrap_or(NO_WALK as u64) as usize)
+/// As bodies 6 and 7 hold it.
+pub fn value(d: Option<Pair>) -> Value {
+    d.map_or((NO_WALK, NO_ROADS), |pair| (pair.seconds as u32, pair.roads as u32))
 }
 
 /// The oracle of bodies 1 to 3 under g.
@@ -425,10 +469,10 @@ fn built(bodies: [&[u8]; 3], map: &Map, g: u32) -> Oracle {
         lists.extend(bytes_16(chosen.len()));
         for &a in chosen {
             lists.extend(bytes_16(index(a)));
-            lists.extend(value(map.d(u, a)));
+            lists.extend(value_bytes(value(map.d(u, a))));
         }
     }
-    let table = transit.iter().flat_map(|&a| transit.iter().flat_map(move |&b| value(map.d(a, b)))).collect();
+    let table = transit.iter().flat_map(|&a| transit.iter().flat_map(move |&b| value_bytes(value(map.d(a, b))))).collect();
     let bytes = file(&[
         bodies[0].to_vec(),
         bodies[1].to_vec(),
@@ -480,15 +524,42 @@ pub struct Built {
     pub transit: usize,
 }
 
+/// A time, which is seconds and roads, or none; the kind; and the pairs tried.
 #[derive(Clone, Copy, Debug, PartialEq, Eq)]
 pub struct Answer {
     pub far: bool,
-    pub seconds: Option<u64>,
+    pub time: Option<Pair>,
     pub pairs: usize,
 }
 
-/// The squares of a block.
-pub type Times = [[u32; SIDE]; SIDE];
+impl Answer {
+    pub fn seconds(&self) -> Option<u64> {
+        self.time.map(|pair| pair.seconds)
+    }
+}
+
+/// Twelve rows of twelve.
+pub type Squares = [[u32; SIDE]; SIDE];
+
+/// The block of times, and the like one for roads.
+#[derive(Clone, Copy, Debug, PartialEq, Eq)]
+pub struct Block {
+    pub times: Squares,
+    pub roads: Squares,
+}
+
+impl Block {
+    /// Of these pairs of numbers, the rest zero.
+    pub fn of(rows: impl IntoIterator<Item = impl IntoIterator<Item = Value>>) -> Block {
+        let mut block = Block { times: [[0; SIDE]; SIDE], roads: [[0; SIDE]; SIDE] };
+        for (i, row) in rows.into_iter().enumerate() {
+            for (j, value) in row.into_iter().enumerate() {
+                (block.times[i][j], block.roads[i][j]) = value;
+            }
+        }
+        block
+    }
+}
 
 /// What a way of these places does to so many working words and so much output: 15 where it has no room.
 pub fn way_outcome(places: Vec<usize>, zeroed: usize, room: usize) -> Outcome<usize> {
@@ -623,7 +694,7 @@ impl Questions {
     }
 
     /// The entries of the list of u: index and value.
-    fn entries(&self, u: usize) -> Vec<(usize, u32)> {
+    fn entries(&self, u: usize) -> Vec<(usize, Value)> {
         let part = self.part(u);
         let entries = list_entries(&self.bytes[part.start..][..part.size]);
         entries.into_iter().map(|(index, value)| (index as usize, value)).collect()
@@ -632,22 +703,23 @@ impl Questions {
     fn far_answer(&self, s: usize, t: usize) -> Answer {
         let (from, to, table) = (self.entries(s), self.entries(t), body(&self.bytes, 7));
         let transit = body(&self.bytes, 5).len() / NUMBER;
-        let mut least: Option<u64> = None;
+        let mut least: Option<Pair> = None;
         for &(i, first) in &from {
             for &(j, last) in &to {
-                let parts = [first, number_32(table, VALUE * (transit * i + j)), last];
-                if !parts.contains(&NO_WALK) {
-                    let sum: u64 = parts.iter().map(|&p| p as u64).sum();
+                let parts = [first, value_at(table, VALUE * (transit * i + j)), last];
+                if parts.iter().all(|part| part.0 != NO_WALK) {
+                    let pairs = parts.map(|(seconds, roads)| Pair { seconds: seconds as u64, roads: roads as u64 });
+                    let sum = pairs[0] + pairs[1] + pairs[2];
                     least = Some(least.map_or(sum, |known| known.min(sum)));
                 }
             }
         }
-        Answer { far: true, seconds: least, pairs: from.len() * to.len() }
+        Answer { far: true, time: least, pairs: from.len() * to.len() }
     }
 
     /// The answer for two places.
     fn answer(&self, shaped: &Shaped, s: usize, t: usize) -> Answer {
-        if shaped.cells.far(s, t) { self.far_answer(s, t) } else { Answer { far: false, seconds: shaped.map.d(s, t), pairs: 0 } }
+        if shaped.cells.far(s, t) { self.far_answer(s, t) } else { Answer { far: false, time: shaped.map.d(s, t), pairs: 0 } }
     }
 
     /// The audit: 1 to 7, 21, 8 to 11, 14, 16.
@@ -732,7 +804,7 @@ impl Questions {
     }
 
     /// The block: what `asked` looks at, 17, 14.
-    pub fn block(&self, starts: &[u32], ends: &[u32], words: usize) -> Outcome<Times> {
+    pub fn block(&self, starts: &[u32], ends: &[u32], words: usize) -> Outcome<Block> {
         let shaped = match self.asked(&[starts, ends].concat()) {
             Ok(shaped) => shaped,
             Err(rule) => return Outcome::refused(rule),
@@ -744,12 +816,8 @@ impl Questions {
         if words < needed {
             return Outcome::refused(14);
         }
-        let mut times = [[0; SIDE]; SIDE];
-        for (row, &s) in times.iter_mut().zip(starts) {
-            for (square, &t) in row.iter_mut().zip(ends) {
-                *square = self.answer(shaped, s as usize, t as usize).seconds.map_or(NO_WALK, |seconds| seconds as u32);
-            }
-        }
-        Outcome { result: Ok(times), zeroed: needed, written: Vec::new() }
+        let square = |s: u32, t: u32| value(self.answer(shaped, s as usize, t as usize).time);
+        let block = Block::of(starts.iter().map(|&s| ends.iter().map(move |&t| square(s, t))));
+        Outcome { result: Ok(block), zeroed: needed, written: Vec::new() }
     }
 }

@@ -130,11 +130,12 @@ fn read(f: &[u8], map: &Map, holds_over: HoldsOver) -> Result<Map, u32> {
 }
 
 /// Whether there is an old way and its every step can still be driven in its old time: by some road between the two places, open under the sheet, that
-/// takes just that time. A step's old time is what the time left falls by.
+/// takes just that time. A step's old time is its old seconds, which the seconds left fall by.
 fn old_way_stands(old: &Map, new: &Map, s: usize, t: usize) -> bool {
     let way = old.way(s, t);
     let still = |step: &[usize]| {
-        let seconds = old.d(step[0], t).unwrap() - old.d(step[1], t).unwrap();
+        let left = |place: usize| old.d(place, t).unwrap().seconds;
+        let seconds = left(step[0]) - left(step[1]);
         new.steps().any(|road| road == (step[0], step[1], seconds))
     };
     !way.is_empty() && way.windows(2).all(still)
@@ -188,8 +189,8 @@ impl<'a> Under<'a> {
         };
         let (s, t) = (s as usize, t as usize);
         let old = self.questions.answer(shaped, s, t);
-        let stands = old.seconds.is_none() || old_way_stands(&shaped.map, new, s, t);
-        let answer = if stands { old } else { Answer { far: false, seconds: new.d(s, t), pairs: 0 } };
+        let stands = old.time.is_none() || old_way_stands(&shaped.map, new, s, t);
+        let answer = if stands { old } else { Answer { far: false, time: new.d(s, t), pairs: 0 } };
         Outcome { result: Ok(answer), zeroed: WORDS * new.size(), written: Vec::new() }
     }
 

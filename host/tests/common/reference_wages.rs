@@ -26,11 +26,12 @@ fn bytes_64(number: u64) -> Vec<u8> {
     [bytes_32((number % 4_294_967_296) as usize), bytes_32((number / 4_294_967_296) as usize)].concat()
 }
 
-/// What is written of these times: each as in the table, how many are 'no walk', and the total of the others.
+/// What is written of these times, which are seconds: each marked as in the table, how many are 'no walk', and the total of the others.
 pub fn wages_bytes(times: &[Option<u64>]) -> Vec<u8> {
     let none = times.iter().filter(|time| time.is_none()).count();
     let total = times.iter().flatten().sum();
-    [times.iter().flat_map(|&time| value(time)).collect(), bytes_32(none).to_vec(), bytes_64(total)].concat()
+    let marked = |time: &Option<u64>| bytes_32(time.unwrap_or(NO_WALK as u64) as usize);
+    [times.iter().flat_map(marked).collect(), bytes_32(none).to_vec(), bytes_64(total)].concat()
 }
 
 /// What legs with these times do to so many working words and so much output: 15 where the result has no room. The value is its length in bytes.
@@ -58,7 +59,7 @@ impl Questions {
         if words < needed {
             return Outcome::refused(14);
         }
-        let times: Vec<Option<u64>> = pairs.into_iter().map(|(s, t)| self.answer(shaped, s as usize, t as usize).seconds).collect();
+        let times: Vec<Option<u64>> = pairs.into_iter().map(|(s, t)| self.answer(shaped, s as usize, t as usize).seconds()).collect();
         wages_outcome(&times, needed, room)
     }
 }

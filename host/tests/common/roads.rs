@@ -53,7 +53,7 @@ pub fn shuffled(mut roads: Vec<Road>) -> Vec<Road> {
 
 // ---- Quick roads ----
 
-/// Which of the roads take a second.
+/// Which of the roads take no time.
 #[derive(Clone, Copy, Debug)]
 pub enum Quick {
     None,
@@ -77,7 +77,7 @@ pub fn with_quick(mut roads: Vec<Road>, quick: Quick) -> Vec<Road> {
         Quick::EverySecond => i % 2 == 1,
         Quick::All => true,
     };
-    roads.iter_mut().enumerate().filter(|(i, _)| is_quick(*i)).for_each(|(_, road)| road.2 = 1);
+    roads.iter_mut().enumerate().filter(|(i, _)| is_quick(*i)).for_each(|(_, road)| road.2 = 0);
     roads
 }
 

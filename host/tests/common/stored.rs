@@ -72,6 +72,11 @@ pub fn oracle_of(name: &str) -> Vec<u8> {
         "line" => (networks::line(), 6),
         "fork" => (networks::fork(), 6),
         "fork-without-4" => (networks::fork_without_4(), 6),
+        // With roads of 0 seconds.
+        "junction" => (networks::junction(), 6),
+        "ring" => (networks::ring(), 6),
+        "tie" => (networks::tie(), 1),
+        "side" => (Plan { places: vec![(0, 0), (30, 0), (31, 0)], roads: vec![(0, 1, 2), (1, 2, 0), (0, 2, 1)] }, 1),
         // Line with a road beside its first, or its second twice.
         "parallel-6" => (beside(6), 6),
         "parallel-7" => (beside(7), 6),
@@ -118,8 +123,8 @@ pub fn printed(result: Result<String, u32>) -> String {
 }
 
 fn time_text(a: &Answer) -> String {
-    let seconds = a.seconds.map_or("-".to_string(), |s| s.to_string());
-    format!("{seconds} {} {}", if a.far { "far" } else { "local" }, a.pairs)
+    let time = a.time.map_or("- -".to_string(), |pair| format!("{} {}", pair.seconds, pair.roads));
+    format!("{time} {} {}", if a.far { "far" } else { "local" }, a.pairs)
 }
 
 pub fn way_text(places: &[u16]) -> String {

@@ -5,12 +5,12 @@ use crate::args::Call;
 use crate::basis::Basis;
 use crate::lines::{shown, Line, Lines, LONGEST};
 use crate::output::complain;
-use crate::questions::{answer_line, way_reply, way_size};
+use crate::questions::{way_reply, way_size};
 use crate::stop::{fault, Done, Stop};
 use jukesogbi::core::Refused;
-use jukesogbi::files;
 use jukesogbi::form::NUMBER_SIZE;
 use jukesogbi::oracle::Oracle;
+use jukesogbi::{files, text};
 use std::io;
 
 /// A line of standard output, and perhaps one of standard error.
@@ -34,14 +34,14 @@ const WRONG: &str = "wrong";
 pub fn times(call: &mut Call) -> Done {
     let basis = Basis::beside_lines(call, PAIRS)?;
     let opened = basis.open(&call.lend)?;
-    answer(call, opened, |oracle, s, t| basis.opened_time(oracle, s, t).map(|a| Reply::plain(answer_line(&a))))
+    answer(call, opened, |oracle, s, t| basis.opened_time(oracle, s, t).map(|a| Reply::plain(text::answer(&a))))
 }
 
 /// This question takes no words, so those lent are enough, whatever their number.
 pub fn fars(call: &mut Call) -> Done {
     let o = Basis::beside_lines(call, PAIRS)?.oracle;
     let opened = o.judged(Oracle::open(&o[..]))?;
-    answer(call, opened, |oracle, s, t| oracle.far(s, t).map(|a| Reply::plain(answer_line(&a))))
+    answer(call, opened, |oracle, s, t| oracle.far(s, t).map(|a| Reply::plain(text::answer(&a))))
 }
 
 pub fn ways(call: &mut Call) -> Done {

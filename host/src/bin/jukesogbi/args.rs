@@ -34,6 +34,7 @@ pub struct Arguments {
     pub words: Vec<OsString>,
     pub lend: Lend,
     pub sheet: Option<OsString>,
+    pub roads: bool,
     pub help: bool,
     pub version: bool,
     /// The options used.
@@ -57,7 +58,7 @@ impl Arguments {
         given
     }
 
-    /// `--words K` or `--words=K`, and so for the others.
+    /// `--words K` or `--words=K`, and so for the others; `--roads` has no value.
     fn option(&mut self, text: &str, rest: &mut impl Iterator<Item = OsString>) {
         let (name, value) = text.split_once('=').map_or((text, None), |(name, value)| (name, Some(OsString::from(value))));
         let Some(name) = OPTIONS.into_iter().find(|&option| option == name) else {
@@ -65,6 +66,13 @@ impl Arguments {
             return;
         };
         self.options.push(name);
+        if name == ROADS {
+            self.roads = true;
+            if value.is_some() {
+                self.wrong.get_or_insert(format!("`{name}` has no value"));
+            }
+            return;
+        }
         let value = value.or_else(|| rest.next());
         let count = || value.as_ref()?.to_str()?.parse().ok();
         let understood = match name {
@@ -80,7 +88,8 @@ impl Arguments {
 }
 
 const SHEET: &str = "--sheet";
-const OPTIONS: [&str; 3] = ["--words", "--room", SHEET];
+const ROADS: &str = "--roads";
+const OPTIONS: [&str; 4] = ["--words", "--room", SHEET, ROADS];
 
 /// Whether there is something to set it to.
 fn set<T>(place: &mut Option<T>, value: Option<T>) -> bool {
@@ -94,6 +103,8 @@ pub struct Call<'a> {
     pub lend: Lend,
     /// The name of the day sheet.
     pub sheet: Option<&'a OsStr>,
+    /// Whether numbers of roads are wanted, and not seconds.
+    pub roads: bool,
     pub out: &'a mut Output,
 }
 

@@ -12,7 +12,7 @@ use crate::stop::{slip, Done, Stop};
 use jukesogbi::files::Network;
 use jukesogbi::form::{MAX_GRID, MAX_NODES, NUMBER_SIZE};
 use jukesogbi::oracle::Oracle;
-use jukesogbi::plain::{self, Cells, Graph, Search, Tables};
+use jukesogbi::plain::{self, key_of, Cells, Graph, Key, Search, Tables};
 use jukesogbi::sample::Random;
 use jukesogbi::{core, files, sample};
 use std::time::{Duration, Instant};
@@ -122,8 +122,8 @@ fn asking(out: &mut Output, case: &Case) -> Done {
         let mut sums = (0, 0);
         let times = timed(
             5,
-            || sums.0 += far.iter().map(|&(s, t)| opened.far(s, t).unwrap().seconds.unwrap_or(0) as u64).sum::<u64>(),
-            || sums.1 += far.iter().map(|&(s, t)| tables.far(s as usize, t as usize).unwrap_or(0) as u64).sum::<u64>(),
+            || sums.0 += far.iter().map(|&(s, t)| key_of(opened.far(s, t).unwrap().time)).sum::<u64>(),
+            || sums.1 += far.iter().map(|&(s, t)| tables.far(s as usize, t as usize)).sum::<u64>(),
         );
         assert_same(sums);
         answered(out, &format!("far answers, {}", case.name), far.len(), times)?;
@@ -147,11 +147,11 @@ fn searching(out: &mut Output, case: &Case, far: &[(u32, u32)], local: &[(u32, u
     let mut sums = (0, 0);
     let mut plain_local = |s: u32, t: u32| {
         search.run(&graph, s as usize, |u| u == t);
-        core::seconds(search.times[t as usize]).unwrap_or(0) as u64
+        search.times[t as usize]
     };
     let times = timed(
         5,
-        || sums.0 += local.iter().map(|&(s, t)| opened.time(s, t).unwrap().seconds.unwrap_or(0) as u64).sum::<u64>(),
+        || sums.0 += local.iter().map(|&(s, t)| key_of(opened.time(s, t).unwrap().time)).sum::<u64>(),
         || sums.1 += local.iter().map(|&(s, t)| plain_local(s, t)).sum::<u64>(),
     );
     answered(out, &format!("local answers, {}", case.name), local.len(), times)?;
@@ -168,6 +168,10 @@ fn searching(out: &mut Output, case: &Case, far: &[(u32, u32)], local: &[(u32, u
 /// The squares of a full block.
 const SQUARES: usize = core::SIDE * core::SIDE;
 
+fn keys(block: &core::Block) -> Vec<Key> {
+    (0..SQUARES).map(|k| key_of(block.time(k / core::SIDE, k % core::SIDE))).collect()
+}
+
 /// A full block of random names over an opened oracle beside plain Rust. Hands back its name and time, and the time of single answers for its squares.
 fn block(out: &mut Output, case: &Case) -> Result<(String, Duration, Duration), Stop> {
     let n = files::node_count(&case.oracle);
@@ -179,11 +183,11 @@ fn block(out: &mut Output, case: &Case) -> Result<(String, Duration, Duration), 
     let (mut whole, mut beside, mut single) = (Vec::new(), Vec::new(), Vec::new());
     let (core, plain) = timed(
         5,
-        || whole = opened.block(&starts, &ends).unwrap().times.concat(),
+        || whole = keys(&opened.block(&starts, &ends).unwrap()),
         || beside = plain::block(&graph, &cells, &tables, &mut search, &starts, &ends),
     );
     let pairs = || starts.iter().flat_map(|&s| ends.iter().map(move |&t| (s, t)));
-    let mut ask_each = || single = pairs().map(|(s, t)| opened.time(s, t).unwrap().seconds.unwrap_or(core::NO_WALK)).collect();
+    let mut ask_each = || single = pairs().map(|(s, t)| key_of(opened.time(s, t).unwrap().time)).collect();
     let (calls, _) = timed(5, &mut ask_each, || ());
     assert!(whole == beside && whole == single, "the block, plain Rust and the single calls differ");
     let name = format!("block of {SQUARES}, {}", case.name);

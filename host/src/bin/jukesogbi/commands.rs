@@ -3,7 +3,7 @@
 use crate::args::{Arguments, Call};
 use crate::output::Output;
 use crate::stop::{slip, Done, Stop};
-use crate::texts::{LEFT_OUT, LEGS, LINES, PAIRS, RENUMBERED, UNDER, WRITES};
+use crate::texts::{LEAST, LEFT_OUT, LEGS, LINES, PAIRS, RENUMBERED, UNDER, WRITES};
 use crate::{bench, convert, demo, making, questions, sheets, wages};
 use std::ffi::{OsStr, OsString};
 use std::fmt::Write;
@@ -23,6 +23,7 @@ struct Command {
 const SHEET: &str = "--sheet SHEET";
 const WORDS: &str = "--words K";
 const ROOM: &str = "--room B";
+const ROADS: &str = "--roads";
 
 const COMMANDS: &[Command] = &[
     Command {
@@ -45,15 +46,15 @@ const COMMANDS: &[Command] = &[
         name: "time",
         takes: "ORACLE [S T]",
         options: &[SHEET, WORDS],
-        does: "the time from place S to place T: seconds (`-` for none), far or local, pairs tried",
-        more: &[UNDER, PAIRS],
+        does: "the time from place S to place T: seconds and roads (`- -` for none), far or local, pairs tried",
+        more: &[LEAST, UNDER, PAIRS],
         run: questions::time,
     },
     Command {
         name: "far",
         takes: "ORACLE [S T]",
         options: &[WORDS],
-        does: "the time of a far pair, from lists and table alone",
+        does: "the time of a far pair, from lists and table alone, in the form of `time`",
         more: &["It takes no working words: any number of them is enough.", PAIRS],
         run: questions::far,
     },
@@ -61,7 +62,7 @@ const COMMANDS: &[Command] = &[
         name: "list",
         takes: "ORACLE U",
         options: &[],
-        does: "the access list of place U: a line for each entry, its index and seconds",
+        does: "the access list of place U: a line for each entry, its index, seconds and roads (`- -` for none)",
         more: &[],
         run: questions::list,
     },
@@ -76,9 +77,9 @@ const COMMANDS: &[Command] = &[
     Command {
         name: "block",
         takes: "ORACLE S,S,.. T,T,..",
-        options: &[WORDS],
+        options: &[ROADS, WORDS],
         does: "all times from up to 12 places S to up to 12 places T, a line for each S",
-        more: &[],
+        more: &["It prints their seconds, and with --roads their numbers of roads; `-` for none."],
         run: questions::block,
     },
     Command {
@@ -182,7 +183,7 @@ pub fn run(args: impl Iterator<Item = OsString>, out: &mut Output) -> Done {
     if given.help {
         return out.line(command.help());
     }
-    let call = Call { words: &given.words[1..], lend: given.lend, sheet: given.sheet.as_deref(), out };
+    let call = Call { words: &given.words[1..], lend: given.lend, sheet: given.sheet.as_deref(), roads: given.roads, out };
     command.call(&given, call).map_err(|stop| stop.with_usage(&command.usage()))
 }
 
@@ -260,8 +261,8 @@ fn page() -> String {
     }
     text + "`jukesogbi COMMAND --help` says more of each.\n\
         time, far and way without S T answer pairs `S T` from standard input, one a line; wages answers legs so, all at once.\n\
-        options: --sheet SHEET answers under a day sheet; --words K lends K working words, --room B lends B bytes of output, where the default is\n\
-        as many as are needed; -- ends the options.\n\
+        options: --sheet SHEET answers under a day sheet; --roads has a block print roads, not seconds; --words K lends K working words, --room B\n\
+        lends B bytes of output, where the default is as many as are needed; -- ends the options.\n\
         status: 0 done; 1 refused, as `refused N`, with the rule on standard error; 2 wrong use, or a file, a stream or memory that fails."
 }
 

@@ -5,7 +5,7 @@ use crate::output::Output;
 use crate::questions::nodes_text;
 use crate::stop::{fault, Done, Stop};
 use jukesogbi::form::NUMBER_SIZE;
-use jukesogbi::{core, draw, files, listing, sample};
+use jukesogbi::{core, draw, files, sample, text};
 use std::ffi::OsStr;
 
 const NODES: usize = 60;
@@ -21,8 +21,9 @@ pub fn run(call: &mut Call) -> Done {
     let oracles = [build(out, &network, 8, &mut work)?, build(out, &network, 16, &mut work)?];
     let pairs = [(0, 59), (7, 52), (3, 40), (12, 13)];
     for (s, t) in pairs {
-        let answers = [core::time(&oracles[0], s, t, &mut work)?, core::time(&oracles[1], s, t, &mut work)?].map(|a| listing::answer_text(&a));
-        out.say(format_args!("time {s} to {t}: grid 8 says {}, grid 16 says {}", answers[0], answers[1]))?;
+        let answers = [core::time(&oracles[0], s, t, &mut work)?, core::time(&oracles[1], s, t, &mut work)?];
+        let [coarse, fine] = answers.map(|a| format!("{} {}", text::time(a.time), a.kind));
+        out.say(format_args!("time {s} to {t}: grid 8 says {coarse}, grid 16 says {fine}"))?;
     }
     compare(out, &oracles, &mut work)?;
     let (s, t) = pairs[0];
@@ -47,7 +48,7 @@ fn compare(out: &mut Output, oracles: &[Vec<u8>; 2], work: &mut [u32]) -> Done {
     let n = NODES as u32;
     for (s, t) in (0..n).flat_map(|s| (0..n).map(move |t| (s, t))) {
         let (a, b) = (core::time(&oracles[0], s, t, work)?, core::time(&oracles[1], s, t, work)?);
-        if a.seconds != b.seconds {
+        if a.time != b.time {
             return fault(format!("the grids differ on {s} to {t}"));
         }
     }

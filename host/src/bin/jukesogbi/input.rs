@@ -1,7 +1,7 @@
 //! The files that commands are given.
 
 use crate::stop::{fault, Done, Stop};
-use jukesogbi::core::{Refused, CLOSED_ROADS};
+use jukesogbi::core::{Refused, CONTENTS};
 use jukesogbi::files::{looks_like, Kind};
 use jukesogbi::reading;
 use std::ffi::OsStr;
@@ -69,11 +69,13 @@ impl Input {
         verdict.map_err(|refused| Stop::Refused(refused, self.note(refused)))
     }
 
-    /// A word where it is another kind of file, or an old oracle.
+    /// A word where it is another kind of file, or an oracle of an older edition.
     pub fn note(&self, refused: Refused) -> Option<&'static str> {
         let looks = |kind| looks_like(self, kind);
         match self.kind {
-            Kind::Oracle if refused == Refused(CLOSED_ROADS) => Some("this is an old oracle: `jukesogbi build` makes another, of the converted network"),
+            Kind::Oracle if refused == Refused(CONTENTS) && looks(Kind::Oracle) => {
+                Some("this is an oracle of an older edition: `jukesogbi build` builds it again from its network")
+            }
             Kind::Oracle if looks(Kind::Network) => Some("this looks like a network: `jukesogbi build` makes an oracle of it"),
             Kind::Network if looks(Kind::Oracle) => Some("this looks like an oracle: the network that it is of is wanted"),
             Kind::Oracle if looks(Kind::Sheet) => Some("this looks like a day sheet, which is for the option `--sheet`"),

@@ -7,8 +7,9 @@ use crate::input::Input;
 use crate::output::complain;
 use crate::progress::Clock;
 use crate::stop::{Done, Stop};
+use jukesogbi::core::Time;
 use jukesogbi::form::NUMBER_SIZE;
-use jukesogbi::{core, files, listing};
+use jukesogbi::{core, files, listing, text};
 
 pub fn audit(call: &mut Call) -> Done {
     let o = call.oracle(0)?;
@@ -23,14 +24,14 @@ pub fn audit(call: &mut Call) -> Done {
 pub fn time(call: &mut Call) -> Done {
     let Some((s, t)) = call.pair_if(1)? else { return answerer::times(call) };
     let answer = Basis::read(call)?.time(s, t, &call.lend)?;
-    call.out.line(answer_line(&answer))
+    call.out.line(text::answer(&answer))
 }
 
 pub fn far(call: &mut Call) -> Done {
     let Some((s, t)) = call.pair_if(1)? else { return answerer::fars(call) };
     let o = call.oracle(0)?;
     let answer = o.judged(core::far(&o, s, t))?;
-    call.out.line(answer_line(&answer))
+    call.out.line(text::answer(&answer))
 }
 
 pub fn way(call: &mut Call) -> Done {
@@ -53,11 +54,6 @@ pub fn way_size(o: &[u8]) -> usize {
     NUMBER_SIZE * files::node_count(o)
 }
 
-/// Seconds or `-`, the kind, and the pairs tried.
-pub fn answer_line(a: &core::Answer) -> String {
-    format!("{} {}", listing::answer_text(a), a.pairs)
-}
-
 pub fn way_reply(nodes: &[u16], s: u32, t: u32) -> Reply {
     Reply { line: nodes_text(nodes), note: nodes.is_empty().then(|| no_way(s, t)) }
 }
@@ -74,21 +70,22 @@ pub fn no_way(s: u32, t: u32) -> String {
 pub fn list(call: &mut Call) -> Done {
     let u = call.number(1)?;
     let o = call.oracle(0)?;
-    for (index, value) in files::list_entries(o.judged(core::list(&o, u))?) {
-        call.out.line(format_args!("{index} {}", listing::seconds_text(core::seconds(value))))?;
+    for (index, (seconds, roads)) in files::list_entries(o.judged(core::list(&o, u))?) {
+        call.out.line(format_args!("{index} {}", text::time(Time::of(seconds, roads.into()))))?;
     }
     Ok(())
 }
 
-/// A line for each start, with a time for each end.
+/// A line for each start, with the seconds, or the roads, for each end.
 pub fn block(call: &mut Call) -> Done {
     let (starts, ends) = (call.numbers(1)?, call.numbers(2)?);
     let o = call.oracle(0)?;
     let mut work = call.lend.words(&o)?;
     let block = o.judged(core::block(&o, &starts, &ends, &mut work))?;
+    let shown = if call.roads { |time: Time| time.roads } else { |time: Time| time.seconds };
     for i in 0..starts.len() {
-        let times: Vec<String> = (0..ends.len()).map(|j| listing::seconds_text(block.seconds(i, j))).collect();
-        call.out.line(times.join(" "))?;
+        let squares: Vec<String> = (0..ends.len()).map(|j| text::number(block.time(i, j).map(shown))).collect();
+        call.out.line(squares.join(" "))?;
     }
     Ok(())
 }

@@ -8,6 +8,9 @@ Standard error then has the line's number and the cause, and the rest goes on. A
 At the end the status is 2 if a line was wrong, else 1 if a pair was refused, else 0.
 An oracle that is refused, as are too few words, ends the command at once, with one `refused N` and status 1.";
 
+/// Which time it is.
+pub const LEAST: &str = "It is that of the quickest walk, and among those as quick of one with the fewest roads: `SECONDS ROADS far PAIRS`, or `.. local 0`.";
+
 /// Of commands that may go by a day sheet.
 pub const UNDER: &str = "With --sheet the roads are as that day sheet leaves them; `jukesogbi sheet --help` tells what its lines do.
 A time found by a search over those roads is marked local, with 0 pairs. A sheet that is refused ends the command at once, with one `refused N`.";

@@ -6,9 +6,8 @@ use crate::basis::Basis;
 use crate::input;
 use crate::lines::Lines;
 use crate::stop::{fault, Done};
-use jukesogbi::core;
-use jukesogbi::listing::seconds_text;
 use jukesogbi::wages::{self, Legs, Wages};
+use jukesogbi::{core, text};
 use std::ffi::OsStr;
 use std::io::{self, Read};
 
@@ -22,7 +21,7 @@ pub fn run(call: &mut Call) -> Done {
     let (mut work, mut out) = (call.lend.words(&o)?, call.lend.room(wages::size(&legs))?);
     let size = o.judged(core::wages(&o, &legs, &mut work, &mut out))?;
     let Wages { times, none, total } = Wages::of(&out[..size]);
-    times.into_iter().try_for_each(|time| call.out.line(seconds_text(time)))?;
+    times.into_iter().try_for_each(|time| call.out.line(text::number(time)))?;
     call.out.line(format_args!("none {none} total {total}"))
 }
 

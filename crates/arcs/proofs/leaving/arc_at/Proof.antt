@@ -21,11 +21,8 @@ edge-second-requires c κs = search needs
 other-end-requires : tie.Need-other-end-requires
 other-end-requires c κs = search needs
 
-edge-seconds-requires : tie.Need-edge-seconds-requires
-edge-seconds-requires c κs = search needs
-
-cast-cost : tie.Need-cast-cost
-cast-cost c = search needs
+edge-key-requires : tie.Need-edge-key-requires
+edge-key-requires c κs = search needs
 
 returns-2 : tie.Need-returns-2
 unfolding edgeCount
@@ -36,8 +33,8 @@ returns-2 c =
     let f = edge-fine (a .n) (a .edges .now) (p .0) (a .c .edge) l in (
       plain-some (a .edges .now) (a .n) (a .u) (a .c) (p .0) l (p .1 l) _ _ _ _ (c .before .before .before .edge-first .ensures .0)
           (c .before .before .edge-second .ensures .0)
-          (c .before .other-end .ensures) (c .edge-seconds .ensures),
-      omega (arith, f .at-most, c .edge-seconds .ensures),
+          (c .before .other-end .ensures) (c .edge-key .ensures .0),
+      omega (arith, f .at-most, c .edge-key .ensures .0),
     )
 
 pub arc-at-spec : {M : Type 1} → statement M
@@ -48,6 +45,5 @@ arc-at-spec =
     edge-first-requires
     edge-second-requires
     other-end-requires
-    edge-seconds-requires
-    cast-cost
+    edge-key-requires
     returns-2)

@@ -1,6 +1,5 @@
 -- `leaving::first_left` meets its contract: what is left of the edge, or of the first after it of which something is.
 use native.Mathlib.Omega.{arith}
-use borrow.Author.Needs.{needs}
 use Rattle.arcs.proofs.leaving.first_left.Statement.{statement}
 use Rattle.arcs.proofs.leaving.first_left.Tie as tie
 use Rattle.arcs.proofs.Passes.{end-at, own-left, own-valid, first-arc-here, first-arc-from}
@@ -10,9 +9,6 @@ left-arc-requires c κs =
     let p = c .before .before .before .pre in
     let g = p .1 .0 in
     ((p .0 .0, p .0 .1, g .roads .ends, g .spanned), end-at _ _ _ _ _ _ g (p .1 .1))
-
-cast-if1 : tie.Need-cast-if1
-cast-if1 c = search needs
 
 past-shut-requires : tie.Need-past-shut-requires
 past-shut-requires c κs =
@@ -29,4 +25,4 @@ returns-2 c =
     first-arc-here _ _ _ _ _ _ _ (c .before .before .left-arc .ensures) (p .1 .1) (λ z. omega (arith, c .if1 .left))
 
 pub first-left-spec : {M : Type 1} → statement M
-first-left-spec = tie.close (tie.spec left-arc-requires cast-if1 past-shut-requires returns returns-2)
+first-left-spec = tie.close (tie.spec left-arc-requires past-shut-requires returns returns-2)

@@ -1,6 +1,5 @@
 -- `leaving::past_shut` meets its contract: the edges that are passed have no arc left.
 use native.Mathlib.Omega.{arith}
-use borrow.Author.Needs.{needs}
 use Rattle.arcs.specs.Leaving.{cursorOf, LeftAt, SkippedTo, arcRank}
 use Rattle.arcs.proofs.leaving.past_shut.Statement.{statement}
 use Rattle.arcs.proofs.leaving.past_shut.Tie as tie
@@ -14,9 +13,6 @@ abbrev μ-loop : tie.MeasureT-loop
 
 loop-holds : tie.Need-loop-holds Inv-loop μ-loop
 loop-holds c = let p = c .before .before .before .pre in (skip-none _ _ _ _ _ _ (p .1 .1 .0), p .1 .1 .1)
-
-cast-if1 : tie.Need-cast-if1 Inv-loop μ-loop
-cast-if1 c = search needs
 
 next-left-requires : tie.Need-next-left-requires Inv-loop μ-loop
 next-left-requires c κs =
@@ -42,4 +38,4 @@ returns c =
 pub past-shut-spec : {M : Type 1} → statement M
 past-shut-spec =
     tie.close
-    (tie.spec Inv-loop μ-loop loop-holds cast-if1 next-left-requires loop-less loop-again returns)
+    (tie.spec Inv-loop μ-loop loop-holds next-left-requires loop-less loop-again returns)

@@ -31,14 +31,14 @@ returns c =
 far-of-requires : tie.Need-far-of-requires
 far-of-requires c κs = search needs
 
-seconds-of-requires : tie.Need-seconds-of-requires
-seconds-of-requires c κs = search needs
+key-of-requires : tie.Need-key-of-requires
+key-of-requires c κs = search needs
 
 returns-2 : tie.Need-returns-2
 returns-2 c =
     let near = c .before .before .before .before .before .before .before .pre .3 in
     let told = bit-told _ _ _ _ near _ (c .before .before .before .before .node-count .ensures) _ (c .before .before .before .has .ensures) in
-    entry-far _ _ _ _ _ (told ∙ c .before .before .if1 .left) (c .before .far-of .ensures) (c .seconds-of .ensures)
+    entry-far _ _ _ _ _ (told ∙ c .before .before .if1 .left) (c .before .far-of .ensures) (c .key-of .ensures)
 
 pub entry-of-spec : {M : Type 1} → statement M
 entry-of-spec =
@@ -49,5 +49,5 @@ entry-of-spec =
     time-of-requires
     returns
     far-of-requires
-    seconds-of-requires
+    key-of-requires
     returns-2)

@@ -1,7 +1,8 @@
 -- `rows::with_entries` meets its contract.
+use Rattle.model.specs.Query.{timeWord}
 use Rattle.checks.proofs.NameLists.{named-there}
 use Rattle.block.proofs.Fill.{row-store, row-is, row-more, no-entries}
-use Rattle.block.specs.Block.{rowOf}
+use Rattle.block.specs.Block.{rowBy}
 use native.Mathlib.Omega.{arith}
 use lib.ListN.{length, take, set}
 use lib.Seq.{take-all}
@@ -13,7 +14,7 @@ use Rattle.block.proofs.rows.with_entries.Statement.{statement}
 use Rattle.block.proofs.rows.with_entries.Tie as tie
 
 abbrev Inv-loop : tie.InvT-loop
-Inv-loop i o s ends work filled₀ j₀ filled j = (j ≤ length ends) × (length filled₀ ≡ 12) × (filled ≡ set filled₀ i (rowOf o (take j ends) s))
+Inv-loop i o s ends work filled₀ j₀ filled j = (j ≤ length ends) × (length filled₀ ≡ 12) × (filled ≡ set filled₀ i (rowBy (timeWord o) (take j ends) s))
 
 abbrev μ-loop : tie.MeasureT-loop
 μ-loop i o s ends work filled₀ j₀ filled j = length ends - j
@@ -23,7 +24,7 @@ loop-holds c = let a = c .before .before .before .args in (
   omega arith,
   search needs,
   row-is _ _ _
-      (c .before .before .before .pre .1 .2 ∙ no-entries (a .o .now) (a .s)),
+      (c .before .before .before .pre .1 .2 ∙ no-entries (timeWord (a .o .now)) (a .s)),
 )
 
 mul-entry-of : tie.Need-mul-entry-of Inv-loop μ-loop
@@ -68,15 +69,15 @@ loop-again c =
       omega arith,
       l .inv .1,
       rw (l .inv .2, c .entry-of .ensures)
-          (row-store (a .times) (a .i) (l .j) _ _ (omega (arith, l .inv .1, p .1 .1))
-          ∙ ap (λ (r : List ℕ). set (a .times) (a .i) r) (row-more (a .o .now) (a .s) (a .ends .now) (l .j) (c .before .before .loop-test .taken)
+          (row-store (a .keys) (a .i) (l .j) _ _ (omega (arith, l .inv .1, p .1 .1))
+          ∙ ap (λ (r : List ℕ). set (a .keys) (a .i) r) (row-more (timeWord (a .o .now)) (a .s) (a .ends .now) (l .j) (c .before .before .loop-test .taken)
           (omega (arith, p .0 .3)))),
     )
 
 returns : tie.Need-returns Inv-loop μ-loop
 returns c =
     let a = c .before .before .before .before .before .args in
-    c .before .loop .inv .2 ∙ ap (λ (l : List ℕ). set (a .times) (a .i) (rowOf (a .o .now) l (a .s)))
+    c .before .loop .inv .2 ∙ ap (λ (l : List ℕ). set (a .keys) (a .i) (rowBy (timeWord (a .o .now)) l (a .s)))
     (take-all (c .before .loop .j) (a .ends .now) (omega arith))
 
 pub with-entries-spec : {M : Type 1} → statement M

@@ -1,9 +1,10 @@
 -- `rows::with_start` meets its contract: a start that was named before has its row already.
+use Rattle.model.specs.Query.{timeWord}
 use lib.ListN.{getD, take, set}
 use Prim.Native.Nat.{ℕ}
 use Rattle.block.proofs.Fill.{block-more, row-unused, row-before}
 use Rattle.checks.proofs.NameLists.{named-there}
-use Rattle.block.specs.Block.{rowOf, blockOf}
+use Rattle.block.specs.Block.{rowBy, blockBy}
 use native.Mathlib.Omega.{arith}
 use mathlib.Core.List.{List, []}
 use mathlib.Core.Path.{refl, _∙_, ap}
@@ -21,10 +22,11 @@ returns : tie.Need-returns
 returns c =
     let s = c .before .before .before .before .before .before .before in
     let a = s .args in
+    let word = timeWord (a .o .now) in
     let p = s .pre in (
-      c .with-row-again .ensures ∙ rw (p .1 .3) (ap (set (blockOf (a .o .now) (take (a .i) (a .starts .now)) (a .ends .now)) (a .i))
-          (row-before (a .o .now) (a .starts .now) (a .ends .now) (a .i) (p .1 .2) (c .before .before .first-named .result) (c .before .if1 .taken) ∙
-          ap (rowOf (a .o .now) (a .ends .now)) (c .before .before .first-named .ensures .1)) ∙ block-more (a .o .now) (a .starts .now) (a .ends .now) (a .i)
+      c .with-row-again .ensures ∙ rw (p .1 .3) (ap (set (blockBy word (take (a .i) (a .starts .now)) (a .ends .now)) (a .i))
+          (row-before word (a .starts .now) (a .ends .now) (a .i) (p .1 .2) (c .before .before .first-named .result) (c .before .if1 .taken) ∙
+          ap (rowBy word (a .ends .now)) (c .before .before .first-named .ensures .1)) ∙ block-more word (a .starts .now) (a .ends .now) (a .i)
           (p .1 .2) (omega (arith, p .1 .0))),
       refl,
     )
@@ -42,11 +44,12 @@ with-row-requires : tie.Need-with-row-requires
 with-row-requires c κs =
     let s = c .before .before .before .before .before .before .before .before in
     let a = s .args in
+    let word = timeWord (a .o .now) in
     let p = s .pre in (
       (p .0 .0, p .0 .1, named-there _ _ _ (p .1 .2) (p .0 .2), p .0 .3, p .1 .1),
       (
         omega (arith, p .1 .0),
-        ap (λ (l : List (List ℕ)). getD l (a .i) []) (p .1 .3) ∙ row-unused (a .o .now) (a .starts .now) (a .ends .now) (a .i) (p .1 .2)
+        ap (λ (l : List (List ℕ)). getD l (a .i) []) (p .1 .3) ∙ row-unused word (a .starts .now) (a .ends .now) (a .i) (p .1 .2)
             (omega (arith, p .1 .0)),
       ),
     )
@@ -58,8 +61,9 @@ returns-2 : tie.Need-returns-2
 returns-2 c =
     let s = c .before .before .before .before .before .before .before .before .before .before .before in
     let a = s .args in
+    let word = timeWord (a .o .now) in
     let p = s .pre in (
-      c .before .before .with-row .ensures .0 ∙ rw (p .1 .3) (block-more (a .o .now) (a .starts .now) (a .ends .now) (a .i) (p .1 .2) (omega (arith, p .1 .0))),
+      c .before .before .with-row .ensures .0 ∙ rw (p .1 .3) (block-more word (a .starts .now) (a .ends .now) (a .i) (p .1 .2) (omega (arith, p .1 .0))),
       c .before .before .with-row .ensures .1,
     )
 

@@ -8,7 +8,10 @@ use Rattle.heap.proofs.queue.lower.Statement.{statement}
 use Rattle.heap.proofs.queue.lower.Tie as tie
 
 store-time-requires : tie.Need-store-time-requires
-store-time-requires c κs = search needs
+store-time-requires c κs =
+    let s = c .before .before in
+    let p = s .pre in
+    (omega (arith, p .0 .positioned .size), p .1, omega (arith, p .0 .reached (s .args .v) (p .1) (p .2)))
 
 position-of-requires : tie.Need-position-of-requires
 position-of-requires c κs =

@@ -14,12 +14,6 @@ add-a-2 c = search needs
 add-b : tie.Need-add-b
 add-b c = search needs
 
-key-at-requires : tie.Need-key-at-requires
-key-at-requires c κs = search needs
-
-key-at-requires-2 : tie.Need-key-at-requires-2
-key-at-requires-2 c κs = search needs
-
 less-requires : tie.Need-less-requires
 less-requires c κs = search needs
 
@@ -28,13 +22,10 @@ add-result c = search needs
 
 returns : tie.Need-returns
 returns c =
-    let s = c .before .before .before .before .before in
-    let if1 = c .before .before .before .if1 in
-    let a = s .args in
-    let p = s .pre in (
-      λ _. lesser-of (a .n) (a .k) (a .i) (a .w .now) (p .0) (p .1) _ _ _ (c .before .before .key-at .ensures) (c .before .key-at2 .ensures)
-          (c .less .ensures .0) (if1 .taken),
-      λ l. omega (arith, if1 .taken),
+    let a = c .before .before .before .args in
+    let p = c .before .before .before .pre in (
+      λ _. lesser-of (a .n) (a .k) (a .i) (a .w .now) (p .0) (p .1) _ (c .less .ensures .0) (c .before .if1 .taken),
+      λ l. omega (arith, c .before .if1 .taken),
     )
 
 returns-2 : tie.Need-returns-2
@@ -50,8 +41,6 @@ lesser-spec =
     add-a
     add-a-2
     add-b
-    key-at-requires
-    key-at-requires-2
     less-requires
     add-result
     returns

@@ -1,6 +1,8 @@
 -- `sift::rise` meets its contract: three ways out of a level.
 use native.Mathlib.Omega.{arith}
+use mathlib.Core.Path.{sym, _∙_}
 use borrow.Author.Needs.{needs}
+use borrow.Author.Tests.{ltb-true, ltb-false, not-true, not-false}
 use Rattle.heap.proofs.SiftLaws.{rise-root, rise-stop, rise-move}
 use Rattle.heap.proofs.sift.rise.Statement.{statement}
 use Rattle.heap.proofs.sift.rise.Tie as tie
@@ -14,22 +16,18 @@ returns c =
 sub-p : tie.Need-sub-p
 sub-p c = search needs
 
-key-at-requires : tie.Need-key-at-requires
-key-at-requires c κs = search needs
-
-key-at-requires-2 : tie.Need-key-at-requires-2
-key-at-requires-2 c κs = search needs
+is-sooner-requires : tie.Need-is-sooner-requires
+is-sooner-requires c κs = search needs
 
 same-length : tie.Need-same-length
 same-length c = search needs
 
 returns-2 : tie.Need-returns-2
 returns-2 c =
-    let s = c .before .before .before .before .before .before .before in
-    let a = s .args in
-    let p = s .pre in
-    rise-stop (a .n) (a .k) (a .i) (a .w .now) (p .0) (p .1) (p .2) (p .3) (c .before .before .before .before .before .if1 .left)
-    (omega (arith, c .before .before .before .key-at .ensures, c .before .key-at2 .ensures, c .if2 .taken))
+    let a = c .before .before .before .before .before .args in
+    let p = c .before .before .before .before .before .pre in
+    rise-stop (a .n) (a .k) (a .i) (a .w .now) (p .0) (p .1) (p .2) (p .3) (c .before .before .before .if1 .left)
+    (ltb-false _ _ (sym (c .before .is-sooner .ensures) ∙ not-true _ (c .if2 .taken)))
 
 swap-requires : tie.Need-swap-requires
 swap-requires c κs = search needs
@@ -39,17 +37,12 @@ same-length-2 c = search needs
 
 returns-3 : tie.Need-returns-3
 returns-3 c =
-    let s = c .before .before .before .before .before .before .before .before .before .before .before in
-    let a = s .args in
-    let p = s .pre in
+    let a = c .before .before .before .before .before .before .before .before .before .args in
+    let p = c .before .before .before .before .before .before .before .before .before .pre in
     rise-move (a .n) (a .k) (a .i) (a .w .now) (p .0) (p .1) (p .2) (p .3)
-    (c .before .before .before .before .before .before .before .before .before .if1 .left)
-    (omega (
-      arith,
-      c .before .before .before .before .before .before .before .key-at .ensures,
-      c .before .before .before .before .before .key-at2 .ensures,
-      c .before .before .before .before .if2 .left,
-    )) _ (c .before .before .swap .ensures)
+    (c .before .before .before .before .before .before .before .if1 .left)
+    (ltb-true _ _ (sym (c .before .before .before .before .before .is-sooner .ensures) ∙ not-false _ (c .before .before .before .before .if2 .left))) _
+    (c .before .before .swap .ensures)
 
 pub rise-spec : {M : Type 1} → statement M
 rise-spec =
@@ -57,8 +50,7 @@ rise-spec =
     (tie.spec
     returns
     sub-p
-    key-at-requires
-    key-at-requires-2
+    is-sooner-requires
     same-length
     returns-2
     swap-requires

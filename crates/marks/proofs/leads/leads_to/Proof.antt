@@ -6,8 +6,8 @@ use Rattle.marks.proofs.Tight.{arc-unmarked, arc-marked}
 use Rattle.marks.proofs.leads.leads_to.Statement.{statement}
 use Rattle.marks.proofs.leads.leads_to.Tie as tie
 
-mul-m : tie.Need-mul-m
-mul-m c = search needs
+queue-words-requires : tie.Need-queue-words-requires
+queue-words-requires c κs = search needs
 
 mul-contains : tie.Need-mul-contains
 mul-contains c = search needs
@@ -26,40 +26,33 @@ contains-requires c κs = search needs
 
 returns : tie.Need-returns
 returns c =
-    let s = c .before .before .before .before in
-    let p = s .pre in
-    let a = s .args in
-    arc-unmarked (a .work .now) (a .n) (a .v) (a .to) (a .cost) (p .2) (p .3) (sym (c .before .contains .ensures) ∙ not-true _ (c .if1 .taken))
+    let p = c .before .before .before .before .before .pre in
+    let a = c .before .before .before .before .before .args in
+    arc-unmarked (a .work .now) (a .n) (a .v) (a .to) (a .cost) (p .3) _ (c .before .before .before .queue-words .ensures)
+    (sym (c .before .contains .ensures) ∙ not-true _ (c .if1 .taken))
 
 time-of-requires : tie.Need-time-of-requires
 time-of-requires c κs = search needs
 
-cast-result : tie.Need-cast-result
-cast-result c = search needs
-
 time-of-requires-2 : tie.Need-time-of-requires-2
 time-of-requires-2 c κs = search needs
-
-cast-result-2 : tie.Need-cast-result-2
-cast-result-2 c = search needs
 
 add-result : tie.Need-add-result
 add-result c = search needs
 
 returns-2 : tie.Need-returns-2
 returns-2 c =
-    let s = c .before .before .before .before .before .before in
-    let p = s .pre in
-    let a = s .args in
-    arc-marked (a .work .now) (a .n) (a .v) (a .to) (a .cost) (p .2) (p .3)
-    (sym (c .before .before .before .contains .ensures) ∙ not-false _ (c .before .before .if1 .left)) _ _ (c .before .time-of .ensures .1)
-    (c .time-of2 .ensures .1)
+    let p = c .before .before .before .before .before .before .before .pre in
+    let a = c .before .before .before .before .before .before .before .args in
+    arc-marked (a .work .now) (a .n) (a .v) (a .to) (a .cost) (p .3) _ (c .before .before .before .before .before .queue-words .ensures)
+    (sym (c .before .before .before .contains .ensures) ∙ not-false _ (c .before .before .if1 .left)) _ _
+    (c .before .time-of .ensures .1) (c .time-of2 .ensures .1)
 
 pub leads-to-spec : {M : Type 1} → statement M
 leads-to-spec =
     tie.close
     (tie.spec
-    mul-m
+    queue-words-requires
     mul-contains
     sub-contains
     part-contains-start
@@ -67,8 +60,6 @@ leads-to-spec =
     contains-requires
     returns
     time-of-requires
-    cast-result
     time-of-requires-2
-    cast-result-2
     add-result
     returns-2)

@@ -1,3 +1,4 @@
+use Rattle.model.specs.Contents.{oracleEdition, oracleEntries}
 use Rattle.reader.proofs.Kept.{kept}
 use Rattle.theory.specs.Sound.{node-bytes}
 use Rattle.theory.specs.Firsts.{first-append}
@@ -13,12 +14,14 @@ use Rattle.reader.proofs.files.oracle_refusal.Statement.{statement}
 use Rattle.reader.proofs.files.oracle_refusal.Tie as tie
 
 read-requires : tie.Need-read-requires
-read-requires c κs = (omega arith, whole-contents 1 7 (c .before .args .o .now) (kept (c .before .args .o .now) (c .before .pre) .contents))
+read-requires c κs =
+    let o = c .before .args .o .now in
+    (omega arith, whole-contents oracleEdition oracleEntries o (kept o (c .before .pre) .contents))
 
 body-requires : tie.Need-body-requires
 body-requires c κs =
     record {
-      entries = 7;
+      entries = oracleEntries;
       few = omega arith;
       below = omega arith;
       read = c .read .ensures;
@@ -29,7 +32,7 @@ body-requires c κs =
 body-requires-2 : tie.Need-body-requires-2
 body-requires-2 c κs =
     record {
-      entries = 7;
+      entries = oracleEntries;
       few = omega arith;
       below = omega arith;
       read = c .before .read .ensures;
@@ -40,13 +43,19 @@ body-requires-2 c κs =
 body-requires-3 : tie.Need-body-requires-3
 body-requires-3 c κs =
     let s = c .before .before .before .before in
-    record { entries = 7; few = omega arith; below = omega arith; read = c .before .before .read .ensures; joined = kept (s .args .o .now) (s .pre) .bodies }
+    record {
+      entries = oracleEntries;
+      few = omega arith;
+      below = omega arith;
+      read = c .before .before .read .ensures;
+      joined = kept (s .args .o .now) (s .pre) .bodies;
+    }
 
 body-requires-4 : tie.Need-body-requires-4
 body-requires-4 c κs =
     let s = c .before .before .before .before .before in
     record {
-      entries = 7;
+      entries = oracleEntries;
       few = omega arith;
       below = omega arith;
       read = c .before .before .before .read .ensures;
@@ -58,7 +67,7 @@ body-requires-5 : tie.Need-body-requires-5
 body-requires-5 c κs =
     let s = c .before .before .before .before .before .before in
     record {
-      entries = 7;
+      entries = oracleEntries;
       few = omega arith;
       below = omega arith;
       read = c .before .before .before .before .read .ensures;
@@ -84,7 +93,7 @@ returns c =
       ← c .before .before .body4 .ensures,
       ← c .before .body5 .ensures,
     ) (c .oracle-bodies .ensures) ∙
-    sym (first-append _ _ (plain-counted 1 7 (s .args .o .now)) (s .pre))
+    sym (first-append _ _ (plain-counted oracleEdition oracleEntries (s .args .o .now)) (s .pre))
 
 pub oracle-refusal-spec : {M : Type 1} → statement M
 oracle-refusal-spec =

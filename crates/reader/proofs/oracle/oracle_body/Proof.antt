@@ -1,3 +1,4 @@
+use Rattle.model.specs.Contents.{oracleEdition, oracleEntries}
 use Rattle.theory.specs.Joined.{whole-contents}
 use Rattle.theory.specs.Passed.{all-shaped}
 use native.Mathlib.Omega.{arith}
@@ -9,7 +10,7 @@ body-of-requires : tie.Need-body-of-requires
 body-of-requires c κs = (
   omega arith,
   omega arith,
-  whole-contents 1 7 (c .before .args .o .now) (all-shaped (c .before .args .o .now) (c .before .pre .0) .contents),
+  whole-contents oracleEdition oracleEntries (c .before .args .o .now) (all-shaped (c .before .args .o .now) (c .before .pre .0) .contents),
   all-shaped (c .before .args .o .now) (c .before .pre .0) .bodies,
 )
 

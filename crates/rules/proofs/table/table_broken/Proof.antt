@@ -1,23 +1,22 @@
--- `rules::table::table_broken` meets its contract. Assumes nothing.
-use Rattle.rules.proofs.TableLaws.{square-most, table-size, table-all, table-next, table-end}
-use Rattle.theory.specs.RangeLaws.{rest}
-use Rattle.model.specs.Oracle.{valueSize, cellBroken, tableBroken}
-use Rattle.model.specs.Lists.{any}
-use lib.ListN.{length}
+-- `rules::table::table_broken` meets its contract. The loop's invariant: the answer is that for the values from i on. Assumes nothing.
+use Prim.Native.Nat.{_-_, _*_, _≤_}
 use native.Mathlib.Omega.{arith}
-use mathlib.Core.Bool.{_||_}
 use mathlib.Core.Path.{_≡_, sym, _∙_}
-use Prim.Native.Nat.{_*_, _-_}
+use lib.ListN.{length}
+use Rattle.model.specs.Lists.{any}
+use Rattle.model.specs.Oracle.{valueSize, cellBroken, tableBroken}
+use Rattle.theory.specs.RangeLaws.{rest}
+use Rattle.rules.proofs.TableLaws.{square-most, table-size, table-all, table-passed, table-found, table-end}
 use borrow.Author.Needs.{needs}
 use Rattle.rules.proofs.table.table_broken.Statement.{statement}
 use Rattle.rules.proofs.table.table_broken.Tie as tie
 
 abbrev Inv-loop : tie.InvT-loop
-Inv-loop transit b values broken₀ i₀ broken i =
-    (length b ≡ valueSize * values) × (tableBroken transit b ≡ broken || any (cellBroken b) (rest i values))
+Inv-loop transit b values i₀ i =
+    (length b ≡ valueSize * values) × (i ≤ values) × (tableBroken transit b ≡ any (cellBroken b) (rest i values))
 
 abbrev μ-loop : tie.MeasureT-loop
-μ-loop transit b values broken₀ i₀ broken i = values - i
+μ-loop transit b values i₀ i = values - i
 
 mul-values : tie.Need-mul-values Inv-loop μ-loop
 mul-values c = omega (arith, square-most (c .before .args .transit) (c .before .pre))
@@ -29,13 +28,14 @@ returns : tie.Need-returns Inv-loop μ-loop
 returns c = sym (table-size _ _ (c .if1 .taken))
 
 loop-holds : tie.Need-loop-holds Inv-loop μ-loop
-loop-holds c = (c .if1 .left, table-all _ _ (c .if1 .left))
+loop-holds c = (c .if1 .left, omega arith, table-all _ _ (c .if1 .left))
 
-mul-broken-so-far : tie.Need-mul-broken-so-far Inv-loop μ-loop
-mul-broken-so-far c = search needs
+fine-from-requires : tie.Need-fine-from-requires Inv-loop μ-loop
+fine-from-requires c κs = search needs
 
-broken-so-far-requires : tie.Need-broken-so-far-requires Inv-loop μ-loop
-broken-so-far-requires c κs = search needs
+returns-2 : tie.Need-returns-2 Inv-loop μ-loop
+returns-2 c = sym (c .before .before .before .loop .inv .2
+    ∙ table-found _ _ _ (c .before .before .loop-test .taken) (c .before .fine-from .ensures .2 (c .if2 .taken)))
 
 add-i : tie.Need-add-i Inv-loop μ-loop
 add-i c = search needs
@@ -44,13 +44,13 @@ loop-less : tie.Need-loop-less Inv-loop μ-loop
 loop-less c = search needs
 
 loop-again : tie.Need-loop-again Inv-loop μ-loop
-unfolding cellBroken
 loop-again c =
-    let inv = c .before .before .loop .inv in
-    (inv .0, inv .1 ∙ table-next _ _ _ _ (c .before .loop-test .taken) (c .broken-so-far .ensures))
+    let fine = c .before .fine-from .ensures in
+    let inv = c .before .before .before .loop .inv in
+    (inv .0, fine .0, inv .2 ∙ table-passed _ _ _ _ (fine .1) (fine .0))
 
-returns-2 : tie.Need-returns-2 Inv-loop μ-loop
-returns-2 c = sym (c .before .loop .inv .1 ∙ table-end _ _ _ _ (c .loop-test .left))
+returns-3 : tie.Need-returns-3 Inv-loop μ-loop
+returns-3 c = sym (c .before .loop .inv .2 ∙ table-end _ _ _ (c .loop-test .left))
 
 pub table-broken-spec : {M : Type 1} → statement M
 table-broken-spec =
@@ -62,9 +62,9 @@ table-broken-spec =
     mul-if1
     returns
     loop-holds
-    mul-broken-so-far
-    broken-so-far-requires
+    fine-from-requires
+    returns-2
     add-i
     loop-less
     loop-again
-    returns-2)
+    returns-3)

@@ -8,16 +8,16 @@ use Rattle.theory.specs.Sound.{edge-fine}
 use Rattle.arcs.proofs.Passes.{two-ends, none-left}
 use Rattle.words.proofs.Parts.{front-others}
 use Rattle.words.specs.Regions.{searchWords}
-use Rattle.search.proofs.Edges.{edge-room, end-in, one-arc, closed-edge, offered}
+use Rattle.search.proofs.Edges.{edge-room, end-in, cost-low, one-arc, closed-edge, offered}
 use Rattle.search.proofs.relax.offer_edge.Statement.{statement}
 use Rattle.search.proofs.relax.offer_edge.Tie as tie
 
-seconds-left-requires : tie.Need-seconds-left-requires
-seconds-left-requires c κs =
+cost-left-requires : tie.Need-cost-left-requires
+cost-left-requires c κs =
     let p = c .before .before .before .before .pre in
     let a = c .before .before .before .before .args in
     let f = edge-fine (a .n) (a .edges .now) (p .1 .0) (a .i) (p .1 .1) in
-    ((two-ends f, p .0 .0 .queue .positioned .few, p .0 .2, p .1 .3), ((p .1 .1, f .at-most), p .1 .2 .limit))
+    ((two-ends f, p .0 .0 .queue .positioned .few, p .0 .2, p .1 .3), p .1 .1)
 
 same-length : tie.Need-same-length
 same-length c = search needs
@@ -27,7 +27,7 @@ returns c =
     let p = c .before .before .before .before .before .before .pre in
     let a = c .before .before .before .before .before .before .args in (
       closed-edge (a .n) (a .e) (a .u) (a .d) (a .work .now) (a .k) (p .0 .0) _
-          (none-left _ _ (a .u) (a .i) _ (c .if1 .taken) (c .before .seconds-left .ensures)),
+          (none-left _ _ (a .u) (a .i) _ (c .if1 .taken) (c .before .cost-left .ensures)),
       refl,
     )
 
@@ -58,11 +58,18 @@ slice-aggregate-offer-in c =
     sym (length-take-le (c .before .search-words .result) (a .work .now)
     (omega (arith, c .before .search-words .ensures, edge-room (a .n) (a .edges .now) (a .i) (a .work .now) (p .1 .0) (p .1 .1) (p .0 .2))))
 
-cast-offer-in : tie.Need-cast-offer-in
-cast-offer-in c = search needs
-
 add-offer-in : tie.Need-add-offer-in
-add-offer-in c = omega (arith, c .before .before .before .before .before .before .before .before .before .before .before .pre .0 .3)
+add-offer-in c =
+    let p = c .before .before .before .before .before .before .before .before .before .before .before .pre in
+    let a = c .before .before .before .before .before .before .before .before .before .before .before .args in
+    omega (
+      arith,
+      p .0 .3,
+      cost-low (a .edges .now) (a .lines .now) (a .n) (a .u) (a .i) (p .1 .0) (p .1 .1) (p .1 .2) _ _ _ _
+          (c .before .before .before .before .edge-first .ensures .0)
+          (c .before .before .before .edge-second .ensures .0) (c .before .before .other-end .ensures)
+          (c .before .before .before .before .before .before .cost-left .ensures) (c .before .before .before .before .before .if1 .left),
+    )
 
 offer-in-requires : tie.Need-offer-in-requires
 offer-in-requires c κs =
@@ -70,7 +77,7 @@ offer-in-requires c κs =
     let a = c .before .before .before .before .before .before .before .before .before .before .before .args in
     let i = end-in (a .edges .now) (a .lines .now) (a .n) (a .u) (a .i) (p .1 .0) (p .1 .1) (p .1 .2) _ _ _ _
     (c .before .before .before .before .edge-first .ensures .0) (c .before .before .before .edge-second .ensures .0)
-    (c .before .before .other-end .ensures) (c .before .before .before .before .before .before .seconds-left .ensures) in
+    (c .before .before .other-end .ensures) (c .before .before .before .before .before .before .cost-left .ensures) in
     rw (c .before .search-words .ensures) (p .0 .0, i, λ h. omega (arith, p .0 .1 _ i h))
 
 same-length-2 : tie.Need-same-length-2
@@ -88,7 +95,7 @@ returns-2 c =
     (c .before .before .before .before .before .before .before .edge-first .ensures .0)
     (c .before .before .before .before .before .before .edge-second .ensures .0)
     (c .before .before .before .before .before .other-end .ensures)
-    (c .before .before .before .before .before .before .before .before .before .seconds-left .ensures)
+    (c .before .before .before .before .before .before .before .before .before .cost-left .ensures)
     (c .before .before .before .before .before .before .before .before .if1 .left) in rw m (
       offered (a .n) (a .e) (a .u) (a .d) (a .work .now) (a .k) (p .0 .0) _ _ _ x (r .last .0) _ l k (rw m at (r .ensures)),
       front-others (a .work .now) (r .last .0) (searchWords (a .n)) l k,
@@ -98,7 +105,7 @@ pub offer-edge-spec : {M : Type 1} → statement M
 offer-edge-spec =
     tie.close
     (tie.spec
-    seconds-left-requires
+    cost-left-requires
     same-length
     returns
     edge-first-requires
@@ -107,7 +114,6 @@ offer-edge-spec =
     search-words-requires
     slice-relend-prefix-offer-in
     slice-aggregate-offer-in
-    cast-offer-in
     add-offer-in
     offer-in-requires
     same-length-2

@@ -20,9 +20,6 @@ abbrev μ-loop : tie.MeasureT-loop
 time-of-requires : tie.Need-time-of-requires Inv-loop μ-loop
 time-of-requires c κs = search needs
 
-cast-d : tie.Need-cast-d Inv-loop μ-loop
-cast-d c = search needs
-
 search-words-requires : tie.Need-search-words-requires Inv-loop μ-loop
 search-words-requires c κs = c .before .before .before .before .pre .0 .0 .queue .positioned .few
 
@@ -132,7 +129,6 @@ relax-plain-spec =
     Inv-loop
     μ-loop
     time-of-requires
-    cast-d
     search-words-requires
     first-edge-requires
     arc-at-requires

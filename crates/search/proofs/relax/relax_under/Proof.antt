@@ -20,9 +20,6 @@ abbrev μ-loop : tie.MeasureT-loop
 time-of-requires : tie.Need-time-of-requires Inv-loop μ-loop
 time-of-requires c κs = search needs
 
-cast-d : tie.Need-cast-d Inv-loop μ-loop
-cast-d c = search needs
-
 first-edge-requires : tie.Need-first-edge-requires Inv-loop μ-loop
 first-edge-requires c κs = let p = c .before .before .before .before .before .before .pre in
     ((p .0 .0 .queue .positioned .few, p .1 .1, p .0 .1), p .1 .0 .roads)
@@ -105,7 +102,6 @@ relax-under-spec =
     Inv-loop
     μ-loop
     time-of-requires
-    cast-d
     first-edge-requires
     loop-holds
     offer-edge-requires

@@ -3,7 +3,7 @@ use Prim.Native.Nat.{_/_, _%_}
 use native.Mathlib.Omega.{arith}
 use mathlib.Core.Path.{refl, sym, _∙_}
 use Rattle.sheet.specs.Sheet.{lineCount}
-use Rattle.sheet.proofs.Seconds.{span-fits, whole-span, cut-span}
+use Rattle.sheet.proofs.Costs.{span-fits, whole-span, cut-span}
 use borrow.Author.Needs.{needs}
 use Rattle.sheet.proofs.spans.effect_in.Statement.{statement}
 use Rattle.sheet.proofs.spans.effect_in.Tie as tie

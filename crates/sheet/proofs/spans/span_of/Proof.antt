@@ -1,7 +1,6 @@
 -- `spans::span_of` meets its contract: a word of the spans is a word of the working words.
 use native.Mathlib.Omega.{arith}
-use native.Mathlib.Nat.{mod-lt}
-use Rattle.sheet.proofs.Noting.{span-read}
+use Rattle.sheet.proofs.Noting.{span-read, span-place}
 use borrow.Author.Needs.{needs}
 use Rattle.sheet.proofs.spans.span_of.Statement.{statement}
 use Rattle.sheet.proofs.spans.span_of.Tie as tie
@@ -17,36 +16,19 @@ rem-result c = search needs
 
 add-result : tie.Need-add-result
 add-result c =
-    let span-count = c .span-count in
-    let a = c .before .before .before .args in
-    omega (
-      arith,
-      c .before .before .before .pre,
-      c .before .spans-at .ensures,
-      span-count .ensures .0,
-      mod-lt (a .i) {m = span-count .result}
-          (span-count .ensures .1),
-    )
+    let p = c .before .before .before .pre in
+    omega (arith, p .1, span-place _ (p .0) _ _ (c .before .before .before .args .i) (c .before .spans-at .ensures) (c .span-count .ensures .0))
 
 mul-result : tie.Need-mul-result
 mul-result c =
-    let span-count = c .span-count in
-    let a = c .before .before .before .args in
-    omega (
-      arith,
-      c .before .before .before .pre,
-      c .before .spans-at .ensures,
-      span-count .ensures .0,
-      mod-lt (a .i) {m = span-count .result}
-          (span-count .ensures .1),
-    )
+    let p = c .before .before .before .pre in
+    omega (arith, p .1, span-place _ (p .0) _ _ (c .before .before .before .args .i) (c .before .spans-at .ensures) (c .span-count .ensures .0))
 
 shared-slice-read-result : tie.Need-shared-slice-read-result
 shared-slice-read-result c =
     let p = c .before .before .before .before .pre in
-    let span-count = c .before .span-count in
-    let a = c .before .before .before .before .args in
-    omega (arith, p, c .before .before .spans-at .ensures, span-count .ensures .0, mod-lt (a .i) {m = span-count .result} (span-count .ensures .1))
+    let i = c .before .before .before .before .args .i in
+    omega (arith, p .2, span-place _ (p .0) _ _ i (c .before .before .spans-at .ensures) (c .before .span-count .ensures .0))
 
 returns : tie.Need-returns
 returns c =
@@ -54,7 +36,7 @@ returns c =
     let spans-at = c .before .before .spans-at in
     let span-count = c .before .span-count in
     let p = c .before .before .before .before .pre in
-    span-read (a .n) (a .work .now) (spans-at .result) (span-count .result) (a .i) (p .0) (p .1) (p .2) (spans-at .ensures) (span-count .ensures .0)
+    span-read (a .n) (a .work .now) (spans-at .result) (span-count .result) (a .i) (p .0) (p .2) (spans-at .ensures) (span-count .ensures .0)
 
 pub span-of-spec : {M : Type 1} → statement M
 span-of-spec =

@@ -1,7 +1,7 @@
 -- `lists::entry_value` meets its contract: rule 10 has the value in range.
 use native.Mathlib.Omega.{arith}
 use borrow.Author.Needs.{needs}
-use Rattle.model.specs.Oracle.{accessEntry, value}
+use Rattle.model.specs.Oracle.{accessEntry}
 use Rattle.tables.specs.Entries.{entry-within, value-in-range}
 use Rattle.tables.proofs.lists.entry_value.Statement.{statement}
 use Rattle.tables.proofs.lists.entry_value.Tie as tie
@@ -19,7 +19,7 @@ returns : tie.Need-returns
 unfolding accessEntry
 returns c =
     let p = c .before .before .before .pre in
-    let e = rw (c .before .entry-at .ensures) at (c .read-value .ensures) in
+    let e = rw (c .before .entry-at .ensures) at (c .read-value .ensures .0) in
     (e, value-in-range _ _ _ (p .0 .1) _ (p .1) _ e)
 
 pub entry-value-spec : {M : Type 1} → statement M

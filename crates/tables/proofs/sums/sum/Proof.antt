@@ -1,44 +1,68 @@
--- `sums::sum` meets its contract: a part is 'no walk', or all are times whose sum is below it.
+-- `sums::sum` meets its contract.
 use native.Mathlib.Omega.{arith}
-use mathlib.Core.Path.{_≡_}
-use mathlib.Core.Logic.{⊎-elim}
-use borrow.Author.Tests.{eqb-true, eqb-false}
-use Rattle.model.specs.Oracle.{noWalk}
-use Rattle.tables.proofs.Values.{by-first, by-second, by-third, by-none}
+use Rattle.model.specs.Oracle.{valueKey}
+use borrow.Author.Needs.{needs}
 use Rattle.tables.proofs.sums.sum.Statement.{statement}
 use Rattle.tables.proofs.sums.sum.Tie as tie
 
-returns : tie.Need-returns
-returns c =
-    ⊎-elim
-    (λ w. by-first _ _ _ (w .taken))
-    (⊎-elim (λ w. by-second _ _ _ (eqb-true _ _ (w .1 .taken))) (λ w. by-third _ _ _ (eqb-true _ _ (w .2 .taken))))
-    (c .if1 .came)
+read32-requires : tie.Need-read32-requires
+read32-requires c κs = search needs
 
--- No part is 'no walk'.
-first-time : (c : tie.Else3) → c .before .before .before .args .a ≡ noWalk → ⊥
-first-time c = c .before .before .if1 .left
+cast-seconds : tie.Need-cast-seconds
+cast-seconds c = search needs
 
-second-time : (c : tie.Else3) → c .before .before .before .args .b ≡ noWalk → ⊥
-second-time c = eqb-false _ _ (c .before .if2 .left)
+read32-requires-2 : tie.Need-read32-requires-2
+read32-requires-2 c κs = search needs
 
-third-time : (c : tie.Else3) → c .before .before .before .args .c ≡ noWalk → ⊥
-third-time c = eqb-false _ _ (c .if3 .left)
+cast-seconds-2 : tie.Need-cast-seconds-2
+cast-seconds-2 c = search needs
+
+add-seconds : tie.Need-add-seconds
+add-seconds c = search needs
+
+add-read16 : tie.Need-add-read16
+add-read16 c = search needs
+
+read16-requires : tie.Need-read16-requires
+read16-requires c κs = search needs
+
+add-read16-2 : tie.Need-add-read16-2
+add-read16-2 c = search needs
+
+read16-requires-2 : tie.Need-read16-requires-2
+read16-requires-2 c κs = search needs
+
+add-hops : tie.Need-add-hops
+add-hops c = search needs
+
+mul-result : tie.Need-mul-result
+mul-result c = search needs
+
+cast-result : tie.Need-cast-result
+cast-result c = search needs
 
 add-result : tie.Need-add-result
-add-result c =
-    let p = c .before .before .before .pre in
-    omega (arith, p .0 (first-time c), p .1 (second-time c))
+add-result c = search needs
 
-add-result-2 : tie.Need-add-result-2
-add-result-2 c =
-    let p = c .before .before .before .pre in
-    omega (arith, p .0 (first-time c), p .1 (second-time c), p .2 (third-time c))
-
-returns-2 : tie.Need-returns-2
-returns-2 c =
-    let p = c .before .before .before .pre in
-    by-none _ _ _ (first-time c) (second-time c) (third-time c) (p .0) (p .1) (p .2)
+returns : tie.Need-returns
+unfolding valueKey
+returns c = omega arith
 
 pub sum-spec : {M : Type 1} → statement M
-sum-spec = tie.close (tie.spec returns add-result add-result-2 returns-2)
+sum-spec =
+    tie.close
+    (tie.spec
+    read32-requires
+    cast-seconds
+    read32-requires-2
+    cast-seconds-2
+    add-seconds
+    add-read16
+    read16-requires
+    add-read16-2
+    read16-requires-2
+    add-hops
+    mul-result
+    cast-result
+    add-result
+    returns)

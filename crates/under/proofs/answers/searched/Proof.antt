@@ -14,8 +14,8 @@ oracle-body-requires c κs = search needs
 node-count-requires : tie.Need-node-count-requires
 node-count-requires c κs = search needs
 
-search-seconds-requires : tie.Need-search-seconds-requires
-search-seconds-requires c κs =
+search-key-requires : tie.Need-search-key-requires
+search-key-requires c κs =
     let p = c .before .before .before .before .before .before .pre in
     let edges = c .before .before .oracle-body .ensures in
     let n = c .before .node-count .ensures in
@@ -33,9 +33,9 @@ returns c =
     let p = c .before .before .before .before .before .before .before .before .before .before .pre in
     let a = c .before .before .before .before .before .before .before .before .before .before .args in
     let n = c .before .before .before .before .before .node-count .ensures in
-    let found = rw (c .before .before .before .before .before .before .oracle-body .ensures, n) at (c .before .before .before .search-seconds .ensures .0) in (
+    let found = rw (c .before .before .before .before .before .before .oracle-body .ensures, n) at (c .before .before .before .search-key .ensures .0 .0) in (
       c .answer-of .ensures ∙ local-under (a .o .now) (a .lines .now) (all-shaped _ (p .0 .0 .shape)) (p .1 .quick) (a .s) (a .t) _ (p .0 .1) found,
-      rw n at (c .before .before .before .search-seconds .ensures .1),
+      rw n at (c .before .before .before .search-key .ensures .1),
     )
 
 pub searched-spec : {M : Type 1} → statement M
@@ -44,7 +44,7 @@ searched-spec =
     (tie.spec
     oracle-body-requires
     node-count-requires
-    search-seconds-requires
+    search-key-requires
     answer-of-requires
     same-length
     returns)

@@ -46,7 +46,7 @@ way-after-next-node-requires t c κs = search needs
 way-after-returns : (t : ℕ) → way-after-lts.Need-returns (claims t) (way-after-at t) way-after.Post
 way-after-returns t c =
     let p = c .before .before .before .before .before .pre in
-    let e = stops _ _ _ _ (p .1 .0 .2) (p .1 .1 .1) _ _ (p .1 .0 .0) _ (c .before .next-node .ensures) (c .if1 .taken) in
+    let e = stops _ _ _ _ (p .1 .1 .1) _ _ (p .1 .0 .0) _ (c .before .next-node .ensures) (c .if1 .taken) in
     (omega (arith, ap length e), splice-none _ _ _ e)
 
 way-after-cast-write16 : (t : ℕ) → way-after-lts.Need-cast-write16 (claims t) (way-after-at t) way-after.Post
@@ -54,7 +54,7 @@ way-after-cast-write16 t c =
     let p = c .before .before .before .before .before .before .pre in
     omega (
       arith,
-      goes _ _ _ _ (p .1 .0 .2) (p .1 .1 .1) _ _ (p .1 .0 .0) _ (c .before .before .next-node .ensures) (c .before .if1 .left) _ refl .inside,
+      goes _ _ _ _ (p .1 .1 .1) _ _ (p .1 .0 .0) _ (c .before .before .next-node .ensures) (c .before .if1 .left) _ refl .inside,
       p .1
           .0 .1,
     )
@@ -64,7 +64,7 @@ way-after-write16-requires t c κs =
     let p = c .before .before .before .before .before .before .pre in
     omega (
       arith,
-      ap length (goes _ _ _ _ (p .1 .0 .2) (p .1 .1 .1) _ _ (p .1 .0 .0) _ (c .before .before .next-node .ensures) (c .before .if1 .left) _ refl
+      ap length (goes _ _ _ _ (p .1 .1 .1) _ _ (p .1 .0 .0) _ (c .before .before .next-node .ensures) (c .before .if1 .left) _ refl
           .on),
       p .1 .1 .0,
     )
@@ -73,7 +73,7 @@ way-after-time-of-requires : (t : ℕ) → way-after-lts.Need-time-of-requires (
 way-after-time-of-requires t c κs =
     let p = c .before .before .before .before .before .before .before .before .pre in (
       omega arith,
-      goes _ _ _ _ (p .1 .0 .2) (p .1 .1 .1) _ _ (p .1 .0 .0) _ (c .before .before .before .before .next-node .ensures)
+      goes _ _ _ _ (p .1 .1 .1) _ _ (p .1 .0 .0) _ (c .before .before .before .before .next-node .ensures)
           (c .before .before .before .if1 .left) _ refl .inside,
     )
 
@@ -83,14 +83,14 @@ way-after-add-way-after t c = search needs
 way-after-way-after-requires : (t : ℕ) → way-after-lts.Need-way-after-requires (claims t) (way-after-at t) way-after.Post
 way-after-way-after-requires t c κs =
     let p = c .before .before .before .before .before .before .before .before .before .before .pre in
-    let s = goes _ _ _ _ (p .1 .0 .2) (p .1 .1 .1) _ _ (p .1 .0 .0) _ (c .before .before .before .before .before .before .next-node .ensures)
+    let s = goes _ _ _ _ (p .1 .1 .1) _ _ (p .1 .0 .0) _ (c .before .before .before .before .before .before .next-node .ensures)
     (c .before .before .before .before .before .if1 .left) _ (c .before .time-of .ensures .1) in
     (omega (arith, s .less), ((s .time, p .1 .0 .1, p .1 .0 .2), (omega (arith, ap length (s .on), p .1 .1 .0), p .1 .1 .1)))
 
 way-after-returns-2 : (t : ℕ) → way-after-lts.Need-returns-2 (claims t) (way-after-at t) way-after.Post
 way-after-returns-2 t c =
     let p = c .before .before .before .before .before .before .before .before .before .before .before .pre in
-    let s = goes _ _ _ _ (p .1 .0 .2) (p .1 .1 .1) _ _ (p .1 .0 .0) _ (c .before .before .before .before .before .before .before .next-node .ensures)
+    let s = goes _ _ _ _ (p .1 .1 .1) _ _ (p .1 .0 .0) _ (c .before .before .before .before .before .before .before .next-node .ensures)
     (c .before .before .before .before .before .before .if1 .left) _ (c .before .before .time-of .ensures .1) in
     let r = c .way-after in (
       omega (arith, ap length (s .on), r .ensures .0),

@@ -2,7 +2,7 @@
 use native.Mathlib.Omega.{arith}
 use mathlib.Core.Path.{sym, _∙_}
 use borrow.Author.Tests.{eq-eqb, ne-eqb}
-use lib.Seq.{length-take-le}
+use Rattle.words.proofs.TimeLaws.{times-length}
 use Rattle.arcs.specs.Leaving.{arcRank}
 use Rattle.arcs.proofs.Passes.{passes-first}
 use Rattle.arcs.proofs.Tests.{Unmet, unmet-first, unmet-next, met, unmet-last}
@@ -23,13 +23,13 @@ first-edge-requires : tie.Need-first-edge-requires Inv-loop μ-loop
 first-edge-requires c κs =
     let p = c .before .before .before .pre in
     let a = c .before .before .before .args in
-    ((p .0 .1, p .0 .2, omega (arith, node-in _ _ _ (p .0 .0), length-take-le (a .n) (a .work .now) (omega arith))), p .1 .roads)
+    ((p .0 .1, p .0 .2, omega (arith, node-in _ _ _ (p .0 .0), times-length (a .n) (a .work .now))), p .1 .roads)
 
 arc-under-requires : tie.Need-arc-under-requires Inv-loop μ-loop
 arc-under-requires c κs =
     let p = c .before .before .before .before .pre in
     let a = c .before .before .before .before .args in (
-      (p .0 .1, p .0 .2, omega (arith, node-in _ _ _ (p .0 .0), length-take-le (a .n) (a .work .now) (omega arith))),
+      (p .0 .1, p .0 .2, omega (arith, node-in _ _ _ (p .0 .0), times-length (a .n) (a .work .now))),
       (p .1, c .first-edge .ensures .valid),
     )
 
@@ -54,7 +54,7 @@ next-under-requires : tie.Need-next-under-requires Inv-loop μ-loop
 next-under-requires c κs =
     let p = c .before .before .before .before .before .before .before .before .before .before .pre in
     let a = c .before .before .before .before .before .before .before .before .before .before .args in (
-      (p .0 .1, p .0 .2, omega (arith, node-in _ _ _ (p .0 .0), length-take-le (a .n) (a .work .now) (omega arith))),
+      (p .0 .1, p .0 .2, omega (arith, node-in _ _ _ (p .0 .0), times-length (a .n) (a .work .now))),
       (p .1, (c .before .before .before .before .loop .inv .passes .valid, c .before .before .if1 .taken)),
     )
 

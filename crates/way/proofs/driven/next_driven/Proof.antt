@@ -19,7 +19,7 @@ next-node-requires c κs =
     let p = c .before .before .before .before .before .pre in
     let a = c .before .before .before .before .before .args in
     let t = c .before .time-of .ensures .1 in (
-      (starts (a .n) (a .work .now) [] (a .u) _ (p .0 .2) (p .0 .0) t (λ z. p .0 .3 (sym t ∙ z)), p .0 .1, p .0 .2),
+      (starts (a .n) (a .work .now) [] (a .u) _ (p .0 .0) t (λ z. p .0 .3 (sym t ∙ z)), p .0 .1, p .0 .2),
       plain (a .edges .now) (a .n) (a .work .now) (p .1 .roads),
     )
 
@@ -28,28 +28,28 @@ returns c =
     let p = c .before .before .before .before .before .before .before .pre in
     let a = c .before .before .before .before .before .before .before .args in
     let t = c .before .before .before .time-of .ensures .1 in
-    let e = starts (a .n) (a .work .now) [] (a .u) _ (p .0 .2) (p .0 .0) t (λ z. p .0 .3 (sym t ∙ z)) in
+    let e = starts (a .n) (a .work .now) [] (a .u) _ (p .0 .0) t (λ z. p .0 .3 (sym t ∙ z)) in
     let g = plain (a .edges .now) (a .n) (a .work .now) (p .1 .roads) in
     left-read t
-    (way-ended _ _ _ _ _ _ (stops _ _ _ _ (p .0 .2) g (a .u) _ e _ (c .before .next-node .ensures) (c .if1 .taken)))
+    (way-ended _ _ _ _ _ _ (stops _ _ _ _ g (a .u) _ e _ (c .before .next-node .ensures) (c .if1 .taken)))
 
 drives-requires : tie.Need-drives-requires
 drives-requires c κs =
     let p = c .before .before .before .before .before .before .before .pre in
     let a = c .before .before .before .before .before .before .before .args in
     let t = c .before .before .before .time-of .ensures .1 in
-    let e = starts (a .n) (a .work .now) [] (a .u) _ (p .0 .2) (p .0 .0) t (λ z. p .0 .3 (sym t ∙ z)) in
+    let e = starts (a .n) (a .work .now) [] (a .u) _ (p .0 .0) t (λ z. p .0 .3 (sym t ∙ z)) in
     let g = plain (a .edges .now) (a .n) (a .work .now) (p .1 .roads) in
-    ((e, p .0 .1, p .0 .2, goes _ _ _ _ (p .0 .2) g (a .u) _ e _ (c .before .next-node .ensures) (c .if1 .left) _ refl .inside), p .1)
+    ((e, p .0 .1, p .0 .2, goes _ _ _ _ g (a .u) _ e _ (c .before .next-node .ensures) (c .if1 .left) _ refl .inside), p .1)
 
 returns-2 : tie.Need-returns-2
 returns-2 c =
     let p = c .before .before .before .before .before .before .before .before .before .pre in
     let a = c .before .before .before .before .before .before .before .before .before .args in
     let t = c .before .before .before .before .before .time-of .ensures .1 in
-    let e = starts (a .n) (a .work .now) [] (a .u) _ (p .0 .2) (p .0 .0) t (λ z. p .0 .3 (sym t ∙ z)) in
+    let e = starts (a .n) (a .work .now) [] (a .u) _ (p .0 .0) t (λ z. p .0 .3 (sym t ∙ z)) in
     let g = plain (a .edges .now) (a .n) (a .work .now) (p .1 .roads) in
-    let s = goes _ _ _ _ (p .0 .2) g (a .u) _ e _ (c .before .before .before .next-node .ensures) (c .before .before .if1 .left) _ refl in
+    let s = goes _ _ _ _ g (a .u) _ e _ (c .before .before .before .next-node .ensures) (c .before .before .if1 .left) _ refl in
     left-read t
     (step-driven _ _ _ _ _ _ _ _ (s .inside) (s .on) (s .time) (s .less) (sym (c .before .drives .ensures) ∙ c .if2 .taken))
 
@@ -61,9 +61,9 @@ returns-3 c =
     let p = c .before .before .before .before .before .before .before .before .before .pre in
     let a = c .before .before .before .before .before .before .before .before .before .args in
     let t = c .before .before .before .before .before .time-of .ensures .1 in
-    let e = starts (a .n) (a .work .now) [] (a .u) _ (p .0 .2) (p .0 .0) t (λ z. p .0 .3 (sym t ∙ z)) in
+    let e = starts (a .n) (a .work .now) [] (a .u) _ (p .0 .0) t (λ z. p .0 .3 (sym t ∙ z)) in
     let g = plain (a .edges .now) (a .n) (a .work .now) (p .1 .roads) in
-    let s = goes _ _ _ _ (p .0 .2) g (a .u) _ e _ (c .before .before .before .next-node .ensures) (c .before .before .if1 .left) _ refl in
+    let s = goes _ _ _ _ g (a .u) _ e _ (c .before .before .before .next-node .ensures) (c .before .before .if1 .left) _ refl in
     left-read t
     (step-broken _ _ _ _ _ _ _ _ (s .inside) (s .on) (sym (c .before .drives .ensures) ∙ c .if2 .left))
 

@@ -26,7 +26,7 @@ returns : tie.Need-returns Inv-loop μ-loop
 returns c =
     let p = c .before .before .before .before .before .pre in
     let a = c .before .before .before .before .before .args in
-    none-driven _ _ _ (a .n) _ (no-way (a .n) (a .work .now) _ (a .s) _ (p .0 .2) (p .0 .0) (c .before .time-of .ensures .1) (c .if1 .taken))
+    none-driven _ _ _ (a .n) _ (no-way (a .n) (a .work .now) _ (a .s) _ (p .0 .0) (c .before .time-of .ensures .1) (c .if1 .taken))
 
 loop-holds : tie.Need-loop-holds Inv-loop μ-loop
 loop-holds c =
@@ -34,7 +34,7 @@ loop-holds c =
     let a = c .before .before .before .before .before .args in
     let t = c .before .time-of .ensures .1 in
     still-first _ _ _ _ (a .s) (p .0 .0) _ t (c .if1 .left)
-    (begins (a .n) (a .work .now) (arcsUnder (a .edges .now) []) (a .s) _ (p .0 .2) (p .0 .0) t (c .if1 .left))
+    (begins (a .n) (a .work .now) (arcsUnder (a .edges .now) []) (a .s) _ (p .0 .0) t (c .if1 .left))
 
 next-driven-requires : tie.Need-next-driven-requires Inv-loop μ-loop
 next-driven-requires c κs =

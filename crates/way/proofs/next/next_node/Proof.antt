@@ -1,7 +1,7 @@
 -- `next::next_node` meets its contract: the lowest over the arcs passed, which at the end are those that leave the node.
 use native.Mathlib.Omega.{arith}
 use borrow.Author.Needs.{needs}
-use lib.Seq.{length-take-le}
+use Rattle.words.proofs.TimeLaws.{times-length}
 use Rattle.way.proofs.Nexts.{Lowered, lowered-first, lowered-next, lowered-last}
 use Rattle.way.proofs.Words.{node-in}
 use Rattle.way.specs.Distances.{distanceIn}
@@ -21,13 +21,13 @@ first-edge-requires : tie.Need-first-edge-requires Inv-loop μ-loop
 first-edge-requires c κs =
     let p = c .before .before .before .pre in
     let a = c .before .before .before .args in
-    ((search needs, search needs, omega (arith, node-in _ _ _ (p .0 .0), length-take-le (a .n) (a .work .now) (omega arith))), p .1 .roads)
+    ((search needs, search needs, omega (arith, node-in _ _ _ (p .0 .0), times-length (a .n) (a .work .now))), p .1 .roads)
 
 arc-under-requires : tie.Need-arc-under-requires Inv-loop μ-loop
 arc-under-requires c κs =
     let p = c .before .before .before .before .pre in
     let a = c .before .before .before .before .args in (
-      (search needs, search needs, omega (arith, node-in _ _ _ (p .0 .0), length-take-le (a .n) (a .work .now) (omega arith))),
+      (search needs, search needs, omega (arith, node-in _ _ _ (p .0 .0), times-length (a .n) (a .work .now))),
       (p .1, c .first-edge .ensures .valid),
     )
 
@@ -41,7 +41,7 @@ next-under-requires : tie.Need-next-under-requires Inv-loop μ-loop
 next-under-requires c κs =
     let p = c .before .before .before .before .before .before .before .before .before .pre in
     let a = c .before .before .before .before .before .before .before .before .before .args in (
-      (search needs, search needs, omega (arith, node-in _ _ _ (p .0 .0), length-take-le (a .n) (a .work .now) (omega arith))),
+      (search needs, search needs, omega (arith, node-in _ _ _ (p .0 .0), times-length (a .n) (a .work .now))),
       (p .1, (c .before .before .before .loop .inv .passes .valid, c .before .if1 .taken)),
     )
 

@@ -21,7 +21,7 @@ returns : tie.Need-returns
 returns c =
     let p = c .before .before .before .before .before .pre in
     let a = c .before .before .before .before .before .args in
-    let e = no-way (a .n) (a .t4 .now) (arcsUnder (a .t1 .now) (a .t2 .now)) (a .s) _ (p .0 .2) (p .0 .0)
+    let e = no-way (a .n) (a .t4 .now) (arcsUnder (a .t1 .now) (a .t2 .now)) (a .s) _ (p .0 .0)
     (c .before .time-of .ensures .1) (c .if1 .taken) in
     ((omega (arith, ap length e), omega arith), splice-none 0 _ _ e)
 
@@ -36,9 +36,9 @@ way-after-requires c κs =
     let p = c .before .before .before .before .before .before .before .before .before .before .before .pre in
     let a = c .before .before .before .before .before .before .before .before .before .before .before .args in
     let r = c .before .before .before .before .before .before in
-    let e = starts (a .n) (a .t4 .now) (arcsUnder (a .t1 .now) (a .t2 .now)) (a .s) _ (p .0 .2) (p .0 .0)
+    let e = starts (a .n) (a .t4 .now) (arcsUnder (a .t1 .now) (a .t2 .now)) (a .s) _ (p .0 .0)
     (r .before .time-of .ensures .1) (r .if1 .left) in
-    ((e, p .0 .1, p .0 .2), (room _ _ _ _ (p .0 .2) (p .1) (p .0 .1) _ _ (p .0 .0) e, p .1))
+    ((e, p .0 .1, p .0 .2), (room _ _ _ _ (p .1) (p .0 .1) _ _ (p .0 .0) e, p .1))
 
 returns-2 : tie.Need-returns-2
 returns-2 c =
@@ -46,12 +46,12 @@ returns-2 c =
     let a = c .before .before .before .before .before .before .before .before .before .before .before .before .args in
     let time-of = c .before .before .before .before .before .before .before .before .time-of in
     let arcs = arcsUnder (a .t1 .now) (a .t2 .now) in
-    let b = begins (a .n) (a .t4 .now) arcs (a .s) _ (p .0 .2) (p .0 .0) (time-of .ensures .1)
+    let b = begins (a .n) (a .t4 .now) arcs (a .s) _ (p .0 .0) (time-of .ensures .1)
     (c .before .before .before .before .before .before .before .if1 .left) in
-    let e = starts (a .n) (a .t4 .now) arcs (a .s) _ (p .0 .2) (p .0 .0) (time-of .ensures .1)
+    let e = starts (a .n) (a .t4 .now) arcs (a .s) _ (p .0 .0) (time-of .ensures .1)
     (c .before .before .before .before .before .before .before .if1 .left) in
     let r = c .way-after in (
-      (omega (arith, ap length b, r .ensures .0), omega (arith, r .ensures .0, room _ _ _ _ (p .0 .2) (p .1) (p .0 .1) _ _ (p .0 .0) e)),
+      (omega (arith, ap length b, r .ensures .0), omega (arith, r .ensures .0, room _ _ _ _ (p .1) (p .0 .1) _ _ (p .0 .0) e)),
       rw b (splice-on 0 _ _ _ _ _ (omega arith) (c .before .before .before .before .before .write16 .ensures) (r .ensures .1)),
     )
 

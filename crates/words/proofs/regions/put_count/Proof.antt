@@ -1,5 +1,7 @@
 -- `regions::put_count` meets its contract.
 use borrow.Author.Needs.{needs}
+use native.Mathlib.Omega.{arith}
+use Rattle.words.proofs.Windows.{counts-fit}
 use Rattle.words.proofs.regions.put_count.Statement.{statement}
 use Rattle.words.proofs.regions.put_count.Tie as tie
 
@@ -13,7 +15,10 @@ add-put-half : tie.Need-add-put-half
 add-put-half c = search needs
 
 put-half-requires : tie.Need-put-half-requires
-put-half-requires c κs = search needs
+put-half-requires c κs =
+    let a = c .before .before .before .args in
+    let h = counts-fit (a .n) (omega arith) in
+    search needs
 
 same-length : tie.Need-same-length
 same-length c = search needs

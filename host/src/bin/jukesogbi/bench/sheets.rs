@@ -5,7 +5,7 @@ use crate::output::Output;
 use crate::stop::Done;
 use jukesogbi::files::{self, Network};
 use jukesogbi::form::NUMBER_SIZE;
-use jukesogbi::plain::{self, Graph, Search};
+use jukesogbi::plain::{self, key_of, Graph, Search};
 use jukesogbi::sample::Random;
 use jukesogbi::sheet::{self, Line};
 use std::time::Duration;
@@ -53,8 +53,8 @@ fn ask(case: &Case, net: &Network, count: usize, kind: &str, pairs: &[(u32, u32)
     let (sheet, n) = (random_sheet(net, count), net.nodes.len());
     let (mut opened, mut beside, mut room, mut other) = (open(case), open(case), vec![0; NUMBER_SIZE * n], vec![0; NUMBER_SIZE * n]);
     let mut ways = || pairs.iter().for_each(|&(s, t)| assert!(beside.way(s, t, &mut other).is_ok()));
-    let (mut seconds, mut nodes) = (0, 0);
-    let times = timed(5, || seconds = pairs.iter().map(|&(s, t)| opened.time_under(&sheet, s, t).unwrap().seconds.unwrap_or(0) as u64).sum(), &mut ways);
+    let (mut sum, mut nodes) = (0, 0);
+    let times = timed(5, || sum = pairs.iter().map(|&(s, t)| key_of(opened.time_under(&sheet, s, t).unwrap().time)).sum(), &mut ways);
     let routes = timed(5, || nodes = pairs.iter().map(|&(s, t)| opened.way_under(&sheet, s, t, &mut room).unwrap() as u64).sum(), &mut ways);
     let today = Network { nodes: net.nodes.clone(), edges: sheet::applied(net, &sheet).into_iter().flatten().collect() };
     let (graph, mut search) = (Graph::of(&today), Search::new(n));
@@ -62,7 +62,7 @@ fn ask(case: &Case, net: &Network, count: usize, kind: &str, pairs: &[(u32, u32)
         search.run(&graph, s as usize, |u| u == t);
         search.times[t as usize]
     };
-    assert_same((seconds, pairs.iter().map(|&(s, t)| plain_time(s, t)).filter(|&time| time != plain::NONE).map(u64::from).sum()));
+    assert_same((sum, pairs.iter().map(|&(s, t)| plain_time(s, t)).sum()));
     assert_same((nodes, pairs.iter().map(|&(s, t)| plain::way(&graph, &mut search, s as usize, t as usize).len() as u64).sum()));
     let row = |what: &str, times| Row(format!("{kind} {what} under {count} lines, {}", case.name), pairs.len(), times);
     [row("times", times), row("ways", routes)]

@@ -26,7 +26,7 @@ pub fn rows(case: &Case) -> [Row; 2] {
     let (legs, mut work) = (wages::legs(&pairs), vec![0; files::words_needed(o)]);
     let (mut opened, mut beside, mut out) = (open(case), open(case), vec![0; wages::size(&legs)]);
     let mut single = Vec::new();
-    let mut ask_each = || single = pairs.iter().map(|&(s, t)| beside.time(s.into(), t.into()).unwrap().seconds).collect();
+    let mut ask_each = || single = pairs.iter().map(|&(s, t)| beside.time(s.into(), t.into()).unwrap().seconds()).collect();
     let mut ask = |what: &str, whole: &mut dyn FnMut(&mut [u8]) -> usize| {
         let mut size = 0;
         let times = timed(9, || size = whole(&mut out), &mut ask_each);
