@@ -2,11 +2,10 @@
 use Prim.Native.Nat.{ℕ, _+_, _≤_, _<_, min}
 use native.Mathlib.Decide.{ℕ-discrete}
 use native.Mathlib.Omega.{arith}
-use mathlib.Core.Path.{_≡_, refl, sym, ap, subst, _∙_}
+use mathlib.Core.Path.{_≡_, sym, ap, subst, _∙_}
 use mathlib.Core.Logic.{_≢_}
 use mathlib.Core.List.{List}
 use lib.ListN.{getD, set}
-use lib.Seq.{set-getD}
 use Rattle.model.specs.Oracle.{noWalk}
 use Rattle.words.specs.Regions.{timesIn}
 use Rattle.words.specs.Times.{time, store}
@@ -184,8 +183,8 @@ module _ (n k e v x : ℕ) (w : List ℕ) (q : Queue n k e w) (v-in : v < n) (sm
       pub enter-done : (w′ : List ℕ) → Sifted n (k + 1) Up k w₂ w′ → Entered n k e v x w w′
       enter-done w′ t = enter-queue n k e v x w q v-in small h l w′ (subst (λ (y : List ℕ). Sifted n (k + 1) Up k y w′) after t)
 
--- ---- a time offered, which is wide
-module _ (n k e v x : ℕ) (w : List ℕ) (q : Queue n k e w) (v-in : v < n) where
+-- ---- a time offered, which is less
+module _ (n e v x : ℕ) (w : List ℕ) (v-in : v < n) where
   here : getD (timesIn n w) v 0 ≡ time n w v
   here = time-at n w v v-in
 
@@ -196,8 +195,3 @@ module _ (n k e v x : ℕ) (w : List ℕ) (q : Queue n k e w) (v-in : v < n) whe
 
   pub offer-less : x < time n w v → (w′ : List ℕ) (r : ℕ) → Went n e (set (timesIn n w) v x) w w′ r → Went n e (lowered (timesIn n w) v x) w w′ r
   offer-less h w′ r g = record { queue = g .queue; times = g .times ∙ less-times h; beyond = g .beyond }
-
-  pub offer-skip : time n w v ≤ x → Went n e (lowered (timesIn n w) v x) w w k
-  offer-skip h =
-      let m : min (getD (timesIn n w) v 0) x ≡ getD (timesIn n w) v 0 = omega (arith, here) in
-      record { queue = q; times = sym (ap (λ (y : ℕ). set (timesIn n w) v y) m ∙ set-getD (timesIn n w) v 0); beyond = λ a b c. refl }

@@ -10,7 +10,6 @@ use crate::positions::position_of;
 use crate::positions::swap;
 use crate::sift::down;
 use crate::sift::up;
-use words::times::lowers;
 use words::times::store_time;
 
 // The node v, which is not reached yet, enters with the time x: it comes behind the nodes held, and rises past at most 12 levels.
@@ -34,14 +33,11 @@ fn lower(w: &mut [u32], n: usize, k: usize, e: usize, v: usize, x: u64)
     up(w, n, k, p);
 }
 
-// The node v, which is not settled, can be reached in the time x, which may be any number. The number of nodes held.
+// The node v, which is not settled, can be reached in the time x, which is less than it has. The number of nodes held.
 pub fn offer(w: &mut [u32], n: usize, k: usize, e: usize, v: usize, x: u64) -> usize
-    requires { ⌜ Queue n k e (now w) × (v < n) × (position n (now w) v < e) ⌝ }
+    requires { ⌜ Queue n k e (now w) × (v < n) × (position n (now w) v < e) × (x < time n (now w) v) × (x < noWalk) ⌝ }
     ensures { λ r. ⌜ Went n e (lowered (timesIn n (now (w .entry))) v x) (now (w .entry)) (now (w .exit)) r ⌝ }
 {
-    if !lowers(w, n, v, x) {
-        return k;
-    }
     if position_of(w, n, v) < k {
         lower(w, n, k, e, v, x);
         return k;

@@ -73,22 +73,24 @@ pub times-between : (n i x : ℕ) (w : List ℕ) → n ≤ i → i < hopsAt n �
 times-between n i x w l h =
     times-around n i (i + 1) w (set w i x) l (omega arith) (take-set-le i w i x (omega arith)) (drop-set-lt (i + 1) w i x (omega arith))
 
--- Words of ones: every time is 'no walk'.
-half-ones : (k p : ℕ) → p / 2 < k → half (replicate k noSeconds) p ≡ noHops
+-- A half of a word of ones.
+half-ones : (w : List ℕ) (p : ℕ) → getD w (p / 2) 0 ≡ noSeconds → half w p ≡ noHops
 unfolding half
-half-ones k p h = rw (getD-replicate k (p / 2) noSeconds 0 h) (pick (eqb (p % 2) 0))
+half-ones w p e = rw e (pick (eqb (p % 2) 0))
   where
     pick : (b : Bool) → cond b (noSeconds % 65536) (noSeconds / 65536) ≡ noHops
     pick true = omega arith
     pick false = omega arith
 
-time-none : (n k : ℕ) → timeWords n ≤ k → (v : ℕ) → v < n → time n (replicate k noSeconds) v ≡ noWalk
-unfolding time
-time-none n k h v i = rw (getD-replicate k v noSeconds 0 (omega arith), half-ones k (2 * hopsAt n + v) (omega arith))
+-- Where the words of seconds and of hops are all ones, every time is 'no walk'.
+module _ (n : ℕ) (w : List ℕ) (first : (i : ℕ) → i < n → getD w i 0 ≡ noSeconds)
+    (last : (i : ℕ) → hopsAt n ≤ i → i < timeWords n → getD w i 0 ≡ noSeconds) where
+  time-none : (v : ℕ) → v < n → time n w v ≡ noWalk
+  unfolding time
+  time-none v h = rw (first v h, half-ones w (2 * hopsAt n + v) (last ((2 * hopsAt n + v) / 2) (omega arith) (omega arith)))
 
-pub times-none : (n k : ℕ) → timeWords n ≤ k → timesIn n (replicate k noSeconds) ≡ replicate n noWalk
-times-none n k h = times-by n (replicate k noSeconds) (replicate n noWalk) (length-replicate n noWalk)
-    (λ v i. time-none n k h v i ∙ sym (getD-replicate n v noWalk 0 i))
+  pub times-none : timesIn n w ≡ replicate n noWalk
+  times-none = times-by n w (replicate n noWalk) (length-replicate n noWalk) (λ v h. time-none v h ∙ sym (getD-replicate n v noWalk 0 h))
 
 -- ---- times compared: by the seconds, and where these are the same by the hops
 decided : (a b c d : ℕ) → (a < b → c < d) → (b ≤ a → d ≤ c) → ltb a b ≡ ltb c d
