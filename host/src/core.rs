@@ -91,6 +91,10 @@ impl Block {
     pub fn time(&self, i: usize, j: usize) -> Option<Time> {
         Time::of(self.times[i][j], self.roads[i][j])
     }
+
+    pub fn seconds(&self, i: usize, j: usize) -> Option<u32> {
+        seconds(self.times[i][j])
+    }
 }
 
 /// The functions of the static library. A slice crosses as a pointer and a length.

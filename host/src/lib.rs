@@ -1,5 +1,6 @@
 //! The host of the proved core: a safe wrapper of its calls, and what a map desk needs around them.
 
+pub mod compare;
 pub mod core;
 pub mod draw;
 pub mod files;

@@ -6,8 +6,9 @@ mod drawn;
 #[path = "common/picture.rs"]
 mod picture;
 
+use common::built::built;
 use common::networks::{self, Plan};
-use drawn::{built, random_sheet, tangle, way, Case};
+use drawn::{random_sheet, tangle, way, Case};
 use jukesogbi::sample::{self, Random};
 use jukesogbi::sheet::{self, Line};
 use jukesogbi::{core, draw, files};

@@ -5,9 +5,9 @@ mod common;
 use common::program::{Folder, Ran};
 use std::path::Path;
 
-const COMMANDS: [&str; 19] = [
-    "build", "audit", "time", "far", "list", "way", "block", "wages", "listing", "sample", "draw", "sheet", "sheet-text", "convert", "convert-sheet", "demo",
-    "bench", "help", "version",
+const COMMANDS: [&str; 20] = [
+    "build", "audit", "time", "far", "list", "way", "block", "wages", "listing", "compare", "sample", "draw", "sheet", "sheet-text", "convert",
+    "convert-sheet", "demo", "bench", "help", "version",
 ];
 
 /// The usage line of a command, as its help has it.
@@ -117,6 +117,7 @@ fn a_wrong_number_of_arguments() {
         ("block", "3", "| line.oracle| line.oracle 0| line.oracle 0 1 2"),
         ("wages", "1", "| line.oracle 0| line.oracle 0 1"),
         ("listing", "1", "| line.oracle more"),
+        ("compare", "2", "| line.oracle| line.oracle line.oracle more"),
         ("sample", "3", "| 5 1| 5 1 new more"),
         ("draw", "2 or 4", "| line.oracle| line.oracle p.svg 0| line.oracle p.svg 0 1 2"),
         ("sheet", "2", "| day.txt| day.txt day more"),

@@ -21,10 +21,11 @@ use Rattle.sheet.specs.Under.{left, leftOf}
 use Rattle.sheet.specs.ArcsUnder.{arcsUnder, arcsLeft}
 use Rattle.sheet.specs.Spans.{costLeft}
 use Rattle.sheet.proofs.Lasts.{none-held}
-use Rattle.sheet.proofs.Ground.{later, not-slow, plain-slow}
+use Rattle.sheet.proofs.Ground.{not-slow, plain-slow}
 use Rattle.sheet.proofs.Costs.{as-was}
 use Rattle.arcs.specs.Arcs.{leaves, leaving}
 use Rattle.theory.specs.Sound.{Fine, edge-fine, maxCost}
+use Rattle.theory.specs.Slower.{later}
 use Rattle.arcs.specs.declared.cursor.Cursor.{Cursor}
 use Rattle.arcs.specs.declared.leaving.ArcAt.{ArcAt}
 use Rattle.arcs.specs.Cursor.{Valid, PassedEdges, Stepped}

@@ -13,13 +13,11 @@ use Rattle.model.specs.Query.{timeAnswer, way}
 use Rattle.model.specs.Network.{network}
 use Rattle.model.specs.Rules.{firstBroken, plainRules}
 use Rattle.model.specs.Calls.{outputAfter, sizeAfter}
-use Rattle.model.specs.Trials.{fork, forkWithout4, usual, Trial, _⇒_, holds}
+use Rattle.model.specs.Trials.{fork, forkWithout4, usual, Trial, _⇒_, holds, told}
 use Rattle.model.specs.Compute.{computed}
 use Rattle.sheet_demands.specs.SheetTrials.{sheets-computed}
-use Rattle.model.specs.declared.Kind.{Kind}
 use Rattle.model.specs.declared.Kind.the-variants.{Far, Local}
-use Rattle.model.specs.declared.Answer.{Answer}
-use Rattle.model.specs.declared.Answer.the-variants.{Time, None, Refused}
+use Rattle.model.specs.declared.Answer.the-variants.{Time, None}
 use Rattle.sheet.specs.Sheet as sheets
 use Rattle.sheet.specs.Under as under
 use Rattle.convert.specs.Old as old
@@ -36,15 +34,6 @@ odd : sheets.Line
 odd = record { status = 3; edge = 0; added = 0 }
 
 -- ---- what is asked, each as a list of numbers
-kind : Kind → ℕ
-kind Far = 0
-kind Local = 1
-
-told : Answer → List ℕ
-told (Time seconds hops k pairs) = 0 ∷ seconds ∷ hops ∷ kind k ∷ pairs ∷ []
-told (None k pairs) = 1 ∷ kind k ∷ pairs ∷ []
-told (Refused rule) = 2 ∷ rule ∷ []
-
 -- The two calls with so much room: the number handed back, the size, and the output afterwards.
 network-call : Bytes → ℕ → List ℕ
 network-call f room =
@@ -111,7 +100,7 @@ trials =
 
 -- Every trial holds.
 pub trials-hold : all holds trials ≡ true
-unfolding trials holds close delay odd kind told network-call sheet-call _⇒_ fork forkWithout4 convert-computed computed
+unfolding trials holds close delay odd told network-call sheet-call _⇒_ fork forkWithout4 convert-computed computed
 trials-hold = refl
 
 -- The converted file is that of Fork without road 4, byte for byte.

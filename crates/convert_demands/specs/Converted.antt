@@ -22,10 +22,10 @@ use Rattle.theory.specs.Tests.{both}
 use Rattle.theory.specs.RangeLaws.{length-range}
 use Rattle.theory.specs.ReadLaws.{map-range}
 use Rattle.theory.specs.FileLaws.{length-file, body-file}
-use Rattle.theory.specs.Members.{filter→, map→, →map, →upTo, length-filter, none-any, getD-mem, range→}
+use Rattle.theory.specs.Members.{filter→, map→, length-filter, none-any, getD-mem, range→}
 use Rattle.theory.specs.Shape.{any-none, contents-fine, bodies-fine}
 use Rattle.theory.specs.Passed.{Sound, none-listed, or-false, not-false, passed-all}
-use Rattle.theory.specs.Sound.{node-bytes, edge-bytes}
+use Rattle.theory.specs.Sound.{edge-listed, node-bytes, edge-bytes}
 use Rattle.theory.specs.Joined.{body-within}
 use Rattle.theory.specs.Whole.{AreBytes, whole-file}
 use Rattle.convert.specs.Old.{closedIn, isOpen, openOf, openIn, oldNetwork}
@@ -175,7 +175,7 @@ module _ (f : Bytes) (sound : Sound f) where
   each-fine : (e : Edge) → List·Memᴰ e (map (edge b) open-ones) → edgeBroken (nodeCount (nodeBody f)) e ≡ false
   each-fine e m =
       let r = map→ (edge b) open-ones m in
-      let i : List·Memᴰ (edge b (r .0)) (edges b) = unfold edges in →map (edge b) (upTo (edgeCount b)) (→upTo (edgeCount b) (r .0) (inside (r .0) (r .1))) in
+      let i = edge-listed b (r .0) (inside (r .0) (r .1)) in
       rw (r .2) (none-any (edgeBroken (nodeCount (nodeBody f))) (edges b) (unfold someEdgeBroken in sound .some-edge) i)
 
   edges-fine : edgesBroken (edgeBody (converted f)) ≡ false

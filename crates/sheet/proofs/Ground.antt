@@ -10,18 +10,16 @@ use Rattle.model.specs.Lists.{any, concatMap, upTo}
 use Rattle.model.specs.Bytes.{Bytes}
 use Rattle.model.specs.Network.{Edge, edge, edges, edgeCount, arcsOf, maxSeconds, someEdgeBroken}
 use Rattle.theory.specs.Walks.{Within, Costs, Positive}
-use Rattle.theory.specs.Members.{→map, concatMap→, →concatMap, range→, →upTo, none-any}
+use Rattle.theory.specs.Members.{concatMap→, →concatMap, range→, →upTo, none-any}
 use Rattle.theory.specs.Shape.{any-none}
 use Rattle.theory.specs.Sound as sound
+use Rattle.theory.specs.Slower.{later, Comes}
 use Rattle.sheet.specs.Sheet.{Effect, Effect.shut, Effect.delayed, lineCount, linesIn, holds}
 use Rattle.sheet.specs.Under.{left, leftOf, edgesUnder, tooSlow}
 use Rattle.sheet.specs.ArcsUnder.{leftUnder, arcsUnder}
 use Rattle.sheet.proofs.Lasts.{none-held}
 
 -- ---- what an effect leaves of an edge
-abbrev pub later : ℕ → Edge → Edge
-later n e = record { first = e .first; second = e .second; seconds = e .seconds + n }
-
 pub left→ : (x : Effect) (e₀ : Edge) {e : Edge} → List·Memᴰ e (left x e₀) → (n : ℕ) × (x ≡ delayed n) × (e ≡ later n e₀)
 unfolding left
 left→ shut e₀ m = absurd (List·Memᴰ·not-nil m)
@@ -32,14 +30,6 @@ unfolding left
 →left e₀ p q = rw p (List·Memᴰ·head q)
 
 -- ---- the edges that are left, by their numbers
-
--- An edge of `es` with the ends of e and no more seconds.
-pub record Comes (es : List Edge) (e : Edge) : Type 0 where
-  pub old : Edge
-  pub listed : List·Memᴰ old es
-  pub first : old .first ≡ e .first
-  pub second : old .second ≡ e .second
-  pub seconds : old .seconds ≤ e .seconds
 
 module _ (effect : ℕ → Effect) (b : Bytes) where
   pub under→ : {e : Edge} → List·Memᴰ e (edgesUnder effect b) → (i : ℕ) × (i < edgeCount b) × List·Memᴰ e (leftOf effect b i)
@@ -52,13 +42,13 @@ module _ (effect : ℕ → Effect) (b : Bytes) where
 
   -- Each was there, with the same ends and no more seconds.
   pub left-comes : {e : Edge} → List·Memᴰ e (edgesUnder effect b) → Comes (edges b) e
-  unfolding edges leftOf
+  unfolding leftOf
   left-comes m =
       let (i, h, k) = under→ m in
       let (n, p, q) = left→ (effect i) (edge b i) k in
       record {
         old = edge b i;
-        listed = →map (edge b) (upTo (edgeCount b)) (→upTo (edgeCount b) i h);
+        listed = sound.edge-listed b i h;
         first = sym (ap (λ (e : Edge). e .first) q);
         second = sym (ap (λ (e : Edge). e .second) q);
         seconds = omega (arith, ap (λ (e : Edge). e .seconds) q);

@@ -1,24 +1,21 @@
 -- The network as a sheet leaves it: what is kept of the file's network. Assumes nothing.
-use Prim.Native.Nat.{ℕ, _≤_, _<_}
+use Prim.Native.Nat.{ℕ, _+_, _≤_, _<_}
 use native.Mathlib.Omega.{arith}
 use mathlib.Core.Path.{_≡_, refl}
 use mathlib.Core.Logic.{_↔_}
-use mathlib.Core.List.{List·Memᴰ, List·Memᴰ·head, List·Memᴰ·tail}
-use Rattle.model.specs.Lists.{concatMap}
+use mathlib.Core.List.{List·Memᴰ}
 use Rattle.model.specs.Bytes.{Bytes}
 use Rattle.model.specs.Contents.{edgeBody}
-use Rattle.model.specs.Pair.{key}
 use Rattle.model.specs.Walk.{Arc}
-use Rattle.model.specs.Network.{Edge, Network, network, edge, order, arcsOf, arcs}
-use Rattle.theory.specs.Members.{→concatMap}
+use Rattle.model.specs.Network.{Edge, Network, network, edge, order, arcs}
 use Rattle.theory.specs.Passed.{Sound}
-use Rattle.theory.specs.Sound.{arc-of, ends, positive}
+use Rattle.theory.specs.Sound.{ends, positive}
 use Rattle.theory.specs.NetWays.{Sane}
+use Rattle.theory.specs.Slower.{HasArc, Comes, Slower, slower-arcs}
 use Rattle.sheet.specs.Sheet.{Effect, Effect.delayed}
 use Rattle.sheet.specs.Under.{leftOf, edgesUnder, networkUnder}
-use Rattle.sheet.proofs.Ground.{left→, →left, Comes, under→, →under, left-comes, as-were}
+use Rattle.sheet.proofs.Ground.{left→, →left, under→, →under, left-comes, as-were}
 use Rattle.sheet_demands.specs.SheetOutcomes.{Left}
-use Rattle.sheet_demands.specs.Slower.{Was, Slower}
 
 -- ---- an edge that is left is a road of the file, with the same ends and as many seconds more as its effect adds
 module _ (effect : ℕ → Effect) (f : Bytes) where
@@ -55,30 +52,8 @@ module _ (effect : ℕ → Effect) (f : Bytes) where
 
   -- Arcs only go, and costs only rise.
   pub slower : Slower (arcs (network f)) (arcs net)
-  unfolding arcs arcsOf
-  slower = arc-of (Was (arcs (network f))) (net .edges) (λ e m. onward (was m)) (λ e m. homeward (was m))
-    where
-      onward : {e : Edge} → Comes (network f .edges) e → Was (concatMap arcsOf (network f .edges)) (e .first) (e .second) (key (e .seconds) 1)
-      onward c =
-          let x : Edge = c .old in
-          record {
-            arc = record { from = x .first; to = x .second; cost = key (x .seconds) 1 };
-            listed = →concatMap arcsOf (network f .edges) (c .listed) (List·Memᴰ·head refl);
-            starts = c .first;
-            ends = c .second;
-            cost = omega (arith, c .seconds);
-          }
-
-      homeward : {e : Edge} → Comes (network f .edges) e → Was (concatMap arcsOf (network f .edges)) (e .second) (e .first) (key (e .seconds) 1)
-      homeward c =
-          let x : Edge = c .old in
-          record {
-            arc = record { from = x .second; to = x .first; cost = key (x .seconds) 1 };
-            listed = →concatMap arcsOf (network f .edges) (c .listed) (List·Memᴰ·tail (List·Memᴰ·head refl));
-            starts = c .second;
-            ends = c .first;
-            cost = omega (arith, c .seconds);
-          }
+  unfolding arcs
+  slower = slower-arcs (network f .edges) (net .edges) (λ e m. was m)
 
   pub sane : Sound f → Sane net
   sane sound = record { ends = λ e m. inside (was m); positive = λ a m. above (slower a m) }
@@ -86,7 +61,7 @@ module _ (effect : ℕ → Effect) (f : Bytes) where
       inside : {e : Edge} → Comes (network f .edges) e → (e .first < order net) × (e .second < order net)
       inside c = let r = ends f sound (c .old) (c .listed) in (omega (arith, r .0, c .first, same-order), omega (arith, r .1, c .second, same-order))
 
-      above : {a : Arc} → Was (arcs (network f)) (a .from) (a .to) (a .cost) → 0 < a .cost
+      above : {a : Arc} → HasArc (arcs (network f)) (a .from) (a .to) (a .cost + 0) → 0 < a .cost
       above w = omega (arith, positive f sound (w .arc) (w .listed), w .cost)
 
 -- ---- a sheet that does nothing leaves the network as it is

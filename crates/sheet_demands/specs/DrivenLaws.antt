@@ -14,6 +14,7 @@ use Rattle.theory.specs.Members.{member→, →member}
 use Rattle.theory.specs.Least.{time-inj}
 use Rattle.theory.specs.Walks.{Positive}
 use Rattle.theory.specs.Way.{Exact, Step, nexts→, →nexts, then-exact, first-step}
+use Rattle.theory.specs.Slower.{Taking, extend}
 use Rattle.sheet.specs.Under.{stillDriven}
 use Rattle.sheet_demands.specs.SheetOutcomes.{Between, Again, Driven}
 
@@ -80,6 +81,18 @@ module _ (old new : List Arc) (t : ℕ) (d : ℕ → Distance) (exact : Exact ol
   from-driven (go {n = k} a m w) e h =
       and (step-from old t d exact (first-step old t d exact positive a m w e) new (h .0))
       (from-driven w (then-exact old t d exact positive a m w e) (h .1))
+
+  -- Where every step of a least walk can still be driven in its old time, its nodes can be walked in its time.
+  pub driven : {u n : ℕ} (w : Walk old u t n) → d u ≡ finite n → stillDriven d new (nodesOf w) ≡ true → Taking new u t n (nodesAfter w)
+  unfolding nodesAfter nodesOf stillDriven
+  driven stay e h = (stay, refl)
+  driven (go {n = k} a m w) e h =
+      let p = both {b = member (a .to) (nexts d new (a .from))} h in
+      let s = nexts→ d new (a .from) (member→ (a .to) (nexts d new (a .from)) (p .0)) in
+      let e′ = then-exact old t d exact positive a m w e in
+      let i : a .cost + k ≡ s .n = time-inj (sym e ∙ s .here) in
+      let j : k ≡ s .k = time-inj (sym e′ ∙ s .there) in
+      extend (s .arc) (s .listed) {l = nodesAfter w} (s .starts) (s .ends) (omega (arith, s .sum, i, j)) (driven w e′ (p .1))
 
   pub driven-just : {u n : ℕ} (w : Walk old u t n) → d u ≡ finite n → (stillDriven d new (nodesOf w) ≡ true) ↔ Driven old new (nodesOf w)
   driven-just w e = (to-driven w e, from-driven w e)

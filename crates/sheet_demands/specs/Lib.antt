@@ -1,7 +1,6 @@
 -- ---- the words and the laws
 pub mod SheetOutcomes
 pub mod Keyed
-pub mod Slower
 pub mod Changed
 pub mod LineLaws
 pub mod DrivenLaws

@@ -9,11 +9,9 @@ use Rattle.model.specs.Bytes.{Bytes, bytes16, bytes32}
 use Rattle.model.specs.Contents.{file, networkEdition, oracleEdition, nodeBody, edgeBody, gridBody, transitBody, accessBody, tableBody}
 use Rattle.model.specs.Oracle.{oracle}
 use Rattle.model.specs.Calls.{outputAfter, routeAfter, timeResult}
-use Rattle.model.specs.Trials.{line, fork, forkWithout4, usual, Trial, _⇒_, holds}
+use Rattle.model.specs.Trials.{line, fork, forkWithout4, usual, Trial, _⇒_, holds, told}
 use Rattle.model.specs.Compute.{computed}
-use Rattle.model.specs.declared.Kind.{Kind}
 use Rattle.model.specs.declared.Kind.the-variants.{Far, Local}
-use Rattle.model.specs.declared.Answer.{Answer}
 use Rattle.model.specs.declared.Answer.the-variants.{Time, None, Refused}
 use Rattle.sheet.specs.Sheet as sheets
 use Rattle.sheet.specs.Under as under
@@ -52,15 +50,6 @@ close-with : ℕ → sheets.Line
 close-with n = record { status = sheets.closedByte; edge = 0; added = n }
 
 -- ---- what is asked, each as a list of numbers
-kind : Kind → ℕ
-kind Far = 0
-kind Local = 1
-
-told : Answer → List ℕ
-told (Time seconds hops k pairs) = 0 ∷ seconds ∷ hops ∷ kind k ∷ pairs ∷ []
-told (None k pairs) = 1 ∷ kind k ∷ pairs ∷ []
-told (Refused rule) = 2 ∷ rule ∷ []
-
 -- The calls, with words enough for five nodes: the time, without a sheet, under any bytes and under these lines ..
 words : List ℕ
 words = replicate 40 7
@@ -177,6 +166,6 @@ trials =
 
 -- Every trial holds.
 pub trials-hold : all holds trials ≡ true
-unfolding trials holds doubled side unbuilt close delay odd close-with kind told words plain time-by time route _⇒_ line fork forkWithout4
+unfolding trials holds doubled side unbuilt close delay odd close-with told words plain time-by time route _⇒_ line fork forkWithout4
     sheets-computed computed
 trials-hold = refl

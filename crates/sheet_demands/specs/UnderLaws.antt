@@ -14,22 +14,22 @@ use Rattle.model.specs.Query.{distanceOf, timeAnswer, localAnswer, way}
 use Rattle.model.specs.declared.Kind.the-variants.{Local}
 use Rattle.model.specs.declared.Answer.{Answer}
 use Rattle.model.specs.declared.Answer.the-variants.{Time, None, Refused}
-use Rattle.theory.specs.Way.{Exact}
+use Rattle.theory.specs.Way.{before-once, Exact}
 use Rattle.theory.specs.Passed.{Sound}
 use Rattle.theory.specs.Sound.{few}
 use Rattle.theory.specs.Keys.{keyed-walk}
 use Rattle.theory.specs.PairModel.{same-arcs, distance-pair}
 use Rattle.theory.specs.NetWays as ways
 use Rattle.theory.specs.Ways as files
+use Rattle.theory.specs.Slower.{Taking, was-walked, still-least, still-none}
 use Rattle.demands.specs.Outcomes.{Answers}
 use Rattle.demands.specs.AnswerLaws.{answers}
 use Rattle.sheet.specs.Sheet.{Effect}
 use Rattle.sheet.specs.Under.{networkUnder, stillDriven, isNone, oldStands}
 use Rattle.sheet_demands.specs.SheetOutcomes.{Driven}
-use Rattle.sheet_demands.specs.Slower.{Taking, was-walked, still-least, still-none, driven, before-once}
 use Rattle.sheet_demands.specs.Changed.{same-order, slower, sane}
 use Rattle.sheet_demands.specs.Keyed.{to-keys, to-pairs, driven-seconds}
-use Rattle.sheet_demands.specs.DrivenLaws.{driven-just, driven-itself}
+use Rattle.sheet_demands.specs.DrivenLaws.{driven, driven-just, driven-itself}
 
 module _ (effect : ℕ → Effect) (o : Bytes) (sound : Sound o) (s t : ℕ) (hs : s < order (network o)) (ht : t < order (network o)) where
   abbrev old : List Arc
@@ -100,7 +100,7 @@ module _ (effect : ℕ → Effect) (o : Bytes) (sound : Sound o) (s t : ℕ) (hs
     where
       step : Old → Kept
       step (walked {n = n} w e q) =
-          let z = driven old new (slower effect o) t d exact (files.sane o sound .positive) w e (rw q h) in
+          let z = driven old new t d exact (files.sane o sound .positive) w e (rw q h) in
           record { n = n; least = exact .times s n .0 e; walk = z .0; nodes = ap (λ x. s ∷ x) (z .1) ∙ q }
       step (absent g q) = absurd (true≢false (sym (rw q at h)))
 

@@ -48,3 +48,5 @@ pub mod NetWays
 pub mod Simple
 pub mod PairWays
 pub mod Ways
+-- ---- other costs
+pub mod Slower

@@ -7,7 +7,7 @@ use mathlib.Core.Bool.{true, false, not, _||_}
 use mathlib.Core.List.{List, [], _∷_, List·Memᴰ, List·Memᴰ·cases-cons, List·Memᴰ·eq-of-singleton}
 use lib.ListN.{length, length-map}
 use lib.Dec.{eqb, ltb, leb}
-use borrow.Author.Tests.{leb-false, ltb-false, ltb-true, eqb-true, eqb-false}
+use borrow.Author.Tests.{leb-false, lt-leb, ltb-false, le-ltb, ltb-true, eqb-true, eqb-false, ne-eqb}
 use Rattle.model.specs.Lists.{any, rising, upTo, concatMap}
 use Rattle.model.specs.Bytes.{Bytes, numberSize, words16}
 use Rattle.model.specs.Contents.{nodeBody, edgeBody, closedBody}
@@ -22,7 +22,7 @@ use Rattle.model.specs.Network.{someEdgeBroken, edgesBroken, numbersBroken, max
 use Rattle.theory.specs.RangeLaws.{length-range}
 use Rattle.theory.specs.ReadLaws.{Small}
 use Rattle.theory.specs.Tests.{both}
-use Rattle.theory.specs.Members.{none-any, →map, →upTo, concatMap→}
+use Rattle.theory.specs.Members.{none-any, map→, →map, range→, →upTo, concatMap→}
 use Rattle.theory.specs.Passed.{or-false, not-false, Sound}
 
 -- ---- a rising list of numbers below m has at most m
@@ -70,10 +70,25 @@ kept-fine n e a =
       at-most = ltb-false maxSeconds (e .seconds) (p .1);
     }
 
+pub fine-kept : (n : ℕ) (e : Edge) → Fine n e → edgeBroken n e ≡ false
+unfolding edgeBroken
+fine-kept n e h =
+    rw (lt-leb n (e .first) (h .first-in), lt-leb n (e .second) (h .second-in), ne-eqb (e .first) (e .second) (h .apart))
+    (le-ltb maxSeconds (e .seconds) (h .at-most))
+
+-- The edges of a body are those with the numbers below their count.
+pub edge-listed : (b : Bytes) (i : ℕ) → i < edgeCount b → List·Memᴰ (edge b i) (edges b)
+unfolding edges
+edge-listed b i h = →map (edge b) (upTo (edgeCount b)) (→upTo (edgeCount b) i h)
+
+pub edge-numbered : (b : Bytes) {e : Edge} → List·Memᴰ e (edges b) → (i : ℕ) × (i < edgeCount b) × (e ≡ edge b i)
+unfolding edges
+edge-numbered b m = let (i, h, q) = map→ (edge b) (upTo (edgeCount b)) m in (i, omega (arith, range→ 0 (edgeCount b) i h), q)
+
 module _ (n : ℕ) (b : Bytes) (ok : someEdgeBroken n b ≡ false) where
   pub edge-fine : (i : ℕ) → i < edgeCount b → Fine n (edge b i)
-  unfolding someEdgeBroken edges
-  edge-fine i l = kept-fine n (edge b i) (none-any (edgeBroken n) (edges b) ok (→map (edge b) (upTo (edgeCount b)) (→upTo (edgeCount b) i l)))
+  unfolding someEdgeBroken
+  edge-fine i l = kept-fine n (edge b i) (none-any (edgeBroken n) (edges b) ok (edge-listed b i l))
 
   pub each-fine : (e : Edge) → List·Memᴰ e (edges b) → Fine n e
   unfolding someEdgeBroken

@@ -72,6 +72,16 @@ compared (x ∷ l) (y ∷ m) = step (ordered x y) (compared l m)
     step (lt h) c = less (inl h)
     step (gt h) c = more (inl h)
 
+-- Of two lists each cannot come before the other.
+pub before-once : (l m : List ℕ) → Before l m → Before m l → ⊥
+unfolding Before
+before-once l [] b c = b
+before-once [] (y ∷ m) b c = c
+before-once (x ∷ l) (y ∷ m) (inl h) (inl k) = omega arith
+before-once (x ∷ l) (y ∷ m) (inl h) (inr k) = omega (arith, k .0)
+before-once (x ∷ l) (y ∷ m) (inr h) (inl k) = omega (arith, h .0)
+before-once (x ∷ l) (y ∷ m) (inr h) (inr k) = before-once l m (h .1) (k .1)
+
 -- ---- what the next nodes are
 pub record Step (d : ℕ → Distance) (arcs : List Arc) (u v : ℕ) : Type 0 where
   pub arc : Arc

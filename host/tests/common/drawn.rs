@@ -7,13 +7,6 @@ use jukesogbi::sheet::{self, Line};
 use jukesogbi::{core, draw, files, form};
 use std::collections::BTreeSet;
 
-pub fn built(network: &[u8], g: u32) -> Vec<u8> {
-    let mut out = vec![0; files::most_room(network)];
-    let built = core::build(network, g, &mut vec![0; files::words_needed(network)], &mut out).unwrap();
-    out.truncate(built.size);
-    out
-}
-
 pub fn way(oracle: &[u8], sheet: Option<&[u8]>, s: u32, t: u32) -> Vec<u16> {
     let (mut work, mut out) = (vec![0; files::words_needed(oracle)], vec![0; 2 * files::node_count(oracle)]);
     let nodes = match sheet {

@@ -4,6 +4,7 @@
 // Each test file uses its own part of this.
 #![allow(dead_code)]
 
+pub mod built;
 pub mod computed;
 pub mod convert;
 pub mod damaged;

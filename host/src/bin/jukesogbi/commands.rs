@@ -3,8 +3,8 @@
 use crate::args::{Arguments, Call};
 use crate::output::Output;
 use crate::stop::{slip, Done, Stop};
-use crate::texts::{LEAST, LEFT_OUT, LEGS, LINES, PAIRS, RENUMBERED, UNDER, WRITES};
-use crate::{bench, convert, demo, making, questions, sheets, wages};
+use crate::texts::{COMPARED, LEAST, LEFT_OUT, LEGS, LINES, PAIRS, RENUMBERED, UNDER, WRITES};
+use crate::{bench, compare, convert, demo, making, questions, sheets, wages};
 use std::ffi::{OsStr, OsString};
 use std::fmt::Write;
 
@@ -100,6 +100,14 @@ const COMMANDS: &[Command] = &[
             "`time` without S T answers any list of pairs from an oracle of any size.",
         ],
         run: questions::list_all,
+    },
+    Command {
+        name: "compare",
+        takes: "ORACLE ORACLE",
+        options: &[],
+        does: "how many pairs of places are slower, as quick or quicker in the second oracle, and the largest rise",
+        more: &[COMPARED],
+        run: compare::run,
     },
     Command {
         name: "sample",

@@ -5,6 +5,7 @@ mod args;
 mod basis;
 mod bench;
 mod commands;
+mod compare;
 mod convert;
 mod demo;
 mod input;

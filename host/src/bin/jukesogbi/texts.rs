@@ -31,6 +31,15 @@ A line is printed for each, its seconds or `-` for none, and behind them `none K
 A sheet is answered or refused as a whole. A number beyond those of the places, however large, is refused by rule 12; more legs by rule 17.
 A line that is no pair (or blank, or no text, or longer than 4096 bytes) ends the command with its number and status 2, and nothing is printed.";
 
+/// What is compared, and what can be told before.
+pub const COMPARED: &str = "All pairs of a start and an end count, one place twice included, and they are compared by seconds.
+The two oracles may differ in grid and roads. They must have as many places.
+The six numbers behind that of the pairs add up to it: slower, as quick and quicker in the second; newly none, with a time in the first alone;
+newly reachable, with a time in the second alone; none in both.
+The largest rise is the most seconds that a pair takes more, and then comes the first such pair, by start and then by end; `-` where none is slower.
+Of built oracles it is proved that where one road takes K seconds more in the second network, and nothing else differs, no pair is quicker, newly none or
+newly reachable, and none is slower by more than K.";
+
 /// What becomes of an old network, and of its oracles.
 pub const LEFT_OUT: &str = "NETWORK may be an old one, with closed roads in body 3; every other command refuses these, by rule 21.
 NEW has the same places, and the roads that are open, in their order: each gets its old number less the closed ones before it.

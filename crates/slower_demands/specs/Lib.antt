@@ -1,0 +1,4 @@
+pub mod Raised
+pub mod SlowerLaws
+pub mod SlowerDemands
+pub mod SlowerTrials

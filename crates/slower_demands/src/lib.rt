@@ -1,0 +1,1 @@
+// What one slower road can do, stated over the calls. There is no code here.
