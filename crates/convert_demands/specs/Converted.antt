@@ -4,12 +4,12 @@ use native.Mathlib.Omega.{arith}
 use native.Mathlib.Nat.{zero-add}
 use mathlib.Core.Path.{_≡_, refl, sym, _∙_, ap}
 use mathlib.Core.Bool.{true, false, not, _||_}
-use mathlib.Core.List.{List, [], _∷_, _++_, map, List·Memᴰ}
-use lib.ListN.{length, getD, length-append, length-map, length-drop, drop}
+use mathlib.Core.List.{List, [], _∷_, map, List·Memᴰ}
+use lib.ListN.{length, getD, length-map, length-drop, drop}
 use lib.Seq.{length-take-le}
 use lib.Dec.{eqb, ltb, leb}
 use borrow.Author.Tests.{le-ltb, eq-eqb, eqb-true}
-use Rattle.model.specs.Lists.{range, upTo, any, filter, concat, concatMap, member, rising, gapless, all}
+use Rattle.model.specs.Lists.{range, upTo, any, filter, concatMap, member, rising, gapless, all}
 use Rattle.model.specs.Bytes.{Bytes, numberSize, words16, word16, cut}
 use Rattle.model.specs.Contents.{nodeBody, edgeBody, closedBody, body, bodyPart, entry, entryAt, file, ofItsKind, contentsBroken, bodiesBroken}
 use Rattle.model.specs.Contents.{networkEdition, networkEntries}
@@ -21,9 +21,9 @@ use Rattle.model.specs.declared.Division.{Division}
 use Rattle.theory.specs.Tests.{both}
 use Rattle.theory.specs.RangeLaws.{length-range}
 use Rattle.theory.specs.ReadLaws.{map-range}
-use Rattle.theory.specs.FileLaws.{length-file, body-file}
 use Rattle.theory.specs.Members.{filter→, map→, length-filter, none-any, getD-mem, range→}
-use Rattle.theory.specs.Shape.{any-none, contents-fine, bodies-fine}
+use Rattle.theory.specs.Shape.{any-none}
+use Rattle.theory.specs.NetworkFile.{its-length, its-nodes, its-edges, its-closed, its-contents, its-bodies}
 use Rattle.theory.specs.Passed.{Sound, none-listed, or-false, not-false, passed-all}
 use Rattle.theory.specs.Sound.{edge-listed, node-bytes, edge-bytes}
 use Rattle.theory.specs.Joined.{body-within}
@@ -62,9 +62,6 @@ module _ (f : Bytes) (sound : Sound f) where
   abbrev kept : Bytes
   kept = openRecords b (closedIn f)
 
-  abbrev bodies : List Bytes
-  bodies = nodeBody f ∷ kept ∷ [] ∷ []
-
   -- Rule 7.
   seven : (length (closedBody f) % numberSize ≡ 0) × (rising (closedIn f) ≡ true) × (any (leb (edgeCount b)) (closedIn f) ≡ false)
   unfolding numbersBroken closedIn
@@ -92,30 +89,23 @@ module _ (f : Bytes) (sound : Sound f) where
   kept-size : length kept ≡ 8 * length open-ones
   kept-size = ap length kept-is ∙ records-size b open-ones inside
 
-  small : length (converted f) < 4294967296
-  unfolding converted concat entryAt
-  small = omega (
-    arith,
-    length-file networkEdition bodies,
-    length-append (nodeBody f) (kept ++ []),
-    length-append kept [],
-    kept-size,
-    few,
-    node-bytes f sound .2,
-  )
-
-  pub body-is : (k : ℕ) → k < 3 → body (converted f) k ≡ getD bodies k []
-  unfolding converted
-  body-is k h = body-file networkEdition bodies k h (unfold converted in small)
+  few-bytes : length (nodeBody f) + length kept + 0 ≤ 1_000_000
+  few-bytes = omega (arith, kept-size, few, node-bytes f sound .2)
 
   pub node-body : nodeBody (converted f) ≡ nodeBody f
-  node-body = body-is 0 (omega arith)
+  unfolding converted
+  node-body = its-nodes (nodeBody f) kept [] few-bytes
+
+  pub kept-body : edgeBody (converted f) ≡ kept
+  unfolding converted
+  kept-body = its-edges (nodeBody f) kept [] few-bytes
 
   edge-body : edgeBody (converted f) ≡ concatMap (edgeRecord b) open-ones
-  edge-body = body-is 1 (omega arith) ∙ kept-is
+  edge-body = kept-body ∙ kept-is
 
   pub closed-body : closedBody (converted f) ≡ []
-  closed-body = body-is 2 (omega arith)
+  unfolding converted
+  closed-body = its-closed (nodeBody f) kept [] few-bytes
 
   -- Its edges: the open ones, as they stand, in order.
   pub edge-count : edgeCount (edgeBody (converted f)) ≡ length open-ones
@@ -203,11 +193,11 @@ module _ (f : Bytes) (sound : Sound f) where
 
   contents-new : contentsBroken networkEdition networkEntries (converted f) ≡ false
   unfolding converted
-  contents-new = contents-fine networkEdition bodies (unfold converted in small)
+  contents-new = its-contents (nodeBody f) kept [] few-bytes
 
   bodies-new : bodiesBroken networkEntries (converted f) ≡ false
   unfolding converted
-  bodies-new = bodies-fine networkEdition bodies (unfold converted in small)
+  bodies-new = its-bodies (nodeBody f) kept [] few-bytes
 
   pub accepted-new : (dv : Division) → gridBroken (dv .g) ≡ false → accepted (converted f) dv ≡ true
   accepted-new dv g = passed-all (converted f) dv (record { contents = contents-new; bodies = bodies-new; sound = sound-new; plain = listed-none; grid = g })
@@ -257,7 +247,7 @@ module _ (f : Bytes) (parts : bodiesBroken networkEntries f ≡ false) where
 
   -- A closed edge had 8 bytes, and 2 in the closed list.
   pub shorter : Sound f → length (converted f) + 10 * length (closedIn f) ≡ length f
-  unfolding converted concat entryAt closedIn words16
+  unfolding converted closedIn words16
   shorter sound =
       let b = edgeBody f in
       let c = closedBody f in
@@ -265,9 +255,7 @@ module _ (f : Bytes) (parts : bodiesBroken networkEntries f ≡ false) where
       omega (
         arith,
         whole-length,
-        length-file networkEdition (bodies f sound),
-        length-append (nodeBody f) (k ++ []),
-        length-append k [],
+        its-length (nodeBody f) k [],
         kept-size f sound,
         edge-count f sound,
         counts f sound,
@@ -287,7 +275,7 @@ pub twice : (f : Bytes) → Sound f → converted (converted f) ≡ converted f
 twice f sound =
     let g : Bytes = converted f in
     let e : openRecords (edgeBody g) (closedIn g) ≡ openRecords (edgeBody f) (closedIn f) =
-    all-kept g (sound-new f sound) (listed-none f sound) ∙ body-is f sound 1 (omega arith) in
+    all-kept g (sound-new f sound) (listed-none f sound) ∙ kept-body f sound in
     written g ∙ (rw (e, node-body f sound) (sym (written f)))
 
 pub unchanged : (f : Bytes) → AreBytes f → contentsBroken networkEdition networkEntries f ≡ false → bodiesBroken networkEntries f ≡ false → Sound f

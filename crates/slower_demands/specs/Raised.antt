@@ -6,30 +6,30 @@ use native.Mathlib.Decide.{ℕ-discrete, decLe}
 use mathlib.Core.Path.{_≡_, sym, _∙_, ap}
 use mathlib.Core.Logic.{_≢_, _⊎_, inl, inr}
 use mathlib.Core.Bool.{true, false}
-use mathlib.Core.List.{List, [], _∷_, _++_, List·Memᴰ, append-assoc}
+use mathlib.Core.List.{_++_, List·Memᴰ, append-assoc}
 use lib.ListN.{length, getD, take, drop, length-append, List·getD-append}
 use lib.Seq.{getD-take, getD-drop, length-take-le, drop-at}
-use Rattle.model.specs.Lists.{concat}
 use Rattle.model.specs.Bytes.{Bytes, byte, word16, word32, bytes32, splice}
-use Rattle.model.specs.Contents.{nodeBody, edgeBody, closedBody, body, file, contentsBroken, bodiesBroken, entryAt, networkEdition, networkEntries}
+use Rattle.model.specs.Contents.{nodeBody, edgeBody, closedBody, contentsBroken, bodiesBroken, networkEdition, networkEntries}
 use Rattle.model.specs.Network.{Edge, edge, edges, edgeCount, edgeSize, nodeCount, maxSeconds, edgesBroken, edgeBroken, someEdgeBroken, closedListed}
 use Rattle.model.specs.Grid.{gridBroken}
 use Rattle.model.specs.Rules.{accepted}
 use Rattle.model.specs.declared.Division.{Division}
-use Rattle.theory.specs.FileLaws.{word32-read, length-32, length-file, body-file}
+use Rattle.theory.specs.FileLaws.{word32-read, length-32}
 use Rattle.theory.specs.ReadLaws.{word32-drop}
 use Rattle.theory.specs.Splices.{length-splice, drop-splice}
-use Rattle.theory.specs.Shape.{any-none, contents-fine, bodies-fine}
+use Rattle.theory.specs.Shape.{any-none}
+use Rattle.theory.specs.NetworkFile.{networkOf, its-nodes, its-edges, its-closed, its-contents, its-bodies}
 use Rattle.theory.specs.Passed.{Sound, passed-all}
 use Rattle.theory.specs.Sound.{Fine, fine-kept, edge-fine, edge-numbered, node-bytes, edge-bytes, closed-bytes}
 
--- Body 2 with k seconds more on road j: the last four of its bytes are written over.
+-- Body 2 with k seconds more on road j: the four bytes of its seconds are written over.
 unfoldable pub raisedBody : Bytes → ℕ → ℕ → Bytes
 raisedBody b j k = splice (edgeSize * j + 4) (bytes32 (edge b j .seconds + k)) b
 
 -- The file with this body 2.
 unfoldable pub raised : Bytes → ℕ → ℕ → Bytes
-raised f j k = file networkEdition (nodeBody f ∷ raisedBody (edgeBody f) j k ∷ closedBody f ∷ [])
+raised f j k = networkOf (nodeBody f) (raisedBody (edgeBody f) j k) (closedBody f)
 
 -- ---- the edges
 module _ (b : Bytes) (j k : ℕ) (is-road : j < edgeCount b) where
@@ -140,41 +140,29 @@ module _ (f : Bytes) (sound : Sound f) (j k : ℕ) (is-road : j < edgeCount (edg
   abbrev f′ : Bytes
   f′ = raised f j k
 
-  abbrev bodies : List Bytes
-  bodies = nodeBody f ∷ raisedBody (edgeBody f) j k ∷ closedBody f ∷ []
+  abbrev roads : Bytes
+  roads = raisedBody (edgeBody f) j k
 
-  small : length f′ < 4_294_967_296
-  unfolding raised concat entryAt
-  small = omega (
-    arith,
-    length-file networkEdition bodies,
-    length-append (nodeBody f) (raisedBody (edgeBody f) j k ++ (closedBody f ++ [])),
-    length-append (raisedBody (edgeBody f) j k) (closedBody f ++ []),
-    length-append (closedBody f) [],
-    same-length (edgeBody f) j k is-road,
-    node-bytes f sound .2,
-    edge-bytes f sound .1,
-    closed-bytes f sound,
-  )
-
-  body-is : (i : ℕ) → i < 3 → body f′ i ≡ getD bodies i []
-  unfolding raised
-  body-is i h = body-file networkEdition bodies i h (unfold raised in small)
+  few-bytes : length (nodeBody f) + length roads + length (closedBody f) ≤ 1_000_000
+  few-bytes = omega (arith, same-length (edgeBody f) j k is-road, node-bytes f sound .2, edge-bytes f sound .1, closed-bytes f sound)
 
   pub node-body : nodeBody f′ ≡ nodeBody f
-  node-body = body-is 0 (omega arith)
+  unfolding raised
+  node-body = its-nodes (nodeBody f) roads (closedBody f) few-bytes
 
-  pub edge-body : edgeBody f′ ≡ raisedBody (edgeBody f) j k
-  edge-body = body-is 1 (omega arith)
+  pub edge-body : edgeBody f′ ≡ roads
+  unfolding raised
+  edge-body = its-edges (nodeBody f) roads (closedBody f) few-bytes
 
   closed-body : closedBody f′ ≡ closedBody f
-  closed-body = body-is 2 (omega arith)
+  unfolding raised
+  closed-body = its-closed (nodeBody f) roads (closedBody f) few-bytes
 
   edges-fine : edgesBroken (edgeBody f′) ≡ false
   unfolding edgesBroken
   edges-fine = rw (edge-body, same-length (edgeBody f) j k is-road, same-count (edgeBody f) j k is-road) (unfold edgesBroken in sound .edges-rule)
 
-  each-fine : (i : ℕ) → i < edgeCount (edgeBody f) → Dec (i ≡ j) → Fine (nodeCount (nodeBody f)) (edge (raisedBody (edgeBody f) j k) i)
+  each-fine : (i : ℕ) → i < edgeCount (edgeBody f) → Dec (i ≡ j) → Fine (nodeCount (nodeBody f)) (edge roads i)
   each-fine i h (no n) = rw (others-same (edgeBody f) j k is-road i n) (edge-fine (nodeCount (nodeBody f)) (edgeBody f) (sound .some-edge) i h)
   each-fine i h (yes p) =
       let was = edge-fine (nodeCount (nodeBody f)) (edgeBody f) (sound .some-edge) j is-road in
@@ -189,12 +177,12 @@ module _ (f : Bytes) (sound : Sound f) (j k : ℕ) (is-road : j < edgeCount (edg
 
   some-fine : someEdgeBroken (nodeCount (nodeBody f′)) (edgeBody f′) ≡ false
   unfolding someEdgeBroken
-  some-fine = rw (node-body, edge-body) (any-none (edgeBroken (nodeCount (nodeBody f))) (edges (raisedBody (edgeBody f) j k)) fine)
+  some-fine = rw (node-body, edge-body) (any-none (edgeBroken (nodeCount (nodeBody f))) (edges roads) fine)
     where
-      fine : (e : Edge) → List·Memᴰ e (edges (raisedBody (edgeBody f) j k)) → edgeBroken (nodeCount (nodeBody f)) e ≡ false
+      fine : (e : Edge) → List·Memᴰ e (edges roads) → edgeBroken (nodeCount (nodeBody f)) e ≡ false
       fine e m =
-          let (i, h, q) = edge-numbered (raisedBody (edgeBody f) j k) m in
-          rw q (fine-kept (nodeCount (nodeBody f)) (edge (raisedBody (edgeBody f) j k) i)
+          let (i, h, q) = edge-numbered roads m in
+          rw q (fine-kept (nodeCount (nodeBody f)) (edge roads i)
           (each-fine i (rw (same-count (edgeBody f) j k is-road) at h) (ℕ-discrete i j)))
 
   sound-raised : Sound f′
@@ -208,11 +196,11 @@ module _ (f : Bytes) (sound : Sound f) (j k : ℕ) (is-road : j < edgeCount (edg
 
   contents-raised : contentsBroken networkEdition networkEntries f′ ≡ false
   unfolding raised
-  contents-raised = contents-fine networkEdition bodies (unfold raised in small)
+  contents-raised = its-contents (nodeBody f) roads (closedBody f) few-bytes
 
   bodies-raised : bodiesBroken networkEntries f′ ≡ false
   unfolding raised
-  bodies-raised = bodies-fine networkEdition bodies (unfold raised in small)
+  bodies-raised = its-bodies (nodeBody f) roads (closedBody f) few-bytes
 
   pub accepted-raised : closedListed (closedBody f) ≡ false → (dv : Division) → gridBroken (dv .g) ≡ false → accepted f′ dv ≡ true
   accepted-raised plain dv grid =

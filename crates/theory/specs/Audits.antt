@@ -1,22 +1,21 @@
 -- The audit accepts a well-shaped oracle just when it is the one that building gives. Assumes nothing.
-use Prim.Native.Nat.{ℕ, _≤_, _<_}
+use Prim.Native.Nat.{ℕ, _+_, _≤_}
 use native.Mathlib.Omega.{arith}
 use mathlib.Core.Path.{_≡_, refl, sym, _∙_, ap}
 use mathlib.Core.Logic.{_↔_}
 use mathlib.Core.Bool.{true, not, true≢false, cond, Bool, false}
-use mathlib.Core.List.{List, [], _∷_, _++_}
-use lib.ListN.{length, getD, length-append}
+use mathlib.Core.List.{List, [], _∷_}
+use lib.ListN.{length}
 use borrow.Author.Tests.{le-ltb, eq-eqb, eqb-true}
-use Rattle.model.specs.Lists.{equal, concat}
+use Rattle.model.specs.Lists.{equal}
 use Rattle.model.specs.Bytes.{Bytes}
-use Rattle.model.specs.Contents.{file, nodeBody, edgeBody, closedBody, gridBody, networkEdition, body, entryAt}
+use Rattle.model.specs.Contents.{nodeBody, edgeBody, closedBody, gridBody}
 use Rattle.model.specs.Network.{network}
 use Rattle.model.specs.Grid.{gridBroken, division, divisionSize}
 use Rattle.model.specs.Oracle.{oracleOver, oracle, gridBodyBroken}
 use Rattle.model.specs.Rules.{firstBroken, shapeRules, auditRules, workTooSmall, wordsNeeded, differsFromBuilt, accepted, wellShaped}
 use Rattle.model.specs.Calls.{auditRefusal}
 use Rattle.model.specs.declared.Division.{Division}
-use Rattle.theory.specs.FileLaws.{length-file, body-file}
 use Rattle.theory.specs.Tests.{and, both}
 use Rattle.theory.specs.Built.{Good, bodies-of, same-division, same-network}
 use Rattle.theory.specs.Passed.{all-passed, shape-counted, or-false, not-false, Shaped, all-shaped, passed-all}
@@ -24,7 +23,7 @@ use Rattle.theory.specs.Firsts.{first-append}
 use Rattle.theory.specs.Accepted.{good}
 use Rattle.theory.specs.WellShaped.{built-well-shaped}
 use Rattle.theory.specs.Sound.{node-bytes, edge-bytes, closed-bytes}
-use Rattle.theory.specs.Shape.{contents-fine, bodies-fine}
+use Rattle.theory.specs.NetworkFile.{networkOf, its-nodes, its-edges, its-closed, its-contents, its-bodies}
 use lib.Dec.{eqb}
 
 pub equal-self : (l : List ℕ) → equal l l ≡ true
@@ -65,7 +64,7 @@ module _ (f : Bytes) (dv : Division) (ok : accepted f dv ≡ true) where
 -- ---- the network in an oracle
 -- Bodies 1 to 3, as a file.
 unfoldable pub networkIn : Bytes → Bytes
-networkIn o = file networkEdition (nodeBody o ∷ edgeBody o ∷ closedBody o ∷ [])
+networkIn o = networkOf (nodeBody o) (edgeBody o) (closedBody o)
 
 module _ (o : Bytes) (shaped : wellShaped o ≡ true) where
   abbrev dv : Division
@@ -74,49 +73,43 @@ module _ (o : Bytes) (shaped : wellShaped o ≡ true) where
   p : Shaped o
   p = all-shaped o shaped
 
-  abbrev three : List Bytes
-  three = nodeBody o ∷ edgeBody o ∷ closedBody o ∷ []
+  few-bytes : length (nodeBody o) + length (edgeBody o) + length (closedBody o) ≤ 1_000_000
+  few-bytes = omega (arith, node-bytes o (p .sound), edge-bytes o (p .sound), closed-bytes o (p .sound))
 
-  small : length (file networkEdition three) < 4294967296
-  unfolding entryAt concat
-  small =
-      omega (
-        arith,
-        length-file networkEdition three,
-        node-bytes o (p .sound),
-        edge-bytes o (p .sound),
-        closed-bytes o (p .sound),
-        length-append (nodeBody o) (edgeBody o ++ (closedBody o ++ [])),
-        length-append (edgeBody o) (closedBody o ++ []),
-        length-append (closedBody o) [],
-      )
-
-  body-in : (j : ℕ) → j < 3 → body (networkIn o) j ≡ getD three j []
+  nodes-in : nodeBody (networkIn o) ≡ nodeBody o
   unfolding networkIn
-  body-in j h = body-file networkEdition three j h small
+  nodes-in = its-nodes (nodeBody o) (edgeBody o) (closedBody o) few-bytes
+
+  edges-in : edgeBody (networkIn o) ≡ edgeBody o
+  unfolding networkIn
+  edges-in = its-edges (nodeBody o) (edgeBody o) (closedBody o) few-bytes
+
+  closed-in : closedBody (networkIn o) ≡ closedBody o
+  unfolding networkIn
+  closed-in = its-closed (nodeBody o) (edgeBody o) (closedBody o) few-bytes
 
   network-in : network (networkIn o) ≡ network o
   unfolding network
-  network-in = rw (body-in 0 (omega arith), body-in 1 (omega arith))
+  network-in = rw (nodes-in, edges-in)
 
   pub accepted-in : accepted (networkIn o) dv ≡ true
   accepted-in = passed-all (networkIn o) dv (record {
-    contents = unfold networkIn in contents-fine networkEdition three small;
-    bodies = unfold networkIn in bodies-fine networkEdition three small;
+    contents = unfold networkIn in its-contents (nodeBody o) (edgeBody o) (closedBody o) few-bytes;
+    bodies = unfold networkIn in its-bodies (nodeBody o) (edgeBody o) (closedBody o) few-bytes;
     sound = record {
-      nodes-rule = rw (body-in 0 (omega arith)) (p .sound .nodes-rule);
-      coordinates = rw (body-in 0 (omega arith)) (p .sound .coordinates);
-      edges-rule = rw (body-in 1 (omega arith)) (p .sound .edges-rule);
-      some-edge = rw (body-in 0 (omega arith), body-in 1 (omega arith)) (p .sound .some-edge);
-      closed = rw (body-in 1 (omega arith), body-in 2 (omega arith)) (p .sound .closed);
+      nodes-rule = rw nodes-in (p .sound .nodes-rule);
+      coordinates = rw nodes-in (p .sound .coordinates);
+      edges-rule = rw edges-in (p .sound .edges-rule);
+      some-edge = rw (nodes-in, edges-in) (p .sound .some-edge);
+      closed = rw (edges-in, closed-in) (p .sound .closed);
     };
-    plain = rw (body-in 2 (omega arith)) (p .plain);
+    plain = rw closed-in (p .plain);
     grid = unfold gridBodyBroken in or-false (not (eqb (length (gridBody o)) divisionSize)) (gridBroken (dv .g)) (p .grid) .1;
   })
 
   pub oracle-in : oracle (networkIn o) dv ≡ oracle o dv
   oracle-in =
-      oracle-from (networkIn o) dv ∙ (rw (network-in, body-in 0 (omega arith), body-in 1 (omega arith), body-in 2 (omega arith)) (sym (oracle-from o dv)))
+      oracle-from (networkIn o) dv ∙ (rw (network-in, nodes-in, edges-in, closed-in) (sym (oracle-from o dv)))
 
   -- ---- the audit, both ways
   module _ (work : List ℕ) (enough : wordsNeeded o ≤ length work) where

@@ -35,6 +35,7 @@ pub mod Passed
 pub mod Sound
 pub mod Accepted
 pub mod Shape
+pub mod NetworkFile
 pub mod WellShaped
 pub mod Audits
 pub mod Whole
