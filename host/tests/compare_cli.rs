@@ -52,7 +52,7 @@ fn a_large_rise() {
 #[test]
 fn other_numbers_of_places() {
     let f = Folder::with_files("compare_places");
-    let differ = |a: &str, b: &str| format!("jukesogbi: {a} places and {b} places: oracles are compared where they have as many\n");
+    let differ = |a: &str, b: &str| format!("jukesogbi: {a} places and {b} places: only oracles with the same number of places are compared\n");
     f.run("compare line.oracle fork.oracle").does(2, "", &differ("line.oracle has 3", "fork.oracle has 5"));
     f.run_with("compare fork.oracle -", &f.read("line.oracle")).does(2, "", &differ("fork.oracle has 5", "standard input has 3"));
 }
@@ -89,7 +89,7 @@ fn refused_oracles() {
 #[test]
 fn its_help() {
     let help = Folder::new("compare_help").run("compare --help").text();
-    for part in ["usage: jukesogbi compare ORACLE ORACLE\n", "one place twice included", "as many places", "none is slower by more than K"] {
+    for part in ["usage: jukesogbi compare ORACLE ORACLE\n", "one place twice included", "the same number of places", "none is slower by more than K"] {
         assert!(help.contains(part), "{part}");
     }
 }

@@ -64,6 +64,12 @@ fn nothing_is_shown_among_the_lines() {
     let (status, shown, _) = run(&f, "audit oracle", true);
     assert_eq!(status, Some(0));
     check_before(shown.strip_suffix("accepted\r\n").unwrap(), "auditing");
+    f.run("sample 2048 1 net");
+    f.run("build net 16 oracle");
+    let (status, shown, _) = run(&f, "compare oracle oracle", true);
+    let (_, lines) = shown.split_at(shown.find("pairs").unwrap());
+    assert!(status == Some(0) && lines.ends_with("largest rise -\r\n"), "{shown}");
+    check_before(&shown[..shown.len() - lines.len()], "comparing");
     // Lines of output are all there is.
     let (_, shown, _) = run(&f, "listing line.oracle", true);
     assert_eq!(shown, "places 3 transit 1\r\n0 1 7 local\r\n0 2 16 far\r\n1 2 9 local\r\n");

@@ -19,7 +19,7 @@ pub fn run(call: &mut Call) -> Done {
     drop(clock);
     let Some(found) = compared else {
         let has = |k: usize, oracle: &[u8]| format!("{} has {} places", title(&call.words[k]).display(), node_count(oracle));
-        return fault(format!("{} and {}: oracles are compared where they have as many", has(0, &first), has(1, &second)));
+        return fault(format!("{} and {}: only oracles with the same number of places are compared", has(0, &first), has(1, &second)));
     };
     for (what, count) in [
         ("pairs", found.pairs()),

@@ -33,7 +33,7 @@ A line that is no pair (or blank, or no text, or longer than 4096 bytes) ends th
 
 /// What is compared, and what can be told before.
 pub const COMPARED: &str = "All pairs of a start and an end count, one place twice included, and they are compared by seconds.
-The two oracles may differ in grid and roads. They must have as many places.
+The two oracles may differ in grid and roads. They must have the same number of places.
 The six numbers behind that of the pairs add up to it: slower, as quick and quicker in the second; newly none, with a time in the first alone;
 newly reachable, with a time in the second alone; none in both.
 The largest rise is the most seconds that a pair takes more, and then comes the first such pair, by start and then by end; `-` where none is slower.
