@@ -1,4 +1,6 @@
 // The access nodes of a cell, inside the working words.
+#![tactic(auto)]
+
 pub mod cell;
 pub mod crossings;
 pub mod gather;

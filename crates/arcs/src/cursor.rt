@@ -13,7 +13,7 @@ use words::regions::index_at;
 
 // The edge found, or the number of edges where there is none any more; where its block stops; the next entry of the chain; and the size of the blocks, which
 // is 1 just where the index is read by links.
-#[derive(Drop)]
+#[derive(Clone, Copy)]
 pub struct Cursor {
     pub edge: usize,
     pub stop: usize,

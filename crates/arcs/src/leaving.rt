@@ -15,7 +15,7 @@ use sheet::spans::cost_left;
 
 // Where the arc leads and what it costs, and where the cursor over the edges stands. At the end of a walk `to` is the number of nodes. The cursor's fields
 // stand here one by one: a struct in a struct is copied through memory at each arc.
-#[derive(Drop)]
+#[derive(Clone, Copy)]
 pub struct ArcAt {
     pub to: usize,
     pub cost: u64,

@@ -1,4 +1,6 @@
 // The audit: whether an oracle is, byte by byte, the one that building gives.
+#![tactic(auto)]
+
 pub mod bodies;
 pub mod calls;
 pub mod lists;

@@ -1,4 +1,6 @@
 // The block of times between up to twelve starts and twelve ends, and the like one of hops.
+#![tactic(auto)]
+
 ghost use Rattle.std.specs.Prelude.{◌≡◌};
 
 pub mod calls;
@@ -10,7 +12,7 @@ pub mod rows;
 
 // What the block call hands back: the number of the broken rule and zeros, or 0 with a row for each start and a column for each end.
 #[repr(C)]
-#[derive(Drop)]
+#[derive(Clone, Copy)]
 pub struct Block {
     pub rule: u32,
     pub times: [[u32; 12]; 12],

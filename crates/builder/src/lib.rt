@@ -1,4 +1,6 @@
 // Building: the oracle of a network under a division, or why there is none.
+#![tactic(auto)]
+
 pub mod calls;
 mod network;
 mod parts;

@@ -21,7 +21,7 @@ use wages::calls::wages;
 // An answer: 0 or the number of the broken rule, the kind (1 far, 2 local), the seconds and the hops (4,294,967,295 and 65,535 where there is no walk) and the
 // pairs tried; all zeros beside a broken rule.
 #[repr(C)]
-#[derive(Drop)]
+#[derive(Clone, Copy)]
 pub struct Reply {
     pub rule: u32,
     pub kind: u32,
@@ -32,7 +32,7 @@ pub struct Reply {
 
 // A part of the oracle: where it starts, and how many bytes it has.
 #[repr(C)]
-#[derive(Drop)]
+#[derive(Clone, Copy)]
 pub struct Part {
     pub start: usize,
     pub size: usize,

@@ -1,4 +1,6 @@
 // Numbers and records in bytes, the low byte first, and pairs of seconds and hops as keys.
+#![tactic(auto)]
+
 pub mod bytes;
 pub mod keys;
 pub mod lists;

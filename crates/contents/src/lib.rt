@@ -1,4 +1,6 @@
 // The contents of a file, held as one record: reading it entry by entry, rules 1 and 2, and the bodies as parts of the file.
+#![tactic(auto)]
+
 ghost use Rattle.std.specs.Prelude.{◌≡◌, false, ◌+◌, ◌<◌, ◌≤◌, length};
 ghost use Rattle.model.specs.Contents.{entry_at, contents_broken, bodies_broken, body, oracle_entries};
 ghost use Rattle.contents.specs.Reading.{held, no_contents, read_next, contents_of, InRange, HasBody};
@@ -35,7 +37,7 @@ pub const NETWORK_HEAD: usize = ENTRIES_AT + ENTRY_SIZE * NETWORK_ENTRIES;
 pub const ORACLE_HEAD: usize = ENTRIES_AT + ENTRY_SIZE * ORACLE_ENTRIES;
 
 // An entry of the contents.
-#[derive(Drop)]
+#[derive(Clone, Copy)]
 pub struct Entry {
     pub kind: u8,
     pub offset: u32,
@@ -43,7 +45,7 @@ pub struct Entry {
 }
 
 // The entries read so far, and where their bodies end, so where the next body is to start.
-#[derive(Drop)]
+#[derive(Clone, Copy)]
 pub struct Contents {
     pub entries: [Entry; ORACLE_ENTRIES],
     pub count: usize,

@@ -1,3 +1,5 @@
 // The crossing nodes of a square, and the nodes of a cell.
+#![tactic(auto)]
+
 pub mod cells;
 pub mod square;

@@ -9,7 +9,7 @@ use codec::keys::hops_of;
 use codec::records::{HOP_BASE, NUMBER_SIZE};
 
 // The bytes are the same, and end at this position; or they differ.
-#[derive(Drop)]
+#[derive(Clone, Copy)]
 pub enum Compared {
     Same(usize),
     Differs,

@@ -1,4 +1,6 @@
 // Writing the parts of an oracle, and comparing them.
+#![tactic(auto)]
+
 pub mod compare;
 pub mod copy;
 pub mod head;

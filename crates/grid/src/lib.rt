@@ -1,4 +1,6 @@
 // The grid over the nodes: the cell of each node, the squares about a cell, and which cells are far.
+#![tactic(auto)]
+
 ghost use Rattle.std.specs.Prelude.{◌≡◌, ◌+◌, ◌-◌, ◌<◌, ◌≤◌, min, false, not};
 ghost use Rattle.model.specs.Network.{node, nodes, node_count, nodes_broken};
 ghost use Rattle.model.specs.Grid.{grid_over, cell_index, cell_of, gap, within, kind_of};
@@ -14,7 +16,7 @@ mod span;
 pub mod square;
 
 // g × g cells from the least x and the least y on, which the larger of the two spreads is divided into.
-#[derive(Drop)]
+#[derive(Clone, Copy)]
 pub struct Grid {
     pub g: u32,
     pub left: u32,
@@ -22,7 +24,7 @@ pub struct Grid {
     pub spread: u32,
 }
 
-#[derive(Drop)]
+#[derive(Clone, Copy)]
 pub struct Cell {
     pub column: u32,
     pub row: u32,

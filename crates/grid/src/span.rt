@@ -6,7 +6,7 @@ ghost use Rattle.grid.specs.Stored.{along};
 
 use codec::records::{NODE_SIZE, node_x, node_y};
 
-#[derive(Drop)]
+#[derive(Clone, Copy)]
 pub struct Span {
     pub low: u32,
     pub high: u32,

@@ -6,7 +6,7 @@ ghost use Rattle.grid.specs.Squares.{reaches, reaches_node};
 use codec::records::{node_x, node_y};
 
 // The coordinates from `left` on, `width` of them, and from `bottom` on, `height` of them.
-#[derive(Drop)]
+#[derive(Clone, Copy)]
 pub struct Square {
     pub left: u32,
     pub width: u32,

@@ -48,7 +48,7 @@ pub fn block_of(ix: &[u32], p: usize) -> usize
 }
 
 // The two numbers of a word: the size of the blocks or the number of one, and the next link.
-#[derive(Drop)]
+#[derive(Clone, Copy)]
 pub struct Entry {
     pub block: usize,
     pub next: usize,

@@ -1,4 +1,6 @@
 // The listing of an oracle: its text in a lent buffer, and the program that writes it.
+#![tactic(auto)]
+
 pub mod lines;
 pub mod program;
 pub mod rows;

@@ -1,4 +1,6 @@
 // The listing program, on the oracle of Fork.
+#![tactic(auto)]
+
 fn main() {
     lines::program::run();
 }

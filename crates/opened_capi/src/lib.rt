@@ -1,6 +1,8 @@
 // The questions over an opened oracle, for the host's `Oracle` alone: one check, many answers. They are no entry points and stand in no header. Each
 // requires `Opened`: the oracle and the first 8 N words are as `jukesogbi_open` or the last question left them. Nothing checks that across the interface. It is
 // the duty of host/src/oracle.rs, which keeps bytes and words to itself. For C there are the calls of `capi`, which require nothing.
+#![tactic(auto)]
+
 ghost use Rattle.std.specs.Prelude.{◌≡◌, drop};
 ghost use Rattle.model.specs.Bytes.{bytes16};
 ghost use Rattle.model.specs.Lists.{concat_map};

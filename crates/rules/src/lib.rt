@@ -1,4 +1,6 @@
 // Rules 3 to 11, each over the body that it is about.
+#![tactic(auto)]
+
 pub mod access;
 pub mod edges;
 pub mod grid;

@@ -1,5 +1,7 @@
 // Trials of the core: document 01's that are executed, and many random networks, each pair's time, far answer and way against another search. Many of their
 // roads take 0 seconds.
+#![tactic(auto)]
+
 mod memory;
 mod networks;
 
@@ -12,7 +14,7 @@ use networks::{NO_ROADS, NO_WALK, Network, Total};
 const WORK: usize = 128;
 
 // What was met, and how often something came out wrong.
-#[derive(Drop)]
+#[derive(Clone, Copy)]
 struct Tally {
     pairs: u32,
     far: u32,

@@ -7,7 +7,7 @@ pub const NO_ROADS: u32 = 65535;
 
 // At most 16 places and 47 roads. Places lie no farther than `spread` from the origin, roads take at most `seconds`, and of four roads about so many as `zeros`
 // take 0.
-#[derive(Drop)]
+#[derive(Clone, Copy)]
 pub struct Network {
     seed: u32,
     pub n: u32,
@@ -18,7 +18,7 @@ pub struct Network {
 }
 
 // The seconds and the roads of a walk. Where there is none, those that mark it.
-#[derive(Drop)]
+#[derive(Clone, Copy)]
 pub struct Total {
     pub seconds: u32,
     pub roads: u32,
