@@ -1,0 +1,29 @@
+-- `cell::cell_access` meets its contract: the inner crossing nodes among the gathered.
+use native.Mathlib.Omega.{arith}
+use borrow.Author.Rules.{rules}
+use Rattle.grid.proofs.Reached.{bounded}
+use Rattle.access.proofs.Cells.{access_cell}
+use Rattle.words.specs.Regions.{region_at, transit}
+use Rattle.grid.specs.Stored.{model_cell}
+use Rattle.index.proofs.Laid.{roads_from}
+use Rattle.access.proofs.cell.cell_access.Goals as goal
+
+pub inner_square-requires : goal.inner_square-requires
+inner_square-requires c = bounded c.requires.ground.0.over
+
+pub put_crossings-requires : goal.put_crossings-requires
+put_crossings-requires c =
+    let s = c in
+    let a = s.args in
+    let p = s.requires in record { n_value = (p.0.1, p.0.2, search rules, p.0.4, omega arith); indexed_edges = roads_from a.edges.now a.n a.work.now _ (region_at a.n transit) (omega arith)
+          c.cell_gather.ensures.others p.1 }
+
+pub returns : goal.returns
+returns c =
+    let s = c in
+    let a = s.args in
+    let p = s.requires.0 in
+    let cell = model_cell a.c in
+    let all = access_cell a.nodes.now a.edges.now a.grid p.0 a.n p.1 cell a.work.now _ _ _
+    c.cell_gather.ensures.members c.cell_gather.ensures.others (c.put_crossings.ensures.members a.grid cell _ p.0 c.inner_square.ensures)
+    c.put_crossings.ensures.others c.meet.ensures.members c.meet.ensures.others in record { members = all.0; others = all.1 }

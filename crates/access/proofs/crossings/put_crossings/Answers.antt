@@ -1,0 +1,47 @@
+-- `crossings::put_crossings` meets its contract: the edges at the nodes below v that lie inside are seen to.
+use Prim.Native.Nat.{◌-◌}
+use native.Mathlib.Omega.{arith}
+use mathlib.Core.Logic.{⊎_elim}
+use mathlib.Core.Path.{◌≡◌, refl, sym, ap, ◌∙◌}
+use borrow.Author.Rules.{rules}
+use lib.ListN.{length}
+use Rattle.model.specs.Network.{node_count}
+use Rattle.access.specs.Crossed.{Put}
+use Rattle.access.proofs.Squares.{Inside, inside_first, inside_next, outside_next, crossings_put}
+use Rattle.words.proofs.Stays.{only_then}
+use Rattle.index.proofs.Laid.{roads_only}
+use Rattle.access.proofs.crossings.put_crossings.Goals as goal
+
+pub clear-requires : goal.clear-requires
+clear-requires c = omega (arith, c.requires.n_value.2, c.requires.n_value.3, c.requires.n_value.4)
+
+pub loop-v-init : goal.loop-v-init
+loop-v-init c = (refl, inside_first _ _ _ _ _ _)
+
+pub has-requires : goal.has-requires
+unfolding node_count
+has-requires c = omega (arith, c.requires.n_value.0)
+
+pub put_crossings_at-requires : goal.put_crossings_at-requires
+put_crossings_at-requires c =
+    let s = c in
+    let a = s.args in
+    let p = s.requires in
+    record { n_value = (p.0.0, p.0.1, omega (arith, c.loop-v.invariant.0, c.clear.auto.0, p.0.2), search rules, p.0.4); indexed_edges = roads_only a.edges.now a.n a.work.now c.loop-v.work _ _ p.0.4
+          (only_then _ _ a.work.now _ c.loop-v.work c.clear.ensures.others c.loop-v.invariant.1.others) p.1 }
+
+pub loop-v-preserved : goal.loop-v-preserved
+loop-v-preserved c = (
+      ⊎_elim (λ w. ap length w.5 ∙ (w.2.kept.1.1.1.1.1.1.0 ∙ c.loop-v.invariant.0)) (λ w. ap length w.1 ∙ c.loop-v.invariant.0) c.if-has.branch,
+      ⊎_elim
+          (λ w. rw w.5 (inside_next _ _ _ _ _ _ c.loop-v.v c.loop-v.work c.loop-v.invariant.1 _ w.2.ensures))
+          (λ w. rw w.1 (outside_next _ _ _ _ _ _ c.loop-v.v c.loop-v.work c.loop-v.invariant.1 (sym w.0.left ∙ c.has.ensures)))
+          c.if-has.branch,
+    )
+
+pub returns : goal.returns
+returns c =
+    let s = c in
+    let a = s.args in
+    let p = s.requires.0 in
+    record { members = λ grid cell r ground q. crossings_put ground r cell _ q a.n p.0 a.k _ c.clear.ensures.members c.loop-v.v (search rules) c.loop-v.work c.loop-v.invariant.1; others = only_then _ _ a.work.now _ c.loop-v.work c.clear.ensures.others c.loop-v.invariant.1.others }

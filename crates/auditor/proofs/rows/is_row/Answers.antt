@@ -1,0 +1,6 @@
+-- `rows::is_row` meets its contract.
+use borrow.Author.Rules.{rules}
+use Rattle.auditor.proofs.rows.is_row.Goals as goal
+
+pub returns : goal.returns
+returns c = rw c.region.ensures.0 at c.same_row.ensures

@@ -1,0 +1,6 @@
+-- `transit::same_transit` meets its contract.
+use borrow.Author.Rules.{rules}
+use Rattle.auditor.proofs.transit.same_transit.Goals as goal
+
+pub returns : goal.returns
+returns c = rw c.region.ensures.0 at c.same_numbers.ensures

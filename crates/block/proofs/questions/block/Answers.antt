@@ -1,0 +1,34 @@
+-- `questions::block` meets its contract: rules 12 and 17 alone are left, and the search leaves the oracle opened.
+use Rattle.block.proofs.Named.{sides_there, opened_refused, opened_given}
+use Rattle.block.proofs.PartLaws.{keys_small}
+use Rattle.opened.proofs.OpenLaws.{stays}
+use mathlib.Core.Path.{refl}
+use borrow.Author.Rules.{rules}
+use Rattle.block.proofs.questions.block.Goals as goal
+
+pub returns-then-rule-ne0 : goal.returns-then-rule-ne0
+returns-then-rule-ne0 c =
+    let a = c.args in record { result = opened_refused a.o.now a.starts.now a.ends.now a.work.now c.requires _ c.sides_refusal-rule.ensures
+          c.refused_block.result c.if-rule-ne0.true c.refused_block.ensures; opened = c.requires; rest = refl }
+
+pub keys_between-keys-requires : goal.keys_between-keys-requires
+keys_between-keys-requires c =
+    let a = c.args in
+    let k = sides_there a.o.now a.starts.now a.ends.now a.work.now c.requires _ c.sides_refusal-rule.ensures c.if-rule-ne0.false in
+    record { opened = (c.requires, k.named.firsts, k.named.seconds); starts_len_bound = (k.few_starts, k.few_ends) }
+
+pub given_block-requires : goal.given_block-requires
+given_block-requires c =
+    let s = c in
+    let a = s.args in
+    let if1 = c in
+    let k = sides_there a.o.now a.starts.now a.ends.now a.work.now s.requires _ if1.sides_refusal.ensures if1.if1.false in
+    rw c.keys_between-keys.ensures.keys (keys_small _ _ _ k.named)
+
+pub returns : goal.returns
+returns c =
+    let a = c.args in
+    let if1 = c in
+    let k = stays a.o.now a.work.now _ c.requires c.keys_between-keys.auto.1.1.1.0 c.keys_between-keys.ensures.others in
+    let (number, times, hops) = c.given_block.ensures in record { result = opened_given a.o.now a.starts.now a.ends.now a.work.now c.requires _ if1.sides_refusal.ensures c.given_block.result if1.if1.false
+          (record { keys = c.keys_between-keys.result; number = number; times = times; hops = hops; are = c.keys_between-keys.ensures.keys }); opened = k.opened; rest = k.rest }

@@ -1,0 +1,19 @@
+-- `rows::with_entries` meets its contract.
+use Rattle.model.specs.Query.{time_word}
+use Rattle.checks.proofs.NameLists.{named_there}
+use Rattle.block.proofs.Fill.{row_store, row_is, row_more, no_entries}
+use Rattle.block.specs.Block.{row_by}
+use native.Mathlib.Omega.{arith}
+use lib.ListN.{length, take, set}
+use lib.Seq.{take_all}
+use mathlib.Core.List.{List}
+use mathlib.Core.Path.{◌≡◌, ◌∙◌, ap}
+use Prim.Native.Nat.{ℕ, ◌-◌, ◌≤◌}
+use borrow.Author.Rules.{rules}
+use Rattle.block.proofs.rows.with_entries.Given as goal
+
+abbrev pub invariant-loop-j : goal.invariant-loop-j
+invariant-loop-j l = (l.j ≤ length l.ends) × (length l.initial.filled ≡ 12) × (l.filled ≡ set l.initial.filled l.i (row_by (time_word l.o) (take l.j l.ends) l.s))
+
+abbrev pub decreases-loop-j : goal.decreases-loop-j
+decreases-loop-j l = length l.ends - l.j

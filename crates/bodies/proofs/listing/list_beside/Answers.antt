@@ -1,0 +1,32 @@
+-- `bodies::listing::list_beside` meets its contract. Assumes nothing.
+use native.Mathlib.Omega.{arith}
+use mathlib.Core.Path.{refl, sym, ◌∙◌}
+use borrow.Author.Rules.{rules}
+use Rattle.bodies.proofs.CellLists.{list_other, list_room, list_done}
+use Rattle.bodies.proofs.listing.list_beside.Goals as goal
+
+pub beside-requires : goal.beside-requires
+beside-requires c = omega (arith, c.requires.based.0.count)
+
+pub put_list-requires : goal.put_list-requires
+put_list-requires c =
+    let s = c in
+    let p = s.requires in
+    let a = s.args in
+    let all = list_room a.nodes.now a.edges.now a.grid a.n a.work.now p.0.0 a.u a.v p.0.1 p.0.2 p.1.0.0
+    a.body.now p.1.1 (sym (c.beside.ensures _ _ p.0.3) ∙ c.if-beside.true) a.left p.1.0.1 in record { n_le_max_nodes = all.0; indexed_edges = all.1.0; start_size_in_bounds = all.1.1 }
+
+pub returns-then-beside : goal.returns-then-beside
+returns-then-beside c =
+    let s = c in
+    let p = s.requires in
+    let a = s.args in record { lists = list_done a.nodes.now a.edges.now a.grid a.n a.work.now p.0.0 a.u a.v p.0.1 p.0.2 p.1.0.0
+          a.body.now p.1.1 (sym (c.beside.ensures _ _ p.0.3) ∙
+          c.if-beside.true) _ c.put_list.ensures.bytes; others = c.put_list.ensures.others }
+
+pub returns-else-beside : goal.returns-else-beside
+returns-else-beside c =
+    let s = c in
+    let p = s.requires in
+    let a = s.args in record { lists = list_other a.nodes.now a.edges.now a.grid a.n a.work.now p.0.0 a.u a.v p.0.1 p.0.2 p.1.0.0
+          a.body.now p.1.1 (sym (c.beside.ensures _ _ p.0.3) ∙ c.if-beside.false); others = refl }

@@ -1,0 +1,32 @@
+-- `bodies::listing::put_lists` meets its contract. Assumes nothing.
+use Prim.Native.Nat.{◌-◌}
+use mathlib.Core.Path.{◌≡◌, refl, ◌∙◌}
+use lib.ListN.{length}
+use borrow.Author.Rules.{rules}
+use Rattle.words.specs.Regions.{region_at, transit}
+use Rattle.words.specs.Frames.{KeptFrom}
+use Rattle.bodies.proofs.CellLists.{based_still, listed_all}
+use Rattle.bodies.specs.Listed.{Based, Listed}
+use Rattle.bodies.proofs.listing.put_lists.Goals as goal
+
+pub loop-u-init : goal.loop-u-init
+loop-u-init c = (refl, refl, c.requires.0, refl, c.requires.1)
+
+pub lists_at-requires : goal.lists_at-requires
+lists_at-requires c = (c.loop-u.invariant.2, search rules, c.loop-u.invariant.4)
+
+pub loop-u-preserved : goal.loop-u-preserved
+loop-u-preserved c =
+    let a = c.args in (
+      search rules,
+      search rules,
+      based_still a.nodes.now a.edges.now a.grid a.n _ _ c.loop-u.invariant.2 (search rules)
+          c.lists_at.ensures.others,
+      c.lists_at.ensures.others ∙ c.loop-u.invariant.3,
+      c.lists_at.ensures.lists,
+    )
+
+pub returns : goal.returns
+returns c =
+    let a = c.args in
+    record { bytes = listed_all a.nodes.now a.edges.now a.grid a.n _ _ c.loop-u-test.false c.loop-u.invariant.4; others = c.loop-u.invariant.3 }

@@ -1,0 +1,24 @@
+-- `bodies::table::put_table` meets its contract. Assumes nothing.
+use Prim.Native.Nat.{◌-◌}
+use native.Mathlib.Omega.{arith}
+use mathlib.Core.Path.{◌≡◌, refl, ◌∙◌}
+use lib.ListN.{length}
+use borrow.Author.Rules.{rules}
+use Rattle.access.proofs.Flagging.{alone_later}
+use Rattle.emit.proofs.Turns.{members_from, members_step, members_end}
+use Rattle.emit.proofs.Writing.{Written, written_fits, written_next, written_end}
+use Rattle.passes.specs.Building.{members_in}
+use Rattle.words.specs.Regions.{region, transit, search_words}
+use Rattle.model.specs.Lists.{concat_map}
+use Rattle.words.specs.Frames.{KeptFrom}
+use Rattle.bodies.proofs.Tables.{rows, rows_start}
+use Rattle.index.proofs.Laid.{roads_from}
+use Rattle.words.proofs.Windows.{region_later}
+use Rattle.bodies.proofs.table.put_table.Given as goal
+
+abbrev pub invariant-loop-v : goal.invariant-loop-v
+invariant-loop-v l = (length l.work ≡ length l.initial.work) × (length l.out ≡ length l.initial.out) × (KeptFrom (search_words l.n) l.initial.work l.work) × Written
+    (concat_map (rows l.edges l.n l.initial.work) (members_in l.n transit l.initial.work)) l.at l.out (members_from (rows l.edges l.n l.initial.work) (region l.n transit l.initial.work) l.n l.v)
+
+abbrev pub decreases-loop-v : goal.decreases-loop-v
+decreases-loop-v l = l.n - l.v

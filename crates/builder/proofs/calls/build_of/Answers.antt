@@ -1,0 +1,33 @@
+-- `calls::build_of` meets its contract.
+use mathlib.Core.Path.{sym, ◌∙◌, ap}
+use native.Mathlib.Omega.{arith}
+use Rattle.model.specs.Network.{node_count}
+use Rattle.model.specs.Rules.{words_needed}
+use borrow.Author.Rules.{rules}
+use Rattle.builder.proofs.calls.build_of.Goals as goal
+
+pub network_contents-c-requires : goal.network_contents-c-requires
+network_contents-c-requires c = (c.requires.0.contents, c.requires.0.bodies)
+
+pub body-nodes-requires : goal.body-nodes-requires
+body-nodes-requires c = c.network_contents-c.ensures _ (omega arith)
+
+pub body-edges-requires : goal.body-edges-requires
+body-edges-requires c = c.network_contents-c.ensures _ (omega arith)
+
+pub over-grid-requires : goal.over-grid-requires
+over-grid-requires c = rw c.body-nodes.ensures c.requires.0.sound.nodes_rule
+
+pub node_count-n-requires : goal.node_count-n-requires
+node_count-n-requires c = (c.requires.0.contents, c.requires.0.bodies)
+
+pub build_in-requires : goal.build_in-requires
+unfolding words_needed
+build_in-requires c = (
+      record { passed = c.requires.0; of_nodes = c.body-nodes.ensures; of_edges = c.body-edges.ensures; made = c.over-grid.ensures; count = c.node_count-n.ensures ∙ sym (ap c.node_count-n c.body-nodes.ensures) },
+      omega (arith, c.node_count-n.ensures, c.requires.1),
+    )
+
+pub returns : goal.returns
+unfolding words_needed
+returns c = record { given = c.build_in.ensures.given; rest = rw (← c.node_count-n.ensures) c.build_in.ensures.rest }

@@ -1,0 +1,9 @@
+-- `oracles::jukesogbi_far` meets its contract.
+use mathlib.Core.Path.{◌∙◌, ap}
+use Rattle.model.specs.Meanings.{meaning_injective}
+use Rattle.capi.specs.Replies.{reply}
+use borrow.Author.Rules.{rules}
+use Rattle.capi.proofs.oracles.jukesogbi_far.Goals as goal
+
+pub returns : goal.returns
+returns c = c.reply_of.ensures ∙ ap reply (meaning_injective _ _ c.far.ensures.result)

@@ -1,0 +1,9 @@
+-- `sheets::jukesogbi_time_under` meets its contract.
+use mathlib.Core.Path.{◌∙◌, ap}
+use Rattle.model.specs.Meanings.{meaning_injective}
+use Rattle.capi.specs.Replies.{reply}
+use borrow.Author.Rules.{rules}
+use Rattle.capi.proofs.sheets.jukesogbi_time_under.Goals as goal
+
+pub returns : goal.returns
+returns c = record { result = c.reply_of.ensures ∙ ap reply (meaning_injective _ _ c.time_under.ensures.result); words = c.time_under.ensures.words }

@@ -1,0 +1,7 @@
+use Rattle.model.specs.Bytes.{word16}
+use Rattle.std.proofs.Common.{arith, rules}
+use Rattle.codec.proofs.bytes.read16.Goals as goal
+
+pub returns : goal.returns
+unfolding word16
+returns c = omega arith

@@ -1,0 +1,7 @@
+use Rattle.model.specs.Network.{edge}
+use Rattle.std.proofs.Common.{rules}
+use Rattle.codec.proofs.records.edge_second.Goals as goal
+
+pub returns : goal.returns
+unfolding edge
+returns c = c.read16.ensures

@@ -1,0 +1,8 @@
+-- `contents::Contents::new` meets its contract.
+use borrow.Author.Rules.{rules}
+use Rattle.contents.specs.Reading.{no_contents}
+use Rattle.contents.proofs.Contents.new.Goals as goal
+
+pub returns : goal.returns
+unfolding no_contents
+returns c = rw (← c.entry_at_law.ensures)

@@ -1,0 +1,19 @@
+-- `network::write_edges` meets its contract. The loop's invariant: the open edges from i on are left to write. Assumes nothing.
+use Prim.Native.Nat.{◌-◌}
+use mathlib.Core.Path.{◌≡◌, refl}
+use lib.ListN.{length}
+use Rattle.model.specs.Bytes.{words16}
+use Rattle.model.specs.Network.{edge_count}
+use Rattle.emit.proofs.Writing.{WrittenFrom, written_fits, from_start, from_next, from_end}
+use Rattle.convert.specs.Convert.{open_records}
+use Rattle.convert.specs.Parts.{edge_left}
+use Rattle.convert.proofs.Leaving.{left_from, left_step, left_end, edges_all}
+use borrow.Author.Rules.{rules}
+use Rattle.convert.proofs.network.write_edges.Given as goal
+
+abbrev pub invariant-loop-i : goal.invariant-loop-i
+invariant-loop-i l = (l.m ≡ edge_count l.edges) × (length l.out ≡ length l.initial.out)
+    × WrittenFrom l.initial.out l.at (open_records l.edges (words16 l.closed)) l.end l.out (left_from (edge_left l.edges (words16 l.closed)) l.i l.m)
+
+abbrev pub decreases-loop-i : goal.decreases-loop-i
+decreases-loop-i l = l.m - l.i

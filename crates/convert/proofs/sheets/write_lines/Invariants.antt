@@ -1,0 +1,18 @@
+-- `sheets::write_lines` meets its contract. The loop's invariant: the kept lines from k on are left to write. Assumes nothing.
+use Prim.Native.Nat.{◌-◌}
+use mathlib.Core.Path.{◌≡◌, refl}
+use lib.ListN.{length}
+use Rattle.model.specs.Bytes.{words16}
+use Rattle.sheet.specs.Sheet.{line_count}
+use Rattle.emit.proofs.Writing.{WrittenFrom, written_fits, from_start, from_next, from_end}
+use Rattle.convert.specs.Parts.{lines_left}
+use Rattle.convert.proofs.Leaving.{left_from, line_at, left_step, left_end, lines_all}
+use borrow.Author.Rules.{rules}
+use Rattle.convert.proofs.sheets.write_lines.Given as goal
+
+abbrev pub invariant-loop-k : goal.invariant-loop-k
+invariant-loop-k l = (l.count ≡ line_count l.lines) × (length l.out ≡ length l.initial.out)
+    × WrittenFrom l.initial.out l.at (lines_left (words16 l.closed) l.lines) l.end l.out (left_from (line_at (words16 l.closed) l.lines) l.k l.count)
+
+abbrev pub decreases-loop-k : goal.decreases-loop-k
+decreases-loop-k l = l.count - l.k

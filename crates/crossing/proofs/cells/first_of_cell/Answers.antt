@@ -1,0 +1,27 @@
+-- `cells::first_of_cell` meets its contract: the answer is that for the nodes from v on.
+use Prim.Native.Nat.{◌-◌, ◌≤◌}
+use mathlib.Core.Path.{◌≡◌, sym, ◌∙◌}
+use borrow.Author.Rules.{rules}
+use Rattle.crossing.specs.Cells.{first_of_cell}
+use Rattle.crossing.specs.Beside.{CellSquare}
+use Rattle.grid.specs.declared.Grid.{Grid}
+use Rattle.crossing.specs.Ground.{cells_in}
+use Rattle.crossing.proofs.Alike.{none_from, none_first, none_found, none_next, none_last}
+use Rattle.crossing.proofs.cells.first_of_cell.Goals as goal
+
+pub loop-v-init : goal.loop-v-init
+loop-v-init c = (search rules, λ grid q. none_first _ _)
+
+pub returns-then-beside : goal.returns-then-beside
+returns-then-beside c = sym (c.loop-v.invariant.1 _ c.cell_square-square.ensures ∙ none_found _ _ _ c.loop-v-test.true
+    (sym (c.beside.ensures _ _ c.cell_square-square.ensures) ∙ c.if-beside.true))
+
+pub loop-v-preserved : goal.loop-v-preserved
+loop-v-preserved c = (
+  search rules,
+  λ grid q. c.loop-v.invariant.1 grid q ∙ none_next _ _ _ c.loop-v-test.true
+      (sym (c.beside.ensures grid _ q) ∙ c.if-beside.false),
+)
+
+pub returns : goal.returns
+returns c = sym (c.loop-v.invariant.1 _ c.cell_square-square.ensures ∙ none_last _ _ _ c.loop-v-test.false)

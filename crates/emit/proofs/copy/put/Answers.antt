@@ -1,0 +1,10 @@
+-- `emit::copy::put` meets its contract. Assumes nothing.
+use native.Mathlib.Omega.{arith}
+use borrow.Author.Rules.{rules}
+use Rattle.emit.proofs.Pieces.{wrote_part}
+use Rattle.emit.proofs.copy.put.Goals as goal
+
+pub returns : goal.returns
+returns c =
+    let a = c.args in
+    wrote_part a.at _ a.out.now c.copy.new.1.0 _ (omega arith) (omega arith) c.copy.auto.1.0 c.copy.ensures

@@ -1,0 +1,21 @@
+-- `emit::head::write_head` meets its contract. The loop's invariant: what stands before entry k is written, and the entries from k on are left; the sizes that
+-- are left fit the offset. Assumes nothing.
+use Rattle.model.specs.Lists.{total}
+use Rattle.emit.specs.PartLaws.{length_head}
+use Rattle.emit.proofs.Offsets.{contents_step, contents_end, total_step, head_start, head_wrote, contents_wrote}
+use Rattle.emit.proofs.Writing.{Written, written_start, written_next, written_end}
+use Rattle.emit.specs.Parts.{head_bytes, entries_of}
+use Rattle.model.specs.Contents.{entry_at}
+use lib.ListN.{length, drop, length-set}
+use native.Mathlib.Omega.{arith}
+use mathlib.Core.Path.{◌≡◌, refl, sym, ◌∙◌}
+use Prim.Native.Nat.{◌+◌, ◌<◌, ◌≤◌, ◌-◌}
+use borrow.Author.Rules.{rules}
+use Rattle.emit.proofs.head.write_head.Given as goal
+
+abbrev pub invariant-loop-k : goal.invariant-loop-k
+invariant-loop-k l = (l.k ≤ l.entries) × (l.entries ≡ length l.sizes) × (l.offset + total (drop l.k l.sizes) < 4294967296) × (length l.out ≡ entry_at l.entries) × Written
+    (head_bytes l.edition l.sizes) (entry_at l.k) l.out (entries_of l.k l.offset (drop l.k l.sizes))
+
+abbrev pub decreases-loop-k : goal.decreases-loop-k
+decreases-loop-k l = l.entries - l.k

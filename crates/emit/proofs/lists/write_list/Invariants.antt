@@ -1,0 +1,20 @@
+-- `emit::lists::write_list` meets its contract. The loop's invariant: `rank` counts the transit nodes below v, and the entries of the access nodes from v on
+-- are left. Assumes nothing.
+use Rattle.emit.proofs.Indexes.{entry_for, entries_from, list_for, count_written, entries_step}
+use Rattle.bitset.proofs.Ranks.{rank_none, rank_next}
+use Rattle.emit.proofs.Turns.{members_end}
+use Rattle.emit.proofs.Writing.{Written, written_fits, written_next, written_end}
+use Rattle.bitset.specs.Members.{members_of}
+use lib.ListN.{length}
+use native.Mathlib.Omega.{arith}
+use mathlib.Core.Path.{◌≡◌, sym}
+use Prim.Native.Nat.{◌≤◌, ◌-◌}
+use borrow.Author.Rules.{rules}
+use Rattle.emit.proofs.lists.write_list.Given as goal
+
+abbrev pub invariant-loop-v : goal.invariant-loop-v
+invariant-loop-v l = (l.rank ≤ l.v) × (l.rank ≡ length (members_of l.v l.transit)) × (length l.out ≡ length l.initial.out)
+    × Written (list_for l.n l.access l.transit l.work) l.at l.out (entries_from l.n l.access l.transit l.work l.v)
+
+abbrev pub decreases-loop-v : goal.decreases-loop-v
+decreases-loop-v l = l.n - l.v

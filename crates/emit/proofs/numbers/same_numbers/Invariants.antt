@@ -1,0 +1,16 @@
+-- `emit::numbers::same_numbers` meets its contract. The loop's invariant: the members from u on are left to compare. Assumes nothing.
+use Rattle.emit.proofs.Turns.{members_from, members_all, members_step, members_end}
+use Rattle.emit.proofs.Comparing.{Left, left_start, left_different, left_next, left_end}
+use Rattle.emit.specs.Parts.{numbers_bytes}
+use Rattle.bitset.specs.Members.{members_of}
+use Rattle.model.specs.Bytes.{bytes16}
+use mathlib.Core.Path.{sym, ◌∙◌}
+use Prim.Native.Nat.{◌-◌}
+use borrow.Author.Rules.{rules}
+use Rattle.emit.proofs.numbers.same_numbers.Given as goal
+
+abbrev pub invariant-loop-u : goal.invariant-loop-u
+invariant-loop-u l = Left l.b (numbers_bytes (members_of l.n l.set)) l.at (members_from bytes16 l.set l.n l.u)
+
+abbrev pub decreases-loop-u : goal.decreases-loop-u
+decreases-loop-u l = l.n - l.u

@@ -1,0 +1,20 @@
+-- `emit::starts::write_starts` meets its contract. The loop's invariant: the starts from list v on are left to write, the first of them `start`. Assumes
+-- nothing.
+use Rattle.emit.proofs.Offsets.{starts_from, latest, starts_all, starts_step, start_latest, starts_end, start_wrote}
+use Rattle.emit.proofs.Writing.{Written, written_start, written_next, written_end}
+use Rattle.emit.specs.PartLaws.{length_starts_of, length_sizes}
+use Rattle.emit.specs.Parts.{starts_of, list_sizes}
+use Rattle.model.specs.Oracle.{start_size, list_size}
+use lib.ListN.{length}
+use native.Mathlib.Omega.{arith}
+use mathlib.Core.Path.{◌≡◌, ap, ◌∙◌}
+use Prim.Native.Nat.{◌*◌, ◌≤◌, ◌-◌}
+use borrow.Author.Rules.{rules}
+use Rattle.emit.proofs.starts.write_starts.Given as goal
+
+abbrev pub invariant-loop-v : goal.invariant-loop-v
+invariant-loop-v l = (l.v ≤ l.n) × (l.start ≤ latest l.counts l.n l.v) × (length l.out ≡ length l.initial.out) × Written (starts_of (start_size * l.n) (list_sizes l.n l.counts)) (start_size * l.v) l.out
+    (starts_from l.counts l.n l.start l.v)
+
+abbrev pub decreases-loop-v : goal.decreases-loop-v
+decreases-loop-v l = l.n - l.v

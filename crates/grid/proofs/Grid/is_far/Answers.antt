@@ -1,0 +1,6 @@
+-- `grid::Grid::is_far` meets its contract. Assumes nothing.
+use Rattle.std.proofs.Common.{not, ap, rules}
+use Rattle.grid.proofs.Grid.is_far.Goals as goal
+
+pub returns : goal.returns
+returns c = ap not c.within.ensures

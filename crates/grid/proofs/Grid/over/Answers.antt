@@ -1,0 +1,19 @@
+-- `grid::Grid::over` meets its contract. Assumes nothing.
+use Rattle.grid.proofs.Bounds.{least_greatest}
+use Rattle.model.specs.Grid.{grid_over}
+use Rattle.std.proofs.Common.{true, false, arith, rules}
+use Rattle.grid.proofs.Grid.over.Goals as goal
+
+pub overflow_sub-across : goal.overflow_sub-across
+overflow_sub-across c =
+    let s = c in
+    omega (arith, least_greatest false s.args.b.now s.requires, c.over-across.ensures)
+
+pub overflow_sub-up : goal.overflow_sub-up
+overflow_sub-up c =
+    let s = c in
+    omega (arith, least_greatest true s.args.b.now s.requires, c.over-up.ensures)
+
+pub returns : goal.returns
+unfolding grid_over
+returns c = rw (c.larger-spread.ensures, c.over-across.ensures.0, c.over-across.ensures.1, c.over-up.ensures.0, c.over-up.ensures.1)

@@ -1,0 +1,12 @@
+-- `grid::Grid::reach` meets its contract.
+use Rattle.std.proofs.Common.{ℕ, ◌+◌, ◌-◌, ap, ◌∙◌, arith, rules}
+use Rattle.grid.specs.Squares.{start_of}
+use Rattle.grid.proofs.Reached.{start_rises}
+use Rattle.grid.proofs.Grid.reach.Goals as goal
+
+pub returns : goal.returns
+returns c =
+    let a = c.args in
+    let l = c.start.ensures.0 ∙ ap (λ (n : ℕ). start_of a.self n) c.less.ensures in
+    let h = c.start-2.ensures.0 in
+    (l, h, omega (arith, l, h, start_rises a.self c.requires (a.k - a.r) (a.k + a.r + 1) (omega arith)), c.start-2.ensures.1)

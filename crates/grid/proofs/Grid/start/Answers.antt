@@ -1,0 +1,16 @@
+-- `grid::Grid::start` meets its contract.
+use Rattle.std.proofs.Common.{arith, rules}
+use Rattle.grid.proofs.Reached.{start_fits, start_read}
+use Rattle.grid.proofs.Grid.start.Goals as goal
+
+pub overflow_mul-result : goal.overflow_mul-result
+overflow_mul-result c = omega (arith, start_fits _ c.requires _ _ c.cut.ensures)
+
+pub overflow_add-result-2 : goal.overflow_add-result-2
+overflow_add-result-2 c = omega (arith, start_fits _ c.requires _ _ c.cut.ensures)
+
+pub returns : goal.returns
+returns c =
+    let s = c in
+    let a = s.args in
+    start_read a.self s.requires a.k c.cut.result c.cut.ensures

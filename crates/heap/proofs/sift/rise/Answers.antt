@@ -1,0 +1,26 @@
+-- `sift::rise` meets its contract: three ways out of a level.
+use native.Mathlib.Omega.{arith}
+use mathlib.Core.Path.{sym, ◌∙◌}
+use borrow.Author.Rules.{rules}
+use borrow.Author.Tests.{ltb-true, ltb-false, not-true, not-false}
+use Rattle.heap.proofs.SiftLaws.{rise_root, rise_stop, rise_move}
+use Rattle.heap.proofs.sift.rise.Goals as goal
+
+pub returns-then-i-eq0 : goal.returns-then-i-eq0
+returns-then-i-eq0 c =
+    let a = c.args in
+    rise_root a.n a.k a.i a.w.now c.requires.0 c.requires.1 c.requires.2 c.requires.3 c.if-i-eq0.true
+
+pub returns-then-not-is_sooner : goal.returns-then-not-is_sooner
+returns-then-not-is_sooner c =
+    let a = c.args in
+    rise_stop a.n a.k a.i a.w.now c.requires.0 c.requires.1 c.requires.2 c.requires.3 c.if-i-eq0.false
+    (ltb-false _ _ (sym c.is_sooner.ensures ∙ not-true _ c.if-not-is_sooner.true))
+
+pub returns : goal.returns
+returns c =
+    let a = c.args in
+    rise_move a.n a.k a.i a.w.now c.requires.0 c.requires.1 c.requires.2 c.requires.3
+    c.if-i-eq0.false
+    (ltb-true _ _ (sym c.is_sooner.ensures ∙ not-false _ c.if-not-is_sooner.false)) _
+    c.swap.ensures

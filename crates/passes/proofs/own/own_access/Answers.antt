@@ -1,0 +1,16 @@
+-- `own::own_access` meets its contract: the code's cell of u is its cell in the list of cells.
+use native.Mathlib.Omega.{arith}
+use borrow.Author.Rules.{rules}
+use Rattle.words.specs.Regions.{own}
+use Rattle.passes.proofs.Listing.{access_listed}
+use Rattle.passes.proofs.own.own_access.Goals as goal
+
+pub cell_access-requires : goal.cell_access-requires
+cell_access-requires c = record { ground = (c.requires.ground.0, c.requires.ground.1, c.requires.ground.2, c.requires.ground.4, omega (arith, c.requires.ground.3)); indexed_edges = c.requires.indexed_edges }
+
+pub returns : goal.returns
+returns c =
+    let s = c in
+    let a = s.args in
+    let p = s.requires.0 in record { members = access_listed a.nodes.now a.edges.now a.grid a.n p.1 a.u p.3 own _ _
+          c.cell-c.ensures c.cell_access.ensures.members; others = c.cell_access.ensures.others }

@@ -1,0 +1,22 @@
+-- `own::own_wanted` meets its contract: region WANT is the set of region OWN, which stays.
+use native.Mathlib.Omega.{arith}
+use mathlib.Core.Path.{◌∙◌}
+use borrow.Author.Rules.{rules}
+use Rattle.words.specs.Regions.{own}
+use Rattle.passes.proofs.Listing.{access_alone}
+use Rattle.passes.proofs.Seeking.{sought_made}
+use Rattle.passes.proofs.own.own_wanted.Goals as goal
+
+pub own_access-requires : goal.own_access-requires
+own_access-requires c =
+    let all = c.requires in record { ground = all.0; indexed_edges = all.1 }
+
+pub returns : goal.returns
+returns c =
+    let s = c in
+    let a = s.args in
+    let p = s.requires.0 in
+    let two = access_alone a.nodes.now a.edges.now a.grid a.n p.1 p.0 a.u own _ c.own_access.ensures.members in
+    let r = sought_made a.n (omega (arith, p.3)) _ _ _ two c.clear.ensures.members c.clear.ensures.others c.unite.ensures.members
+    c.unite.ensures.others _ c.count.ensures in
+    record { members = r.0 ∙ c.own_access.ensures.members; sought = r.1; others = r.2 ∙ c.own_access.ensures.others }

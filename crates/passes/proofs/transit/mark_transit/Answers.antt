@@ -1,0 +1,46 @@
+-- `transit::mark_transit` meets its contract: the nodes below u are passed.
+use Prim.Native.Nat.{◌-◌, ◌≤◌}
+use native.Mathlib.Omega.{arith}
+use mathlib.Core.Path.{◌≡◌, refl, ◌∙◌}
+use borrow.Author.Rules.{rules}
+use lib.ListN.{length}
+use Rattle.index.proofs.Laid.{roads_kept, roads_only}
+use Rattle.words.specs.Frames.{KeptFrom}
+use Rattle.passes.specs.Passed.{CellsPassed}
+use Rattle.passes.proofs.Passing.{passed_none, passed_all}
+use Rattle.words.proofs.Stays.{after_kept}
+use Rattle.words.specs.Regions.{index_at}
+use Rattle.passes.proofs.transit.mark_transit.Goals as goal
+
+pub loop-u-init : goal.loop-u-init
+loop-u-init c =
+    let a = c.args in
+    (omega arith, refl, passed_none a.nodes.now a.edges.now a.grid a.n _ c.clear.ensures.members, refl)
+
+pub pass_cell-requires : goal.pass_cell-requires
+pass_cell-requires c =
+    let s = c in
+    let pre = s.requires in
+    let a = s.args in
+    let p = pre.0 in
+    let r = roads_only a.edges.now a.n a.work.now _ _ _ (omega arith) c.clear.ensures.others pre.1 in record { ground = (p.0, p.1, p.2, c.loop-u-test.true, omega (arith, p.3, c.loop-u.invariant.1, c.clear.auto.0)); cells_passed = (
+        c.loop-u.invariant.2,
+        roads_kept a.edges.now a.n _ c.loop-u.work c.loop-u.invariant.3
+            r,
+      ) }
+
+pub loop-u-preserved : goal.loop-u-preserved
+loop-u-preserved c = (
+      omega (arith, c.loop-u-test.true),
+      c.pass_cell.auto.1.1.1.1.1.0 ∙ c.loop-u.invariant.1,
+      c.pass_cell.ensures.passed,
+      c.pass_cell.ensures.others ∙ c.loop-u.invariant.3,
+    )
+
+pub returns : goal.returns
+returns c =
+    let s = c in
+    let a = s.args in
+    let p = s.requires.0 in
+    let r = passed_all a.nodes.now a.edges.now a.grid a.n p.0 p.1 c.loop-u.u c.loop-u.work c.loop-u-test.false c.loop-u.invariant.2 in
+    record { members = r.0; counted = r.1; others = c.loop-u.invariant.3 ∙ after_kept _ _ a.work.now _ c.clear.ensures.others (index_at a.n) (omega arith) }

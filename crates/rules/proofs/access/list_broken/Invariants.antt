@@ -1,0 +1,15 @@
+-- `rules::access::list_broken` meets its contract. Assumes nothing.
+use Rattle.rules.proofs.AccessEntries.{list_read, entries_left, entries_all, entries_bad, entries_good, entries_end}
+use Rattle.model.specs.Oracle.{list_size, list_start, list_part, list_broken}
+use lib.ListN.{length}
+use native.Mathlib.Omega.{arith}
+use mathlib.Core.Path.{◌≡◌, sym, ◌∙◌}
+use Prim.Native.Nat.{◌+◌, ◌-◌, ◌≤◌}
+use borrow.Author.Rules.{rules}
+use Rattle.rules.proofs.access.list_broken.Given as goal
+
+abbrev pub invariant-loop-i : goal.invariant-loop-i
+invariant-loop-i l = (l.start ≡ list_start l.b l.u) × (l.start + list_size l.count ≤ length l.b) × (list_broken l.transit l.b l.u ≡ entries_left l.transit l.b l.u l.least l.i l.count)
+
+abbrev pub decreases-loop-i : goal.decreases-loop-i
+decreases-loop-i l = l.count - l.i

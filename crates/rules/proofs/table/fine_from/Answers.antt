@@ -1,0 +1,18 @@
+-- `rules::table::fine_from` meets its contract. Assumes nothing.
+use native.Mathlib.Omega.{arith}
+use mathlib.Core.Path.{sym, ◌∙◌}
+use borrow.Author.Tests.{not-true}
+use Rattle.model.specs.Oracle.{cell_broken}
+use Rattle.rules.proofs.TableLaws.{one_fine}
+use borrow.Author.Rules.{rules}
+use Rattle.rules.proofs.table.fine_from.Goals as goal
+
+pub returns-then-not-four_exceed : goal.returns-then-not-four_exceed
+returns-then-not-four_exceed c = (omega arith, c.four_exceed.ensures (not-true _ c.if-not-four_exceed.true), λ e. absurd (omega arith))
+
+pub returns-then-value_broken : goal.returns-then-value_broken
+unfolding cell_broken
+returns-then-value_broken c = (omega arith, λ j h. absurd (omega arith), λ e. sym c.value_broken.ensures ∙ c.if-value_broken.true)
+
+pub returns : goal.returns
+returns c = (omega arith, one_fine _ _ (sym c.value_broken.ensures ∙ c.if-value_broken.false), λ e. absurd (omega arith))

@@ -1,0 +1,33 @@
+-- `rules::table::table_broken` meets its contract. The loop's invariant: the answer is that for the values from i on. Assumes nothing.
+use Prim.Native.Nat.{◌-◌, ◌*◌, ◌≤◌}
+use native.Mathlib.Omega.{arith}
+use mathlib.Core.Path.{◌≡◌, sym, ◌∙◌}
+use lib.ListN.{length}
+use Rattle.model.specs.Lists.{any}
+use Rattle.model.specs.Oracle.{value_size, cell_broken, table_broken}
+use Rattle.theory.specs.RangeLaws.{rest}
+use Rattle.rules.proofs.TableLaws.{square_most, table_size, table_all, table_passed, table_found, table_end}
+use borrow.Author.Rules.{rules}
+use Rattle.rules.proofs.table.table_broken.Goals as goal
+
+pub overflow_mul-values : goal.overflow_mul-values
+overflow_mul-values c = omega (arith, square_most c.args.transit c.requires)
+
+pub overflow_mul-values-2 : goal.overflow_mul-values-2
+overflow_mul-values-2 c = omega (arith, square_most c.args.transit c.requires)
+
+pub returns-then-b-values : goal.returns-then-b-values
+returns-then-b-values c = sym (table_size _ _ c.if-b-values.true)
+
+pub loop-i-init : goal.loop-i-init
+loop-i-init c = (c.if-b-values.false, omega arith, table_all _ _ c.if-b-values.false)
+
+pub returns-then-fine-eq0 : goal.returns-then-fine-eq0
+returns-then-fine-eq0 c = sym (c.loop-i.invariant.2
+    ∙ table_found _ _ _ c.loop-i-test.true (c.fine_from-fine.ensures.2 c.if-fine-eq0.true))
+
+pub loop-i-preserved : goal.loop-i-preserved
+loop-i-preserved c = (c.loop-i.invariant.0, c.fine_from-fine.ensures.0, c.loop-i.invariant.2 ∙ table_passed _ _ _ _ c.fine_from-fine.ensures.1 c.fine_from-fine.ensures.0)
+
+pub returns : goal.returns
+returns c = sym (c.loop-i.invariant.2 ∙ table_end _ _ _ c.loop-i-test.false)

@@ -1,0 +1,17 @@
+-- `rules::table::table_broken` meets its contract. The loop's invariant: the answer is that for the values from i on. Assumes nothing.
+use Prim.Native.Nat.{◌-◌, ◌*◌, ◌≤◌}
+use native.Mathlib.Omega.{arith}
+use mathlib.Core.Path.{◌≡◌, sym, ◌∙◌}
+use lib.ListN.{length}
+use Rattle.model.specs.Lists.{any}
+use Rattle.model.specs.Oracle.{value_size, cell_broken, table_broken}
+use Rattle.theory.specs.RangeLaws.{rest}
+use Rattle.rules.proofs.TableLaws.{square_most, table_size, table_all, table_passed, table_found, table_end}
+use borrow.Author.Rules.{rules}
+use Rattle.rules.proofs.table.table_broken.Given as goal
+
+abbrev pub invariant-loop-i : goal.invariant-loop-i
+invariant-loop-i l = (length l.b ≡ value_size * l.values) × (l.i ≤ l.values) × (table_broken l.transit l.b ≡ any (cell_broken l.b) (rest l.i l.values))
+
+abbrev pub decreases-loop-i : goal.decreases-loop-i
+decreases-loop-i l = l.values - l.i

@@ -1,0 +1,95 @@
+-- `wanted::search_wanted_under` meets its contract: between the rounds no more wanted nodes are lacking than are left to count.
+use native.Mathlib.Omega.{arith}
+use mathlib.Core.Logic.{inl, inr, ⊎_elim}
+use mathlib.Core.Path.{◌≡◌, refl, ◌∙◌}
+use borrow.Author.Rules.{rules}
+use borrow.Author.Tests.{ltb-true, ltb-false}
+use lib.ListN.{length}
+use Rattle.sheet.specs.ArcsUnder.{arcs_under}
+use Rattle.arcs.proofs.Bodies.{arcs_bounded}
+use Rattle.words.specs.Frames.{KeptFrom}
+use Rattle.search.proofs.Wants.{Wanting, wanting_begun, room, node_inside, turn, stop_wanted}
+use Rattle.arcs.proofs.Kept.{edges_kept}
+use Rattle.search.proofs.Turns.{standing_first, first}
+use Rattle.words.specs.Regions.{front_in, want_in, search_words}
+use Rattle.search.proofs.wanted.search_wanted_under.Goals as goal
+
+pub loop-k-init : goal.loop-k-init
+loop-k-init c =
+    let start = c in
+    let a = start.args in
+    let p = start.requires in
+    (
+      refl,
+      refl,
+      wanting_begun (arcs_under a.edges.now a.lines.now) a.n a.s _ a.left a.work.now _ c.begin-k.ensures.others
+          (first _ a.n a.s p.0.0 p.0.1 (arcs_bounded _ _ _ _ p.1) _ _ c.begin-k.ensures.holds c.begin-k.ensures.times c.begin-k.ensures.settled) c.begin-k.ensures.settled p.0.3,
+    )
+
+pub round-k-requires : goal.round-k-requires
+round-k-requires c =
+    let start = c in
+    let a = start.args in
+    let p = start.requires in
+    record { holds = (
+        c.loop-k.invariant.2.standing.holds,
+        omega (arith, c.loop-k-test.true),
+        standing_first (arcs_under a.edges.now a.lines.now) a.n a.s c.loop-k.k c.loop-k.e _ c.loop-k.invariant.2.standing,
+      ); edges_under = (
+        edges_kept a.edges.now a.lines.now a.n a.work.now c.loop-k.work
+            (c.loop-k.invariant.1 ∙ c.begin-k.ensures.others) p.1,
+        search rules,
+      ) }
+
+pub overflow_sub-e : goal.overflow_sub-e
+overflow_sub-e c = omega (
+  arith,
+  c.loop-k.invariant.2.standing.holds.queue.held,
+  c.loop-k-test.true,
+)
+
+pub left_then-lacking-requires : goal.left_then-lacking-requires
+left_then-lacking-requires c =
+    let start = c in
+    let a = start.args in
+    let p = start.requires in
+    let h = c.loop-k.invariant.2.standing.holds.queue in
+    (
+      p.0.0,
+      omega (arith, h.held, h.room, c.loop-k-test.true),
+      ltb-true 0 c.loop-k.lacking c.if-lacking-gt0.true,
+      search rules,
+      node_inside _ a.n a.s p.0.0 p.0.1 (arcs_bounded _ _ _ _ p.1) c.loop-k.k c.loop-k.e _ _ _ _ c.loop-k-test.true (c.round-k.ensures.others ∙ c.loop-k.invariant.1)
+          c.loop-k.invariant.2 _ c.round-k.ensures.round,
+    )
+
+pub loop-k-smaller : goal.loop-k-smaller
+loop-k-smaller c = omega (
+      arith,
+      c.loop-k.invariant.2.standing.holds.queue.held,
+      c.loop-k-test.true,
+    )
+
+pub loop-k-preserved : goal.loop-k-preserved
+loop-k-preserved c =
+    let start = c in
+    let a = start.args in
+    let p = start.requires in
+    (
+      search rules,
+      c.round-k.ensures.others ∙ c.loop-k.invariant.1,
+      turn _ a.n a.s p.0.0 p.0.1 (arcs_bounded _ _ _ _ p.1) c.loop-k.k c.loop-k.e _ _ _ _
+          c.loop-k-test.true (c.round-k.ensures.others ∙ c.loop-k.invariant.1) c.loop-k.invariant.2 _ c.round-k.ensures.round _ c.left_then-lacking.ensures,
+    )
+
+pub finish-requires : goal.finish-requires
+finish-requires c = (search rules, search rules, c.loop-k.invariant.2.standing.holds.queue.room)
+
+pub returns : goal.returns
+returns c =
+    let start = c in
+    let a = start.args in
+    let p = start.requires in
+    let b = c.begin-k.ensures.others in record { found = stop_wanted _ a.n a.s p.0.0 p.0.1 (arcs_bounded _ _ _ _ p.1) c.loop-k.k c.loop-k.e _ a.work.now _ b _ c.loop-k.invariant.2
+          (⊎_elim (λ z. inr (omega (arith, ltb-false 0 c.loop-k.lacking z.1.left))) (λ z. inl (omega (arith, z.left)))
+          c.loop-k-test.branch) _ c.finish.ensures.times c.finish.ensures.order; others = c.finish.ensures.others ∙ (c.loop-k.invariant.1 ∙ b) }

@@ -1,0 +1,15 @@
+-- `lines::effect_among` meets its contract. The loop's invariant: what the lines from k on do after x is what holds.
+use Prim.Native.Nat.{◌+◌, ◌-◌, ◌≤◌}
+use native.Mathlib.Omega.{arith}
+use mathlib.Core.Path.{◌≡◌, sym, ◌∙◌, ap}
+use Rattle.sheet.specs.Sheet.{line_count, holds}
+use Rattle.sheet.specs.Codes.{effect_in, lines_from}
+use Rattle.sheet.proofs.Effects.{from, from_step, from_end, from_first}
+use borrow.Author.Rules.{rules}
+use Rattle.sheet.proofs.lines.effect_among.Given as goal
+
+abbrev pub invariant-loop-k : goal.invariant-loop-k
+invariant-loop-k l = (l.first ≤ l.k) × (from l.lines l.i l.end l.k (effect_in l.x) ≡ holds (lines_from l.lines l.first l.end) l.i)
+
+abbrev pub decreases-loop-k : goal.decreases-loop-k
+decreases-loop-k l = l.end - l.k

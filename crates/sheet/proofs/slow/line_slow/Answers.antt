@@ -1,0 +1,37 @@
+-- `slow::line_slow` meets its contract: the edge over the limit by the line, and over the limit by what holds.
+use native.Mathlib.Omega.{arith}
+use mathlib.Core.Path.{sym, ◌∙◌}
+use Rattle.sheet.specs.Sheet.{line, line_count, lines_in, holds}
+use Rattle.sheet.proofs.SlowLines.{by_held, not_over}
+use borrow.Author.Rules.{rules}
+use Rattle.sheet.proofs.slow.line_slow.Goals as goal
+
+pub line_edge-i-requires : goal.line_edge-i-requires
+unfolding line_count
+line_edge-i-requires c = omega (arith, c.requires.0)
+
+pub line_effect-x-requires : goal.line_effect-x-requires
+unfolding line_count
+line_effect-x-requires c = omega (arith, c.requires.0)
+
+pub over-requires : goal.over-requires
+over-requires c = omega (arith, c.requires.1, c.line_edge-i.ensures.0)
+
+pub over-requires-then-over : goal.over-requires-then-over
+over-requires-then-over c = omega (
+  arith,
+  c.requires.1,
+  c.line_edge-i.ensures.0,
+)
+
+pub returns-then-over : goal.returns-then-over
+returns-then-over c =
+    let a = c.args in
+    c.over-then-over.ensures ∙ by_held (holds (lines_in a.lines.now)) a.edges.now (line a.lines.now a.k) _ _ c.line_edge-i.ensures.0
+    c.line_effect-x.ensures _ (sym c.over.ensures ∙ c.if-over.true) c.effect_on-held.ensures
+
+pub returns : goal.returns
+returns c =
+    let a = c.args in
+    not_over (holds (lines_in a.lines.now)) a.edges.now (line a.lines.now a.k) _ _ c.line_edge-i.ensures.0 c.line_effect-x.ensures
+    (sym c.over.ensures ∙ c.if-over.false)

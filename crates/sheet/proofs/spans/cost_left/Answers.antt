@@ -1,0 +1,40 @@
+-- `spans::cost_left` meets its contract: no line about the edge, a closure, or a delay.
+use native.Mathlib.Omega.{arith}
+use Rattle.model.specs.Network.{edge, edge_count}
+use Rattle.words.specs.Regions.{spans_in}
+use Rattle.sheet.specs.Sheet.{lines_in, holds}
+use Rattle.sheet.proofs.Costs.{spanned_in, nothing_held, as_was, by_shut, by_delay}
+use borrow.Author.Rules.{rules}
+use Rattle.sheet.proofs.spans.cost_left.Goals as goal
+
+pub edge_key-cost-requires : goal.edge_key-cost-requires
+unfolding edge_count
+edge_key-cost-requires c = omega (arith, c.requires.i_bound)
+
+pub returns-then-x-eq0 : goal.returns-then-x-eq0
+returns-then-x-eq0 c =
+    let a = c.args in
+    let Span-of = c.Span-of in
+    let all = spanned_in a.lines.now (spans_in a.n a.work.now) Span-of.result a.i
+    c.requires.le_n.3 Span-of.ensures in
+    as_was (holds (lines_in a.lines.now) a.i) _ (edge a.edges.now a.i)
+    (nothing_held a.lines.now Span-of.result a.i c.if-x-eq0.true all) c.edge_key-cost.ensures.0
+
+pub effect_in-added-requires : goal.effect_in-added-requires
+effect_in-added-requires c =
+    let a = c.args in
+    let Span-of = c.Span-of in
+    spanned_in a.lines.now (spans_in a.n a.work.now) Span-of.result a.i
+    c.requires.le_n.3 Span-of.ensures
+
+pub returns-then-added-ge-SHUT : goal.returns-then-added-ge-SHUT
+returns-then-added-ge-SHUT c = by_shut _ _ _ c.effect_in-added.ensures c.if-added-ge-SHUT.true
+
+pub overflow_mul-result : goal.overflow_mul-result
+overflow_mul-result c = omega (arith, c.if-added-ge-SHUT.false)
+
+pub overflow_add-result : goal.overflow_add-result
+overflow_add-result c = omega (arith, c.if-added-ge-SHUT.false, c.edge_key-cost.ensures.1)
+
+pub returns : goal.returns
+returns c = by_delay _ _ _ c.effect_in-added.ensures c.if-added-ge-SHUT.false _ c.edge_key-cost.ensures.0

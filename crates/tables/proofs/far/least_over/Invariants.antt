@@ -1,0 +1,17 @@
+-- `far::least_over` meets its contract. The loop's invariant: the least so far and the entries from j on give the whole answer.
+use Prim.Native.Nat.{◌-◌, ◌≤◌}
+use native.Mathlib.Omega.{arith}
+use mathlib.Core.Path.{◌≡◌, sym, ◌∙◌}
+use borrow.Author.Rules.{rules}
+use Rattle.model.specs.Distance.{soonest}
+use Rattle.model.specs.Oracle.{no_walk, access_list}
+use Rattle.tables.specs.Premises.{InTwo, sum_in}
+use Rattle.tables.proofs.Values.{lesser_most}
+use Rattle.tables.proofs.Leasts.{least_left, least_all, least_next, least_end}
+use Rattle.tables.proofs.far.least_over.Given as goal
+
+abbrev pub invariant-loop-j : goal.invariant-loop-j
+invariant-loop-j l = (soonest (sum_in l.row) (access_list l.access l.e) ≡ least_left (sum_in l.row) l.access l.e l.n l.least l.j) × InTwo l.least × (l.least ≤ no_walk)
+
+abbrev pub decreases-loop-j : goal.decreases-loop-j
+decreases-loop-j l = l.n - l.j

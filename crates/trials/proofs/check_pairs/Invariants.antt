@@ -1,0 +1,10 @@
+-- `check_pairs` meets its contract. Assumes nothing.
+use Rattle.std.proofs.Common.{◌-◌, rules}
+use Prim.{Unit, tt}
+use Rattle.trials.proofs.check_pairs.Given as goal
+
+abbrev pub invariant-loop-i : goal.invariant-loop-i
+invariant-loop-i l = Unit {0}
+
+abbrev pub decreases-loop-i : goal.decreases-loop-i
+decreases-loop-i l = 256 - l.i

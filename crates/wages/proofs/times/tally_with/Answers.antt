@@ -1,0 +1,14 @@
+-- `times::tally_with` meets its contract.
+use borrow.Author.Tests.{eq-eqb, ne_eqb}
+use Rattle.wages.specs.Wages.{is_marked}
+use Rattle.wages.specs.Tallies.{tallied}
+use borrow.Author.Rules.{rules}
+use Rattle.wages.proofs.times.tally_with.Goals as goal
+
+pub returns-then-time-eq-NO_SECONDS : goal.returns-then-time-eq-NO_SECONDS
+unfolding tallied is_marked
+returns-then-time-eq-NO_SECONDS c = rw (eq-eqb _ _ c.if-time-eq-NO_SECONDS.true)
+
+pub returns : goal.returns
+unfolding tallied is_marked
+returns c = rw (ne_eqb _ _ c.if-time-eq-NO_SECONDS.false)

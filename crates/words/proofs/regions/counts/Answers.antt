@@ -1,0 +1,6 @@
+-- `regions::counts` meets its contract.
+use borrow.Author.Rules.{rules}
+use Rattle.words.proofs.regions.counts.Goals as goal
+
+pub returns : goal.returns
+returns c = rw (c.region_at.ensures, c.half_words.ensures) at c.part.ensures
