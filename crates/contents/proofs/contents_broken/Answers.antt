@@ -15,4 +15,4 @@ returns-then-byte-entries c = by_entries _ _ _ _ c.byte-2.ensures.0 (λ q. omega
 
 pub returns : goal.returns
 returns c = by_contents _ _ _ _ _ _ (omega arith) c.byte.ensures.0 (omega arith) c.byte-2.ensures.0
-    (omega arith) c.entry_at_law.ensures
+    (omega arith) c.entry_at.ensures

@@ -27,4 +27,4 @@ bounds-f-at c = omega arith
 
 pub returns : goal.returns
 unfolding held entry
-returns c = rw (← c.entry_at_law.ensures, ← c.read32-offset.ensures, ← c.read32-size.ensures)
+returns c = rw (← c.entry_at-at.ensures, ← c.read32-offset.ensures, ← c.read32-size.ensures)

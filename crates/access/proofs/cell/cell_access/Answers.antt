@@ -13,17 +13,14 @@ inner_square-requires c = bounded c.requires.ground.0.over
 
 pub put_crossings-requires : goal.put_crossings-requires
 put_crossings-requires c =
-    let s = c in
-    let a = s.args in
-    let p = s.requires in record { n_value = (p.0.1, p.0.2, search rules, p.0.4, omega arith); indexed_edges = roads_from a.edges.now a.n a.work.now _ (region_at a.n transit) (omega arith)
-          c.cell_gather.ensures.others p.1 }
+    let a = c.args in
+    record { n_value = (c.requires.ground.1, c.requires.ground.2, search rules, c.requires.ground.4, omega arith); indexed_edges = roads_from a.edges.now a.n a.work.now _ (region_at a.n transit) (omega arith)
+          c.cell_gather.ensures.others c.requires.indexed_edges }
 
 pub returns : goal.returns
 returns c =
-    let s = c in
-    let a = s.args in
-    let p = s.requires.0 in
+    let a = c.args in
     let cell = model_cell a.c in
-    let all = access_cell a.nodes.now a.edges.now a.grid p.0 a.n p.1 cell a.work.now _ _ _
-    c.cell_gather.ensures.members c.cell_gather.ensures.others (c.put_crossings.ensures.members a.grid cell _ p.0 c.inner_square.ensures)
+    let all = access_cell a.nodes.now a.edges.now a.grid c.requires.ground.0 a.n c.requires.ground.1 cell a.work.now _ _ _
+    c.cell_gather.ensures.members c.cell_gather.ensures.others (c.put_crossings.ensures.members a.grid cell _ c.requires.ground.0 c.inner_square.ensures)
     c.put_crossings.ensures.others c.meet.ensures.members c.meet.ensures.others in record { members = all.0; others = all.1 }

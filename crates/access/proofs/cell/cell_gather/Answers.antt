@@ -18,28 +18,23 @@ outer_square-requires c = bounded c.requires.ground.0.over
 
 pub put_crossings-requires-2 : goal.put_crossings-requires-2
 put_crossings-requires-2 c =
-    let s = c in
-    let a = s.args in
-    let p = s.requires in record { n_value = (p.0.1, p.0.2, search rules, p.0.4, omega arith); indexed_edges = roads_only a.edges.now a.n a.work.now _ _ _ (omega arith)
-          c.put_crossings.ensures.others p.1 }
+    let a = c.args in
+    record { n_value = (c.requires.ground.1, c.requires.ground.2, search rules, c.requires.ground.4, omega arith); indexed_edges = roads_only a.edges.now a.n a.work.now _ _ _ (omega arith)
+          c.put_crossings.ensures.others c.requires.indexed_edges }
 
 pub gather-requires : goal.gather-requires
 gather-requires c =
-    let s = c in
-    let a = s.args in
-    let p = s.requires in
+    let a = c.args in
     let cell = model_cell a.c in
-    let two = starts_two a.nodes.now a.edges.now a.grid p.0.0 a.n p.0.1 cell _ _
-    (c.put_crossings.ensures.members a.grid cell 0 p.0.0 c.square.ensures) c.put_crossings-2.ensures.others in record { n_le_max_nodes = (search rules, search rules, search rules, two); indexed_edges = roads_crossed a.edges.now a.n a.work.now _ _ c.put_crossings.ensures.others c.put_crossings-2.ensures.others p.1 }
+    let two = starts_two a.nodes.now a.edges.now a.grid c.requires.ground.0 a.n c.requires.ground.1 cell _ _
+    (c.put_crossings.ensures.members a.grid cell 0 c.requires.ground.0 c.square.ensures) c.put_crossings-2.ensures.others in record { n_le_max_nodes = (search rules, search rules, search rules, two); indexed_edges = roads_crossed a.edges.now a.n a.work.now _ _ c.put_crossings.ensures.others c.put_crossings-2.ensures.others c.requires.indexed_edges }
 
 pub returns : goal.returns
 returns c =
-    let s = c in
-    let a = s.args in
-    let p = s.requires.0 in
+    let a = c.args in
     let cell = model_cell a.c in
-    let all = gathered_cell a.nodes.now a.edges.now a.grid p.0 a.n p.1 cell a.work.now _ _ _
-    (c.put_crossings.ensures.members a.grid cell 0 p.0
+    let all = gathered_cell a.nodes.now a.edges.now a.grid c.requires.ground.0 a.n c.requires.ground.1 cell a.work.now _ _ _
+    (c.put_crossings.ensures.members a.grid cell 0 c.requires.ground.0
     c.square.ensures) c.put_crossings.ensures.others
-    (c.put_crossings-2.ensures.members a.grid cell _ p.0 c.outer_square.ensures) c.put_crossings-2.ensures.others
+    (c.put_crossings-2.ensures.members a.grid cell _ c.requires.ground.0 c.outer_square.ensures) c.put_crossings-2.ensures.others
     c.gather.ensures.members c.gather.ensures.others in record { members = all.0; others = all.1 }

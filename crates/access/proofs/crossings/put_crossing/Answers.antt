@@ -17,10 +17,7 @@ crossing_end-requires c = omega arith
 
 pub put-requires : goal.put-requires
 unfolding crossing_end
-put-requires c =
-    let s = c in
-    let p = s.requires in
-    (omega (arith, (edge_fine _ _ p.1 s.args.i p.2).first_in, c.crossing_end.ensures), search rules)
+put-requires c = (omega (arith, (edge_fine _ _ c.requires.1 c.args.i c.requires.2).first_in, c.crossing_end.ensures), search rules)
 
 pub returns-then-crosses_edge : goal.returns-then-crosses_edge
 returns-then-crosses_edge c = record { members = c.put.ensures.members ∙ rw (

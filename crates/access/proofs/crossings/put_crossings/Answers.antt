@@ -24,11 +24,9 @@ has-requires c = omega (arith, c.requires.n_value.0)
 
 pub put_crossings_at-requires : goal.put_crossings_at-requires
 put_crossings_at-requires c =
-    let s = c in
-    let a = s.args in
-    let p = s.requires in
-    record { n_value = (p.0.0, p.0.1, omega (arith, c.loop-v.invariant.0, c.clear.auto.0, p.0.2), search rules, p.0.4); indexed_edges = roads_only a.edges.now a.n a.work.now c.loop-v.work _ _ p.0.4
-          (only_then _ _ a.work.now _ c.loop-v.work c.clear.ensures.others c.loop-v.invariant.1.others) p.1 }
+    let a = c.args in
+    record { n_value = (c.requires.n_value.0, c.requires.n_value.1, omega (arith, c.loop-v.invariant.0, c.clear.auto.work, c.requires.n_value.2), search rules, c.requires.n_value.4); indexed_edges = roads_only a.edges.now a.n a.work.now c.loop-v.work _ _ c.requires.n_value.4
+          (only_then _ _ a.work.now _ c.loop-v.work c.clear.ensures.others c.loop-v.invariant.1.others) c.requires.indexed_edges }
 
 pub loop-v-preserved : goal.loop-v-preserved
 loop-v-preserved c = (
@@ -41,7 +39,5 @@ loop-v-preserved c = (
 
 pub returns : goal.returns
 returns c =
-    let s = c in
-    let a = s.args in
-    let p = s.requires.0 in
-    record { members = λ grid cell r ground q. crossings_put ground r cell _ q a.n p.0 a.k _ c.clear.ensures.members c.loop-v.v (search rules) c.loop-v.work c.loop-v.invariant.1; others = only_then _ _ a.work.now _ c.loop-v.work c.clear.ensures.others c.loop-v.invariant.1.others }
+    let a = c.args in
+    record { members = λ grid cell r ground q. crossings_put ground r cell _ q a.n c.requires.n_value.0 a.k _ c.clear.ensures.members c.loop-v.v (search rules) c.loop-v.work c.loop-v.invariant.1; others = only_then _ _ a.work.now _ c.loop-v.work c.clear.ensures.others c.loop-v.invariant.1.others }

@@ -32,15 +32,13 @@ overflow_add-i c = omega (arith, c.set_words-m.ensures)
 
 pub loop-i-preserved : goal.loop-i-preserved
 loop-i-preserved c =
-    let s = c in
-    let p = s.requires in
-    let a = s.args in
-    rw c.meet_word.ensures (meet_next a.n a.a a.b a.into a.work.now c.loop-i.i c.loop-i.work c.loop-i.invariant p.1.0 p.1.1 _ _ _
+    let a = c.args in
+    rw c.meet_word.ensures (meet_next a.n a.a a.b a.into a.work.now c.loop-i.i c.loop-i.work c.loop-i.invariant c.requires.fact.0 c.requires.fact.1 _ _ _
     c.region_at-x.ensures
     c.region_at-y.ensures
     c.region_at-z.ensures
     (omega (arith, c.set_words-m.ensures, c.loop-i-test.true))
-    p.0.2)
+    c.requires.n_in_bounds.2)
 
 pub returns : goal.returns
 returns c =

@@ -28,17 +28,14 @@ overflow_add-i c = omega (arith, c.set_words-m.ensures)
 
 pub loop-i-preserved : goal.loop-i-preserved
 loop-i-preserved c =
-    let s = c in
-    let p = s.requires in
-    let a = s.args in
-    rw c.unite_word.ensures (unite_next a.n a.from a.into a.work.now p.2 c.loop-i.i c.loop-i.work c.loop-i.invariant _ _
+    let a = c.args in
+    rw c.unite_word.ensures (unite_next a.n a.from a.into a.work.now c.requires.2 c.loop-i.i c.loop-i.work c.loop-i.invariant _ _
     c.region_at-x.ensures
     c.region_at-y.ensures
-    (omega (arith, c.set_words-m.ensures, c.loop-i-test.true)) p.1)
+    (omega (arith, c.set_words-m.ensures, c.loop-i-test.true)) c.requires.1)
 
 pub returns : goal.returns
 returns c =
-    let s = c in
-    let a = s.args in
-    record { members = unite_last a.n a.from a.into a.work.now s.requires.2 c.loop-i.i c.loop-i.work c.loop-i.invariant
+    let a = c.args in
+    record { members = unite_last a.n a.from a.into a.work.now c.requires.2 c.loop-i.i c.loop-i.work c.loop-i.invariant
           (omega (arith, c.set_words-m.ensures, c.loop-i-test.false)); others = c.loop-i.invariant.others }

@@ -11,29 +11,25 @@ use Rattle.access.proofs.toward.mark_back.Goals as goal
 
 pub loop-i-init : goal.loop-i-init
 loop-i-init c =
-    let s = c in
-    let a = s.args in
-    first _ a.n a.e _ s.requires.0.4 (search rules) a.work.now (search rules) c.clear.ensures.others
+    let a = c.args in
+    first _ a.n a.e _ c.requires.n_le_max_nodes.4 (search rules) a.work.now (search rules) c.clear.ensures.others
     c.clear.ensures.members
-    s.requires.0.3
+    c.requires.n_le_max_nodes.3
 
 pub mark_at-requires : goal.mark_at-requires
 mark_at-requires c =
-    let s = c in
-    let a = s.args in
-    let k = c.clear.auto.0 in record { n_le_max_nodes = (search rules, search rules, omega (arith, c.loop-i.invariant.size, k), node_in _ _ _ _ s.requires.0.4 (omega (arith, k)) c.loop-i.i c.loop-i.work c.loop-i.invariant (search rules)); indexed_edges = roads_only a.edges.now a.n a.work.now c.loop-i.work _ _ (omega arith)
-          (only_then _ _ a.work.now _ c.loop-i.work c.clear.ensures.others c.loop-i.invariant.others) s.requires.1 }
+    let a = c.args in
+    let k = c.clear.auto.work in record { n_le_max_nodes = (search rules, search rules, omega (arith, c.loop-i.invariant.size, k), node_in _ _ _ _ c.requires.n_le_max_nodes.4 (omega (arith, k)) c.loop-i.i c.loop-i.work c.loop-i.invariant (search rules)); indexed_edges = roads_only a.edges.now a.n a.work.now c.loop-i.work _ _ (omega arith)
+          (only_then _ _ a.work.now _ c.loop-i.work c.clear.ensures.others c.loop-i.invariant.others) c.requires.indexed_edges }
 
 pub loop-i-preserved : goal.loop-i-preserved
 loop-i-preserved c =
-    let s = c in
-    let a = s.args in
-    next _ _ _ _ s.requires.0.4 (omega (arith, c.clear.auto.0)) c.loop-i.i c.loop-i.work c.loop-i.invariant
-    (search rules) (arcs_positive a.n a.edges.now s.requires.1.ends) _ (search rules) c.mark_at.ensures.others
+    let a = c.args in
+    next _ _ _ _ c.requires.n_le_max_nodes.4 (omega (arith, c.clear.auto.work)) c.loop-i.i c.loop-i.work c.loop-i.invariant
+    (search rules) (arcs_positive a.n a.edges.now c.requires.indexed_edges.ends) _ (search rules) c.mark_at.ensures.others
     c.mark_at.ensures.members
 
 pub returns : goal.returns
 returns c =
-    let s = c in
-    let a = s.args in
-    let all = last _ _ _ _ s.requires.0.4 (omega (arith, c.clear.auto.0)) c.loop-i.i a.work.now c.loop-i.work (search rules) c.clear.ensures.others c.loop-i.invariant in record { members = all.0; others = all.1 }
+    let a = c.args in
+    let all = last _ _ _ _ c.requires.n_le_max_nodes.4 (omega (arith, c.clear.auto.work)) c.loop-i.i a.work.now c.loop-i.work (search rules) c.clear.ensures.others c.loop-i.invariant in record { members = all.0; others = all.1 }

@@ -11,19 +11,15 @@ use Rattle.access.proofs.toward.toward.Goals as goal
 
 pub search_wanted-e-requires : goal.search_wanted-e-requires
 search_wanted-e-requires c =
-    let s = c in
-    let a = s.args in
-    let p = s.requires in
-    record { n_le_max_nodes = (search rules, search rules, search rules, omega (arith, lacking_want a.n a.work.now, p.0.3), p.0.4); indexed_edges = search rules }
+    let a = c.args in
+    record { n_le_max_nodes = (search rules, search rules, search rules, omega (arith, lacking_want a.n a.work.now, c.requires.n_le_max_nodes.3), c.requires.n_le_max_nodes.4); indexed_edges = search rules }
 
 pub mark_back-requires : goal.mark_back-requires
 mark_back-requires c =
-    let start = c in
-    let a = start.args in
-    record { n_le_max_nodes = (search rules, c.search_wanted-e.ensures.found.1, search rules, stopped_ordered _ _ _ _ _ _ c.search_wanted-e.ensures.found.0, search rules); indexed_edges = roads_from a.edges.now a.n a.work.now _ (search_words a.n) (omega arith) c.search_wanted-e.ensures.others start.requires.1 }
+    let a = c.args in
+    record { n_le_max_nodes = (search rules, c.search_wanted-e.ensures.found.1, search rules, stopped_ordered _ _ _ _ _ _ c.search_wanted-e.ensures.found.0, search rules); indexed_edges = roads_from a.edges.now a.n a.work.now _ (search_words a.n) (omega arith) c.search_wanted-e.ensures.others c.requires.indexed_edges }
 
 pub returns : goal.returns
 returns c =
-    let start = c in
-    let a = start.args in
-    record { members = toward_found (arcs_in a.edges.now) a.n a.p c.search_wanted-e.result a.work.now _ _ c.search_wanted-e.ensures.found.0 c.search_wanted-e.ensures.others c.mark_back.ensures.members; others = rest_kept a.n a.work.now _ _ (omega (arith, start.requires.0.1)) c.search_wanted-e.ensures.others c.mark_back.ensures.others }
+    let a = c.args in
+    record { members = toward_found (arcs_in a.edges.now) a.n a.p c.search_wanted-e.result a.work.now _ _ c.search_wanted-e.ensures.found.0 c.search_wanted-e.ensures.others c.mark_back.ensures.members; others = rest_kept a.n a.work.now _ _ (omega (arith, c.requires.n_le_max_nodes.1)) c.search_wanted-e.ensures.others c.mark_back.ensures.others }

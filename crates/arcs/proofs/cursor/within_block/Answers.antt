@@ -4,6 +4,4 @@ use Rattle.arcs.proofs.Seek.{since_within}
 use Rattle.arcs.proofs.cursor.within_block.Goals as goal
 
 pub returns : goal.returns
-returns c =
-    let s = c in
-    since_within _ _ _ _ s.args.c _ s.requires c.first_incident-edge.ensures
+returns c = since_within _ _ _ _ c.args.c _ c.requires c.first_incident-edge.ensures

@@ -22,18 +22,14 @@ body-requires-5 c = c.oracle_contents-c.ensures _ (omega arith)
 
 pub same_bodies-requires : goal.same_bodies-requires
 same_bodies-requires c =
-    let s = c in
-    let a = s.args in
-    let p = s.requires in
-    bodies_asked a.o.now p.0 c.grid_of-grid.result c.grid_of-grid.ensures _ _ c.body.ensures c.body-2.ensures _ c.body-4.ensures a.n _ p.1
-    p.2
+    let a = c.args in
+    bodies_asked a.o.now c.requires.0 c.grid_of-grid.result c.grid_of-grid.ensures _ _ c.body.ensures c.body-2.ensures _ c.body-4.ensures a.n _ c.requires.1
+    c.requires.2
 
 pub returns : goal.returns
 returns c =
-    let s = c in
-    let a = s.args in
-    let p = s.requires in
-    let of_grid = bodies_told a.o.now p.0 c.grid_of-grid.result c.grid_of-grid.ensures in
+    let a = c.args in
+    let of_grid = bodies_told a.o.now c.requires.0 c.grid_of-grid.result c.grid_of-grid.ensures in
     let told = of_grid _ _ c.body.ensures c.body-2.ensures _ c.body-4.ensures (λ i. omega (arith, c.shared_slice_known-1.given i)) _ _ c.body-3.ensures
     c.body-5.ensures in
     record { same = c.same_bodies.ensures.same ∙ told; rest = c.same_bodies.ensures.rest }

@@ -18,42 +18,35 @@ mark_transit-requires c = record { ground = (c.requires.0, c.requires.1, c.requi
 
 pub returns-then-not-same_transit : goal.returns-then-not-same_transit
 returns-then-not-same_transit c =
-    let s = c in
-    let p = s.requires in
-    let a = s.args in record { same = first_differs a.nodes.now a.edges.now a.grid a.n p.1 a.transit.now a.access.now a.table.now _
-          c.mark_transit.ensures.members (sym c.same_transit.ensures ∙ not-true _ c.if-not-same_transit.true); rest = rest_marked a.edges.now a.n p.5 a.work.now _ _ c.build_index.ensures.roads c.build_index.ensures.behind
+    let a = c.args in record { same = first_differs a.nodes.now a.edges.now a.grid a.n c.requires.1 a.transit.now a.access.now a.table.now _
+          c.mark_transit.ensures.members (sym c.same_transit.ensures ∙ c.if-not-same_transit.true); rest = rest_marked a.edges.now a.n c.requires.5 a.work.now _ _ c.build_index.ensures.roads c.build_index.ensures.behind
           c.mark_transit.ensures.others }
 
 pub same_lists-requires : goal.same_lists-requires
 same_lists-requires c =
-    let s = c in
-    let a = s.args in
-    let p = s.requires in record { ground = (p.0, p.1, p.2, omega arith, p.4); work_value = (
+    let a = c.args in
+    record { ground = (c.requires.0, c.requires.1, c.requires.2, omega arith, c.requires.4); work_value = (
         c.mark_transit.ensures.members,
-        roads_marked a.edges.now a.n p.5 a.work.now _ _ c.build_index.ensures.roads c.build_index.ensures.behind
+        roads_marked a.edges.now a.n c.requires.5 a.work.now _ _ c.build_index.ensures.roads c.build_index.ensures.behind
             c.mark_transit.ensures.others,
       ) }
 
 pub returns-then-not-same_lists : goal.returns-then-not-same_lists
 returns-then-not-same_lists c =
-    let s = c in
-    let p = s.pre in
-    let a = s.args in
+    let p = c.pre in
+    let a = c.args in
     let first = first_same a.nodes.now a.edges.now a.grid a.n p.1 a.transit.now a.access.now a.table.now _
-    c.mark_transit.ensures.members (sym c.same_transit.ensures ∙ not-false _
-    c.if-not-same_transit.false) in record { same = second_differs a.nodes.now a.edges.now a.grid a.n p.1 a.transit.now a.access.now a.table.now _
-          c.mark_transit.ensures.members first (sym c.same_lists.ensures.same ∙ not-true _ c.if-not-same_lists.true); rest = rest_passed a.edges.now a.n p.5 a.work.now _ _ c.build_index.ensures.roads c.build_index.ensures.behind
+    c.mark_transit.ensures.members (sym c.same_transit.ensures ∙ c.if-not-same_transit.false) in record { same = second_differs a.nodes.now a.edges.now a.grid a.n p.1 a.transit.now a.access.now a.table.now _
+          c.mark_transit.ensures.members first (sym c.same_lists.ensures.same ∙ c.if-not-same_lists.true); rest = rest_passed a.edges.now a.n p.5 a.work.now _ _ c.build_index.ensures.roads c.build_index.ensures.behind
           c.mark_transit.ensures.others _ c.same_lists.ensures.others }
 
 pub overflow_mul-size : goal.overflow_mul-size
 overflow_mul-size c =
-    let s = c in
-    let a = s.args in
+    let a = c.args in
     omega (
       arith,
-      s.pre.2,
-      few_body a.n _ a.transit.now (sym c.same_transit.ensures ∙ not-false _
-          c.if-not-same_transit.false),
+      c.pre.2,
+      few_body a.n _ a.transit.now (sym c.same_transit.ensures ∙ c.if-not-same_transit.false),
     )
 
 pub same_table-requires : goal.same_table-requires
@@ -63,7 +56,7 @@ same_table-requires c =
         c.requires.2,
         omega arith,
         row_size a.n _ a.transit.now (sym c.same_transit.ensures ∙
-            not-false _ c.if-not-same_transit.false) _ same,
+            c.if-not-same_transit.false) _ same,
       ); indexed_edges = (
         roads_passed a.edges.now a.n c.requires.5 a.work.now _ _ c.build_index.ensures.roads c.build_index.ensures.behind
             c.mark_transit.ensures.others _ c.same_lists.ensures.others,
@@ -73,14 +66,12 @@ same_table-requires c =
 
 pub returns : goal.returns
 returns c =
-    let s = c in
-    let p = s.pre in
+    let p = c.pre in
     let build_index =
     c.build_index in
-    let a = s.args in
+    let a = c.args in
     let first = first_same a.nodes.now a.edges.now a.grid a.n p.1 a.transit.now a.access.now a.table.now _
-    c.mark_transit.ensures.members (sym c.same_transit.ensures ∙ not-false _
-    c.if-not-same_transit.false) in record { same = third_tells a.nodes.now a.edges.now a.grid a.n p.1 a.transit.now a.access.now a.table.now _
+    c.mark_transit.ensures.members (sym c.same_transit.ensures ∙ c.if-not-same_transit.false) in record { same = third_tells a.nodes.now a.edges.now a.grid a.n p.1 a.transit.now a.access.now a.table.now _
           (transit_kept a.n _ _ c.same_lists.ensures.others ∙ c.mark_transit.ensures.members) first
-          (sym c.same_lists.ensures.same ∙ not-false _ c.if-not-same_lists.false) _ c.same_table.ensures.same; rest = rest_last a.edges.now a.n p.5 a.work.now _ _ build_index.ensures.0 build_index.ensures.1.1
+          (sym c.same_lists.ensures.same ∙ c.if-not-same_lists.false) _ c.same_table.ensures.same; rest = rest_last a.edges.now a.n p.5 a.work.now _ _ build_index.ensures.0 build_index.ensures.1.1
           c.mark_transit.ensures.others _ c.same_lists.ensures.others _ c.same_table.ensures.others }

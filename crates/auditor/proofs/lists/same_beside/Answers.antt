@@ -11,26 +11,23 @@ beside-requires c = rw (← c.requires.ground.1) c.requires.ground.4
 
 pub returns-then-not-beside : goal.returns-then-not-beside
 returns-then-not-beside c = record { same = other_cell _ _ _ _ _ _ (sym (c.beside.ensures _ _ c.requires.ground.7)
-      ∙ not-true _ c.if-not-beside.true); others = refl }
+      ∙ c.if-not-beside.true); others = refl }
 
 pub same_from-requires : goal.same_from-requires
 same_from-requires c =
-    let s = c in
-    let a = s.args in
-    let p = s.requires in record { n_le_max_nodes = (
-        p.0.2,
-        p.0.4,
-        p.0.5,
-        among a.nodes.now a.edges.now a.grid a.n p.0.1 a.work.now a.u p.0.3 p.1.0.0
-            p.1.0.1,
-        listed a.n a.access.now p.0.6 a.v p.0.4,
-        p.1.1.0,
-      ); indexed_edges = p.1.1.1 }
+    let a = c.args in
+    record { n_le_max_nodes = (
+        c.requires.ground.2,
+        c.requires.ground.4,
+        c.requires.ground.5,
+        among a.nodes.now a.edges.now a.grid a.n c.requires.ground.1 a.work.now a.u c.requires.ground.3 c.requires.work_value.0
+            c.requires.work_value.1,
+        listed a.n a.access.now c.requires.ground.6 a.v c.requires.ground.4,
+        c.requires.sought.0,
+      ); indexed_edges = c.requires.sought.1 }
 
 pub returns : goal.returns
 returns c =
-    let s = c in
-    let a = s.args in
-    let p = s.requires in record { same = c.same_from.ensures.same ∙ this_cell a.nodes.now a.edges.now a.grid a.access.now a.u a.n p.0.1
-          a.work.now p.1.0.0 p.1.0.1 a.v (sym (c.beside.ensures _ _ p.0.7) ∙ not-false _
-          c.if-not-beside.false); others = c.same_from.ensures.others }
+    let a = c.args in
+    record { same = c.same_from.ensures.same ∙ this_cell a.nodes.now a.edges.now a.grid a.access.now a.u a.n c.requires.ground.1
+          a.work.now c.requires.work_value.0 c.requires.work_value.1 a.v (sym (c.beside.ensures _ _ c.requires.ground.7) ∙ c.if-not-beside.false); others = c.same_from.ensures.others }

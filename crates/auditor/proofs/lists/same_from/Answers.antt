@@ -10,9 +10,8 @@ search_own-requires c = (search rules, search rules, search rules, c.requires.n_
 
 pub is_list-requires : goal.is_list-requires
 is_list-requires c =
-    let s = c in
-    let a = s.args in
-    (search rules, search rules, among_later a.n a.work.now _ c.search_own.ensures.others s.requires.0.3, search rules)
+    let a = c.args in
+    (search rules, search rules, among_later a.n a.work.now _ c.search_own.ensures.others c.requires.n_le_max_nodes.3, search rules)
 
 pub returns : goal.returns
 returns c = record { same = c.is_list.ensures ∙ equal_both _ _ _ _ c.list_part.ensures c.search_own.ensures.list; others = c.search_own.ensures.others }

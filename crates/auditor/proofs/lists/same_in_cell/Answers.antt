@@ -20,24 +20,22 @@ loop-v-init c = (kept_same _ _, left_all _ _)
 
 pub same_beside-requires : goal.same_beside-requires
 same_beside-requires c =
-    let s = c in
-    let a = s.args in
-    let p = s.requires in
+    let a = c.args in
     record { ground = (
-        p.0.0,
-        p.0.1,
-        p.0.2,
-        p.0.3,
+        c.requires.ground.0,
+        c.requires.ground.1,
+        c.requires.ground.2,
+        c.requires.ground.3,
         c.loop-v-test.true,
         omega (arith, c.loop-v.invariant.0.size),
-        p.0.5,
+        c.requires.ground.5,
         c.cell_square-square.ensures,
       ); work_value = (
-          rw (transit_behind a.n a.work.now c.loop-v.work c.loop-v.invariant.0.behind) p.1.0.0,
-          rw (own_behind a.n a.work.now c.loop-v.work c.loop-v.invariant.0.behind) p.1.0.1,
+          rw (transit_behind a.n a.work.now c.loop-v.work c.loop-v.invariant.0.behind) c.requires.work_value.0,
+          rw (own_behind a.n a.work.now c.loop-v.work c.loop-v.invariant.0.behind) c.requires.work_value.1,
         ); sought = (
-          sought_later a.n a.left a.work.now p.1.1.0 c.loop-v.work c.loop-v.invariant.0.behind,
-          roads_behind a.n a.work.now c.loop-v.work c.loop-v.invariant.0.behind a.edges.now p.1.1.1,
+          sought_later a.n a.left a.work.now c.requires.sought.0 c.loop-v.work c.loop-v.invariant.0.behind,
+          roads_behind a.n a.work.now c.loop-v.work c.loop-v.invariant.0.behind a.edges.now c.requires.sought.1,
         ) }
 
 pub shape_of-work-then-not-same_beside : goal.shape_of-work-then-not-same_beside
@@ -45,12 +43,12 @@ shape_of-work-then-not-same_beside c = omega (arith, c.loop-v.invariant.0.size)
 
 pub returns-then-not-same_beside : goal.returns-then-not-same_beside
 returns-then-not-same_beside c = record { same = sym (left_fails _ _ _ c.loop-v.invariant.1 c.loop-v-test.true
-          (sym c.same_beside.ensures.same ∙ not-true _ c.if-not-same_beside.true)); others = c.same_beside.ensures.others ∙ c.loop-v.invariant.0.behind }
+          (sym c.same_beside.ensures.same ∙ c.if-not-same_beside.true)); others = c.same_beside.ensures.others ∙ c.loop-v.invariant.0.behind }
 
 pub loop-v-preserved : goal.loop-v-preserved
 loop-v-preserved c = (
       kept_then _ _ _ _ c.loop-v.invariant.0 (search rules) c.same_beside.ensures.others,
-      left_goes _ _ _ c.loop-v.invariant.1 c.loop-v-test.true (sym c.same_beside.ensures.same ∙ not-false _ c.if-not-same_beside.false),
+      left_goes _ _ _ c.loop-v.invariant.1 c.loop-v-test.true (sym c.same_beside.ensures.same ∙ c.if-not-same_beside.false),
     )
 
 pub shape_of-work : goal.shape_of-work

@@ -20,12 +20,10 @@ loop-u-init c = (refl, refl, left_all _ _)
 
 pub same_of_cell-requires : goal.same_of_cell-requires
 same_of_cell-requires c =
-    let s = c in
-    let a = s.args in
-    let p = s.requires in
-    record { ground = (p.0.0, p.0.1, p.0.2, c.loop-u-test.true, omega (arith, c.loop-u.invariant.0), p.0.4); work_value = (
-        transit_kept a.n a.work.now c.loop-u.work c.loop-u.invariant.1 ∙ p.1.0,
-        roads_from a.edges.now a.n a.work.now c.loop-u.work (region_at a.n transit) (omega arith) c.loop-u.invariant.1 p.1.1,
+    let a = c.args in
+    record { ground = (c.requires.ground.0, c.requires.ground.1, c.requires.ground.2, c.loop-u-test.true, omega (arith, c.loop-u.invariant.0), c.requires.ground.4); work_value = (
+        transit_kept a.n a.work.now c.loop-u.work c.loop-u.invariant.1 ∙ c.requires.work_value.0,
+        roads_from a.edges.now a.n a.work.now c.loop-u.work (region_at a.n transit) (omega arith) c.loop-u.invariant.1 c.requires.work_value.1,
       ) }
 
 pub shape_of-work-then-not-same_of_cell : goal.shape_of-work-then-not-same_of_cell
@@ -33,16 +31,15 @@ shape_of-work-then-not-same_of_cell c = omega (arith, c.loop-u.invariant.0)
 
 pub returns-then-not-same_of_cell : goal.returns-then-not-same_of_cell
 returns-then-not-same_of_cell c =
-    let s = c in
-    let a = s.args in record { same = sym (sym (by_cells_to a.nodes.now a.edges.now a.grid a.access.now a.n s.requires.0.1) ∙ left_fails _ _ _ c.loop-u.invariant.2
-          c.loop-u-test.true (sym c.same_of_cell.ensures.same ∙ not-true _ c.if-not-same_of_cell.true)); others = c.same_of_cell.ensures.others ∙ c.loop-u.invariant.1 }
+    let a = c.args in record { same = sym (sym (by_cells_to a.nodes.now a.edges.now a.grid a.access.now a.n c.requires.ground.1) ∙ left_fails _ _ _ c.loop-u.invariant.2
+          c.loop-u-test.true (sym c.same_of_cell.ensures.same ∙ c.if-not-same_of_cell.true)); others = c.same_of_cell.ensures.others ∙ c.loop-u.invariant.1 }
 
 pub loop-u-preserved : goal.loop-u-preserved
 loop-u-preserved c = (
       omega (arith, c.loop-u.invariant.0),
       c.same_of_cell.ensures.others ∙ c.loop-u.invariant.1,
       left_goes _ _ _ c.loop-u.invariant.2 c.loop-u-test.true
-          (sym c.same_of_cell.ensures.same ∙ not-false _ c.if-not-same_of_cell.false),
+          (sym c.same_of_cell.ensures.same ∙ c.if-not-same_of_cell.false),
     )
 
 pub shape_of-work : goal.shape_of-work
@@ -50,6 +47,5 @@ shape_of-work c = c.loop-u.invariant.0
 
 pub returns : goal.returns
 returns c =
-    let s = c in
-    let a = s.args in record { same = sym (sym (by_cells_to a.nodes.now a.edges.now a.grid a.access.now a.n s.requires.0.1) ∙ left_none _ _ _ c.loop-u.invariant.2
+    let a = c.args in record { same = sym (sym (by_cells_to a.nodes.now a.edges.now a.grid a.access.now a.n c.requires.ground.1) ∙ left_none _ _ _ c.loop-u.invariant.2
           c.loop-u-test.false); others = c.loop-u.invariant.1 }

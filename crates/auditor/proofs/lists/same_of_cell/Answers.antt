@@ -13,25 +13,22 @@ pub first_of_cell-requires : goal.first_of_cell-requires
 first_of_cell-requires c = (c.requires.ground.0.over, rw (← c.requires.ground.1) c.requires.ground.3)
 
 pub returns-then-not-first_of_cell : goal.returns-then-not-first_of_cell
-returns-then-not-first_of_cell c = record { same = later_node _ _ _ _ _ (sym c.first_of_cell_law.ensures ∙ not-true _ c.if-not-first_of_cell.true); others = refl }
+returns-then-not-first_of_cell c = record { same = later_node _ _ _ _ _ (sym c.first_of_cell.ensures ∙ c.if-not-first_of_cell.true); others = refl }
 
 pub same_in_cell-requires : goal.same_in_cell-requires
 same_in_cell-requires c =
-    let s = c in
-    let a = s.args in
-    let p = s.requires in record { ground = (p.0.0, p.0.1, p.0.2, p.0.3, omega arith, p.0.5); work_value = (
-          transit_kept a.n a.work.now _ c.own_wanted-left.ensures.others ∙ p.1.0,
+    let a = c.args in
+    record { ground = (c.requires.ground.0, c.requires.ground.1, c.requires.ground.2, c.requires.ground.3, omega arith, c.requires.ground.5); work_value = (
+          transit_kept a.n a.work.now _ c.own_wanted-left.ensures.others ∙ c.requires.work_value.0,
           c.own_wanted-left.ensures.members,
         ); sought = (
           c.own_wanted-left.ensures.sought,
           roads_from a.edges.now a.n a.work.now _ (region_at a.n transit)
-              (omega arith) c.own_wanted-left.ensures.others p.1.1,
+              (omega arith) c.own_wanted-left.ensures.others c.requires.work_value.1,
         ) }
 
 pub returns : goal.returns
 returns c =
-    let s = c in
-    let a = s.args in record { same = c.same_in_cell.ensures.same ∙ first_node a.nodes.now a.edges.now a.grid a.access.now a.u a.n
-          s.requires.0.1 (sym c.first_of_cell_law.ensures ∙ not-false _
-          c.if-not-first_of_cell.false); others = kept_more (search_words a.n) (region_at a.n transit) _ _ (omega arith) c.same_in_cell.ensures.others ∙
+    let a = c.args in record { same = c.same_in_cell.ensures.same ∙ first_node a.nodes.now a.edges.now a.grid a.access.now a.u a.n
+          c.requires.ground.1 (sym c.first_of_cell.ensures ∙ c.if-not-first_of_cell.false); others = kept_more (search_words a.n) (region_at a.n transit) _ _ (omega arith) c.same_in_cell.ensures.others ∙
           c.own_wanted-left.ensures.others }

@@ -10,12 +10,10 @@ returns-then-table-at c =
 
 pub returns-then-is_row : goal.returns-then-is_row
 returns-then-is_row c =
-    let s = c in
-    let a = s.args in
-    row_same a.table.now a.at a.size _ _ s.requires.1 (sym c.is_row.ensures ∙ c.if-is_row.true)
+    let a = c.args in
+    row_same a.table.now a.at a.size _ _ c.requires.1 (sym c.is_row.ensures ∙ c.if-is_row.true)
 
 pub returns-else-is_row : goal.returns-else-is_row
 returns-else-is_row c =
-    let s = c in
-    let a = s.args in
-    row_other a.table.now a.at a.size _ _ s.requires.1 (sym c.is_row.ensures ∙ c.if-is_row.false)
+    let a = c.args in
+    row_other a.table.now a.at a.size _ _ c.requires.1 (sym c.is_row.ensures ∙ c.if-is_row.false)

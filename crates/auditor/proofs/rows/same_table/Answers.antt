@@ -15,18 +15,16 @@ loop-v-init c = rows_first _ _ _ _
 
 pub same_from-requires : goal.same_from-requires
 same_from-requires c =
-    let s = c in
-    let p = s.requires in
-    let a = s.args in
+    let a = c.args in
     record { n_le_max_nodes = (
         search rules,
         search rules,
         omega (arith, c.loop-v.invariant.kept.size),
-        size_behind a.n a.work.now c.loop-v.work c.loop-v.invariant.kept.behind a.size p.0.2,
+        size_behind a.n a.work.now c.loop-v.work c.loop-v.invariant.kept.behind a.size c.requires.n_le_max_nodes.2,
         c.loop-v.invariant.left.within,
       ); indexed_edges = (
-        roads_behind a.n a.work.now c.loop-v.work c.loop-v.invariant.kept.behind a.edges.now p.1.0,
-        alone_later a.n transit a.work.now c.loop-v.work (omega arith) c.loop-v.invariant.kept.behind p.1.1,
+        roads_behind a.n a.work.now c.loop-v.work c.loop-v.invariant.kept.behind a.edges.now c.requires.indexed_edges.0,
+        alone_later a.n transit a.work.now c.loop-v.work (omega arith) c.loop-v.invariant.kept.behind c.requires.indexed_edges.1,
       ) }
 
 pub shape_of-work-in_default : goal.shape_of-work-in_default

@@ -17,21 +17,18 @@ open_words-requires c =
 
 pub keys_between-keys-requires : goal.keys_between-keys-requires
 keys_between-keys-requires c =
-    let if1 = c in
-    let k = block_kept _ _ _ _ (sym if1.block_refusal.ensures ∙ if1.if1.false) in
+    let k = block_kept _ _ _ _ (sym c.block_refusal-rule.ensures ∙ c.if-rule-ne0.false) in
     record { opened = (c.open_words.ensures.opened, k.named.firsts, k.named.seconds); starts_len_bound = (k.few_starts, k.few_ends) }
 
 pub given_block-requires : goal.given_block-requires
 given_block-requires c =
-    let if1 = c in
-    let k = block_kept _ _ _ _ (sym if1.block_refusal.ensures ∙ if1.if1.false) in
+    let k = block_kept _ _ _ _ (sym c.block_refusal-rule.ensures ∙ c.if-rule-ne0.false) in
     rw c.keys_between-keys.ensures.keys (keys_small _ _ _ k.named)
 
 pub returns : goal.returns
 returns c =
-    let if1 = c in
-    let k = stays _ _ _ c.open_words.ensures.opened c.keys_between-keys.auto.1.1.1.0 c.keys_between-keys.ensures.others in
+    let k = stays _ _ _ c.open_words.ensures.opened c.keys_between-keys.auto.work c.keys_between-keys.ensures.others in
     let (p, q, r) = c.given_block.ensures in
-    block_given _ _ _ _ _ if1.block_refusal.ensures c.given_block.result _ _ if1.if1.false
+    block_given _ _ _ _ _ c.block_refusal-rule.ensures c.given_block.result _ _ c.if-rule-ne0.false
     (record { keys = c.keys_between-keys.result; number = p; times = q; hops = r; are = c.keys_between-keys.ensures.keys })
     (k.rest ∙ c.open_words.ensures.rest) c.zero_words.ensures

@@ -19,19 +19,16 @@ store_time-requires c = omega (arith, c.node_count.ensures, c.requires.2, c.requ
 pub returns-then-left-eq0 : goal.returns-then-left-eq0
 unfolding words_needed
 returns-then-left-eq0 c =
-    let start = c in
-    let p = start.requires in
-    let a = start.args in
+    let a = c.args in
     let n = node_count (node_body a.o.now) in
-    let back = store_kept n a.s 0 _ p.2 (grid_at n) (omega arith) ∙ c.want_near-left.ensures.others in
+    let back = store_kept n a.s 0 _ c.requires.2 (grid_at n) (omega arith) ∙ c.want_near-left.ensures.others in
     let all = rw (c.store_time.ensures, c.node_count.ensures)
-    (itself_times _ _ _ _ _ c.want_near-left.ensures.wants p.3 c.if-left-eq0.true p.0.shape p.2 (omega (arith, p.0.room)), back) in record { times = all.0; others = all.1 }
+    (itself_times _ _ _ _ _ c.want_near-left.ensures.wants c.requires.3 c.if-left-eq0.true c.requires.0.shape c.requires.2 (omega (arith, c.requires.0.room)), back) in record { times = all.0; others = all.1 }
 
 pub search_until-requires : goal.search_until-requires
 search_until-requires c = record { opened = (opened_kept _ _ _ c.requires.0 (search rules) c.want_near-left.ensures.others, c.requires.2, want_two _ _ _ _ _ c.want_near-left.ensures.wants c.if-left-eq0.false); o_bound = want_lacking _ _ _ _ _ c.want_near-left.ensures.wants }
 
 pub returns : goal.returns
 returns c =
-    let start = c in
-    let n = node_count (node_body start.args.o.now) in
-    record { times = near_times _ _ _ _ _ c.want_near-left.ensures.wants start.requires.3 _ c.search_until.ensures.others c.search_until.ensures.times; others = kept_more (search_words n) (grid_at n) _ _ (omega arith) c.search_until.ensures.others ∙ c.want_near-left.ensures.others }
+    let n = node_count (node_body c.args.o.now) in
+    record { times = near_times _ _ _ _ _ c.want_near-left.ensures.wants c.requires.3 _ c.search_until.ensures.others c.search_until.ensures.times; others = kept_more (search_words n) (grid_at n) _ _ (omega arith) c.search_until.ensures.others ∙ c.want_near-left.ensures.others }

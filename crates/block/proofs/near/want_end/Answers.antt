@@ -18,12 +18,10 @@ put-requires c = (omega (arith, c.node_count-n.ensures), want_fits _ _ c.node_co
 
 pub returns-then-is_local : goal.returns-then-is_local
 returns-then-is_local c =
-    let b = c in
     let start = b in
     let a = start.args in
-    let e = b.node_count.ensures in
-    let local = local_told _ _ _ _ _ b.kind_in.ensures b.is_local.ensures ∙ b.if2.true in
-    let new = want_lacks _ _ e _ _ start.requires.3 (sym b.has.ensures ∙ b.if1.false) in record { wants = wants_put _ _ _ _ local (rw (wanted_size a.o.now a.work.now) start.requires.3) new _ (want_put _ _ e _ _ a.t c.put.ensures.members); others = want_only _ _ e _ _ c.put.ensures.others }
+    let local = local_told _ _ _ _ _ c.kind_in.ensures c.is_local.ensures ∙ c.if-is_local.true in
+    let new = want_lacks _ _ c.node_count-n.ensures _ _ start.requires.3 (sym c.has.ensures ∙ c.if-has.false) in record { wants = wants_put _ _ _ _ local (rw (wanted_size a.o.now a.work.now) start.requires.3) new _ (want_put _ _ c.node_count-n.ensures _ _ a.t c.put.ensures.members); others = want_only _ _ c.node_count-n.ensures _ _ c.put.ensures.others }
 
 pub returns : goal.returns
 returns c =

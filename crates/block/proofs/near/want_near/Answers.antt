@@ -19,15 +19,14 @@ pub clear-requires : goal.clear-requires
 clear-requires c = want_fits _ _ c.node_count-n.ensures _ c.requires.0
 
 pub put-requires : goal.put-requires
-put-requires c = (omega (arith, c.node_count-n.ensures), omega (arith, want_fits _ _ c.node_count-n.ensures _ c.requires.0, c.clear.auto.0))
+put-requires c = (omega (arith, c.node_count-n.ensures), omega (arith, want_fits _ _ c.node_count-n.ensures _ c.requires.0, c.clear.auto.work))
 
 pub loop-j-init : goal.loop-j-init
 loop-j-init c =
-    let start = c in
-    let a = start.args in
+    let a = c.args in
     let back = want_only _ _ c.node_count-n.ensures _ _ c.put.ensures.others ∙ want_only _ _ c.node_count-n.ensures a.work.now _ c.clear.ensures.others in
-    let wants = want_first _ _ c.node_count-n.ensures a.work.now _ _ a.s a.ends.now (omega (arith, c.node_count-n.ensures, start.requires.2)) c.clear.ensures.members c.put.ensures.members in
-    (omega arith, opened_kept _ _ _ start.requires.0 (search rules) back, wants, refl, refl)
+    let wants = want_first _ _ c.node_count-n.ensures a.work.now _ _ a.s a.ends.now (omega (arith, c.node_count-n.ensures, c.requires.2)) c.clear.ensures.members c.put.ensures.members in
+    (omega arith, opened_kept _ _ _ c.requires.0 (search rules) back, wants, refl, refl)
 
 pub overflow_cast-ends : goal.overflow_cast-ends
 overflow_cast-ends c = omega (arith, c.shared_slice_known-in-loop-j-1.given c.loop-j.j)

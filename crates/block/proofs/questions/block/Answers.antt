@@ -19,16 +19,13 @@ keys_between-keys-requires c =
 
 pub given_block-requires : goal.given_block-requires
 given_block-requires c =
-    let s = c in
-    let a = s.args in
-    let if1 = c in
-    let k = sides_there a.o.now a.starts.now a.ends.now a.work.now s.requires _ if1.sides_refusal.ensures if1.if1.false in
+    let a = c.args in
+    let k = sides_there a.o.now a.starts.now a.ends.now a.work.now c.requires _ c.sides_refusal-rule.ensures c.if-rule-ne0.false in
     rw c.keys_between-keys.ensures.keys (keys_small _ _ _ k.named)
 
 pub returns : goal.returns
 returns c =
     let a = c.args in
-    let if1 = c in
-    let k = stays a.o.now a.work.now _ c.requires c.keys_between-keys.auto.1.1.1.0 c.keys_between-keys.ensures.others in
-    let (number, times, hops) = c.given_block.ensures in record { result = opened_given a.o.now a.starts.now a.ends.now a.work.now c.requires _ if1.sides_refusal.ensures c.given_block.result if1.if1.false
+    let k = stays a.o.now a.work.now _ c.requires c.keys_between-keys.auto.work c.keys_between-keys.ensures.others in
+    let (number, times, hops) = c.given_block.ensures in record { result = opened_given a.o.now a.starts.now a.ends.now a.work.now c.requires _ c.sides_refusal-rule.ensures c.given_block.result c.if-rule-ne0.false
           (record { keys = c.keys_between-keys.result; number = number; times = times; hops = hops; are = c.keys_between-keys.ensures.keys }); opened = k.opened; rest = k.rest }

@@ -29,16 +29,14 @@ entry_of-requires c = (c.requires.opened.0, c.requires.opened.1, named_there _ _
 
 pub loop-j-preserved : goal.loop-j-preserved
 loop-j-preserved c =
-    let start = c in
-    let a = start.args in
-    let p = start.requires in
+    let a = c.args in
     (
       omega arith,
       c.loop-j.invariant.1,
       rw (c.loop-j.invariant.2, c.entry_of.ensures)
-          (row_store a.keys a.i c.loop-j.j _ _ (omega (arith, c.loop-j.invariant.1, p.1.1))
+          (row_store a.keys a.i c.loop-j.j _ _ (omega (arith, c.loop-j.invariant.1, c.requires.near_times.1))
           ∙ ap (λ (r : List ℕ). set a.keys a.i r) (row_more (time_word a.o.now) a.s a.ends.now c.loop-j.j c.loop-j-test.true
-          (omega (arith, p.0.3)))),
+          (omega (arith, c.requires.opened.3)))),
     )
 
 pub returns : goal.returns

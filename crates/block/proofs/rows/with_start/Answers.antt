@@ -16,31 +16,28 @@ with_row_again-requires c = (omega (arith, c.requires.starts_len_bound.0), omega
 
 pub returns-then-k-i : goal.returns-then-k-i
 returns-then-k-i c =
-    let s = c in
-    let a = s.args in
+    let a = c.args in
     let word = time_word a.o.now in
-    let p = s.requires in record { keys = c.with_row_again.ensures ∙ rw p.1.3 (ap (set (block_by word (take a.i a.starts.now) a.ends.now) a.i)
-          (row_before word a.starts.now a.ends.now a.i p.1.2 c.first_named-k.result c.if-k-i.true ∙
+    record { keys = c.with_row_again.ensures ∙ rw c.requires.starts_len_bound.3 (ap (set (block_by word (take a.i a.starts.now) a.ends.now) a.i)
+          (row_before word a.starts.now a.ends.now a.i c.requires.starts_len_bound.2 c.first_named-k.result c.if-k-i.true ∙
           ap (row_by word a.ends.now) c.first_named-k.ensures.1) ∙ block_more word a.starts.now a.ends.now a.i
-          p.1.2 (omega (arith, p.1.0))); others = refl }
+          c.requires.starts_len_bound.2 (omega (arith, c.requires.starts_len_bound.0))); others = refl }
 
 pub overflow_cast-starts : goal.overflow_cast-starts
 overflow_cast-starts c = omega (arith, c.shared_slice_known-4-1.given c.args.i)
 
 pub with_row-requires : goal.with_row-requires
 with_row-requires c =
-    let s = c in
-    let a = s.args in
+    let a = c.args in
     let word = time_word a.o.now in
-    let p = s.requires in record { opened = (p.0.0, p.0.1, named_there _ _ _ p.1.2 p.0.2, p.0.3, p.1.1); i_lt_max_names = (
-        omega (arith, p.1.0),
-        ap (λ (l : List (List ℕ)). get_or l a.i []) p.1.3 ∙ row_unused word a.starts.now a.ends.now a.i p.1.2
-            (omega (arith, p.1.0)),
+    record { opened = (c.requires.opened.0, c.requires.opened.1, named_there _ _ _ c.requires.starts_len_bound.2 c.requires.opened.2, c.requires.opened.3, c.requires.starts_len_bound.1); i_lt_max_names = (
+        omega (arith, c.requires.starts_len_bound.0),
+        ap (λ (l : List (List ℕ)). get_or l a.i []) c.requires.starts_len_bound.3 ∙ row_unused word a.starts.now a.ends.now a.i c.requires.starts_len_bound.2
+            (omega (arith, c.requires.starts_len_bound.0)),
       ) }
 
 pub returns : goal.returns
 returns c =
-    let s = c in
-    let a = s.args in
+    let a = c.args in
     let word = time_word a.o.now in
-    let p = s.requires in record { keys = c.with_row.ensures.keys ∙ rw p.1.3 (block_more word a.starts.now a.ends.now a.i p.1.2 (omega (arith, p.1.0))); others = c.with_row.ensures.others }
+    record { keys = c.with_row.ensures.keys ∙ rw c.requires.starts_len_bound.3 (block_more word a.starts.now a.ends.now a.i c.requires.starts_len_bound.2 (omega (arith, c.requires.starts_len_bound.0))); others = c.with_row.ensures.others }

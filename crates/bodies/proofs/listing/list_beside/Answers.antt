@@ -10,23 +10,17 @@ beside-requires c = omega (arith, c.requires.based.0.count)
 
 pub put_list-requires : goal.put_list-requires
 put_list-requires c =
-    let s = c in
-    let p = s.requires in
-    let a = s.args in
-    let all = list_room a.nodes.now a.edges.now a.grid a.n a.work.now p.0.0 a.u a.v p.0.1 p.0.2 p.1.0.0
-    a.body.now p.1.1 (sym (c.beside.ensures _ _ p.0.3) ∙ c.if-beside.true) a.left p.1.0.1 in record { n_le_max_nodes = all.0; indexed_edges = all.1.0; start_size_in_bounds = all.1.1 }
+    let a = c.args in
+    let all = list_room a.nodes.now a.edges.now a.grid a.n a.work.now c.requires.based.0 a.u a.v c.requires.based.1 c.requires.based.2 c.requires.work_value.0
+    a.body.now c.requires.listed_to (sym (c.beside.ensures _ _ c.requires.based.3) ∙ c.if-beside.true) a.left c.requires.work_value.1 in record { n_le_max_nodes = all.0; indexed_edges = all.1.0; start_size_in_bounds = all.1.1 }
 
 pub returns-then-beside : goal.returns-then-beside
 returns-then-beside c =
-    let s = c in
-    let p = s.requires in
-    let a = s.args in record { lists = list_done a.nodes.now a.edges.now a.grid a.n a.work.now p.0.0 a.u a.v p.0.1 p.0.2 p.1.0.0
-          a.body.now p.1.1 (sym (c.beside.ensures _ _ p.0.3) ∙
+    let a = c.args in record { lists = list_done a.nodes.now a.edges.now a.grid a.n a.work.now c.requires.based.0 a.u a.v c.requires.based.1 c.requires.based.2 c.requires.work_value.0
+          a.body.now c.requires.listed_to (sym (c.beside.ensures _ _ c.requires.based.3) ∙
           c.if-beside.true) _ c.put_list.ensures.bytes; others = c.put_list.ensures.others }
 
 pub returns-else-beside : goal.returns-else-beside
 returns-else-beside c =
-    let s = c in
-    let p = s.requires in
-    let a = s.args in record { lists = list_other a.nodes.now a.edges.now a.grid a.n a.work.now p.0.0 a.u a.v p.0.1 p.0.2 p.1.0.0
-          a.body.now p.1.1 (sym (c.beside.ensures _ _ p.0.3) ∙ c.if-beside.false); others = refl }
+    let a = c.args in record { lists = list_other a.nodes.now a.edges.now a.grid a.n a.work.now c.requires.based.0 a.u a.v c.requires.based.1 c.requires.based.2 c.requires.work_value.0
+          a.body.now c.requires.listed_to (sym (c.beside.ensures _ _ c.requires.based.3) ∙ c.if-beside.false); others = refl }

@@ -6,6 +6,5 @@ use Rattle.bodies.proofs.listing.lists_at.Goals as goal
 
 pub returns-else-first_of_cell : goal.returns-else-first_of_cell
 returns-else-first_of_cell c =
-    let s = c in
-    let a = s.args in record { lists = listed_later a.nodes.now a.edges.now a.grid a.n a.body.now a.u
-          (sym c.first_of_cell_law.ensures ∙ c.if-first_of_cell.false) s.requires.2; others = refl }
+    let a = c.args in record { lists = listed_later a.nodes.now a.edges.now a.grid a.n a.body.now a.u
+          (sym c.first_of_cell.ensures ∙ c.if-first_of_cell.false) c.requires.2; others = refl }

@@ -16,13 +16,11 @@ cell_square-square-requires c = (c.requires.0.ground.over, omega (arith, c.requi
 
 pub loop-v-init : goal.loop-v-init
 loop-v-init c =
-    let s = c in
-    let p = s.requires in
-    let a = s.args in
-    let b = based_still a.nodes.now a.edges.now a.grid a.n a.work.now _ p.0 (search rules) c.own_wanted-left.ensures.others in (
+    let a = c.args in
+    let b = based_still a.nodes.now a.edges.now a.grid a.n a.work.now _ c.requires.0 (search rules) c.own_wanted-left.ensures.others in (
       refl,
       record { based = b; owns = c.own_wanted-left.ensures.members; sought = c.own_wanted-left.ensures.sought; kept = refl; others = refl },
-      cell_none a.nodes.now a.edges.now a.grid a.n a.body.now a.u p.2,
+      cell_none a.nodes.now a.edges.now a.grid a.n a.body.now a.u c.requires.2,
     )
 
 pub list_beside-requires : goal.list_beside-requires

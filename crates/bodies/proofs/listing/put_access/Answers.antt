@@ -6,22 +6,18 @@ use Rattle.bodies.proofs.listing.put_access.Goals as goal
 
 pub put_starts-requires : goal.put_starts-requires
 put_starts-requires c =
-    let s = c in
-    let p = s.requires in
-    let a = s.args in (
-      p.0.0.words,
-      starts_fit a.nodes.now a.edges.now a.grid a.n a.work.now p.0.0 p.0.1 a.body.now p.1.0,
-      counted_all a.nodes.now a.edges.now a.grid a.n a.work.now p.0.0 p.0.1,
-      p.0.0.some,
+    let a = c.args in (
+      c.requires.based.0.words,
+      starts_fit a.nodes.now a.edges.now a.grid a.n a.work.now c.requires.based.0 c.requires.based.1 a.body.now c.requires.body_len.0,
+      counted_all a.nodes.now a.edges.now a.grid a.n a.work.now c.requires.based.0 c.requires.based.1,
+      c.requires.based.0.some,
     )
 
 pub put_lists-requires : goal.put_lists-requires
 put_lists-requires c =
-    let s = c in
-    let p = s.requires in
-    let a = s.args in (
-      p.0.0,
+    let a = c.args in (
+      c.requires.based.0,
       listed_first a.nodes.now a.edges.now a.grid a.n _
-          (begun_first a.nodes.now a.edges.now a.grid a.n a.work.now p.0.0 p.0.1 a.body.now p.1.0 _
-          c.put_starts.ensures p.1.1),
+          (begun_first a.nodes.now a.edges.now a.grid a.n a.work.now c.requires.based.0 c.requires.based.1 a.body.now c.requires.body_len.0 _
+          c.put_starts.ensures c.requires.body_len.1),
     )

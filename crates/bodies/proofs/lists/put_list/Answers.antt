@@ -13,23 +13,19 @@ search_own-requires c = (search rules, search rules, search rules, c.requires.n_
 
 pub list_size-size-requires : goal.list_size-size-requires
 list_size-size-requires c =
-    let s = c in
-    let p = s.requires in
-    let a = s.args in
-    omega (arith, p.0.0, members_few a.n 4 a.work.now, p.0.4.count)
+    let a = c.args in
+    omega (arith, c.requires.n_le_max_nodes.0, members_few a.n 4 a.work.now, c.requires.n_le_max_nodes.4.count)
 
 pub put_own-requires : goal.put_own-requires
 put_own-requires c =
-    let s = c in
-    let p = s.requires in
-    let a = s.args in
+    let a = c.args in
     let e = c.search_own.ensures.others in record { n_le_max_nodes = (
         search rules,
         search rules,
-        among_later a.n a.work.now _ e p.0.3,
-        c.list_size-size.ensures ∙ ap list_size (sought_later a.n a.left a.work.now p.0.4 _ e).count,
+        among_later a.n a.work.now _ e c.requires.n_le_max_nodes.3,
+        c.list_size-size.ensures ∙ ap list_size (sought_later a.n a.left a.work.now c.requires.n_le_max_nodes.4 _ e).count,
         search rules,
-      ); start_size_in_bounds = (search rules, omega (arith, c.list_size-size.ensures, p.1.1.1)) }
+      ); start_size_in_bounds = (search rules, omega (arith, c.list_size-size.ensures, c.requires.start_size_in_bounds.1)) }
 
 pub returns : goal.returns
 returns c =

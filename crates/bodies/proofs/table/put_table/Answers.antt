@@ -18,20 +18,16 @@ use Rattle.bodies.proofs.table.put_table.Goals as goal
 
 pub loop-v-init : goal.loop-v-init
 loop-v-init c =
-    let s = c in
-    let p = s.requires in
-    let a = s.args in
-    (refl, refl, refl, rows_start a.edges.now a.n a.work.now a.t a.out.now p.1.1.0 p.1.1.1)
+    let a = c.args in
+    (refl, refl, refl, rows_start a.edges.now a.n a.work.now a.t a.out.now c.requires.t_value.0 c.requires.t_value.1)
 
 pub put_row-at-requires : goal.put_row-at-requires
 put_row-at-requires c =
-    let start = c in
-    let a = start.args in
-    let p = start.requires in
+    let a = c.args in
     let s = region_later a.n transit a.work.now c.loop-v.work (omega arith) c.loop-v.invariant.2 in record { n_le_max_nodes = search rules; indexed_edges = (
-          roads_from a.edges.now a.n a.work.now c.loop-v.work (search_words a.n) (omega arith) c.loop-v.invariant.2 p.1.0.0,
-          alone_later a.n transit a.work.now c.loop-v.work (omega arith) c.loop-v.invariant.2 p.1.0.1,
-        ); t_value = (rw s p.1.1.0, rw s (written_fits (members_step _ _ _ _ c.loop-v-test.true) c.loop-v.invariant.3)) }
+          roads_from a.edges.now a.n a.work.now c.loop-v.work (search_words a.n) (omega arith) c.loop-v.invariant.2 c.requires.indexed_edges.0,
+          alone_later a.n transit a.work.now c.loop-v.work (omega arith) c.loop-v.invariant.2 c.requires.indexed_edges.1,
+        ); t_value = (rw s c.requires.t_value.0, rw s (written_fits (members_step _ _ _ _ c.loop-v-test.true) c.loop-v.invariant.3)) }
 
 pub loop-v-preserved : goal.loop-v-preserved
 loop-v-preserved c =

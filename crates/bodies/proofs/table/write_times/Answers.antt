@@ -16,5 +16,5 @@ write_row-requires c =
 pub returns : goal.returns
 returns c =
     let a = c.args in
-    bytes_written a.at (value_size * a.t) a.out.now c.requires.2 c.write_row.new.1.1.1.0 _ c.write_row.auto.1.1.1.0
+    bytes_written a.at (value_size * a.t) a.out.now c.requires.2 c.write_row.new.out _ c.write_row.auto.out
     (rw c.region.ensures.0 at c.write_row.ensures)

@@ -24,65 +24,54 @@ bytes c i = omega (
 plan : (c : goal.After-access_size-a) →
     let a = c.args in
     Planned a.nodes.now a.edges.now a.grid a.n
-    c.count-t.result c.access_size-a.result c.prepare.new.1.1.1.1.0
+    c.count-t.result c.access_size-a.result c.prepare.new.work
 plan c =
-    let s = c in
-    let p = s.requires in
-    let a = s.args in
-    planned a.network.now a.dv a.nodes.now a.edges.now a.grid a.n p.0 _
-    (omega (arith, p.1, c.prepare.auto.1.1.1.1.0)) c.prepare.ensures.members c.prepare.ensures.counted c.prepare.ensures.roads _ _
+    let a = c.args in
+    planned a.network.now a.dv a.nodes.now a.edges.now a.grid a.n c.requires.0 _
+    (omega (arith, c.requires.1, c.prepare.auto.work)) c.prepare.ensures.members c.prepare.ensures.counted c.prepare.ensures.roads _ _
     c.count-t.ensures c.access_size-a.ensures
 
 sized : (c : goal.After-access_size-a) →
     let a = c.args in
     whole_size (length a.network.now) c.count-t.result c.access_size-a.result ≡ length (oracle a.network.now a.dv)
 sized c =
-    let s = c in
-    let a = s.args in
-    size_is a.network.now a.dv a.nodes.now a.edges.now a.grid a.n s.requires.0 (bytes c) _ _ (plan c).transits
+    let a = c.args in
+    size_is a.network.now a.dv a.nodes.now a.edges.now a.grid a.n c.requires.0 (bytes c) _ _ (plan c).transits
     (plan c).access
 
 small : (c : goal.After-access_size-a) →
     let a = c.args in
     whole_size (length a.network.now) c.count-t.result c.access_size-a.result < 4294967296
 small c =
-    let s = c in
-    let a = s.args in
-    size_small a.network.now a.dv a.nodes.now a.edges.now a.grid a.n s.requires.0 (bytes c) _ _ (plan c).transits
+    let a = c.args in
+    size_small a.network.now a.dv a.nodes.now a.edges.now a.grid a.n c.requires.0 (bytes c) _ _ (plan c).transits
     (plan c).access
 
 pub prepare-requires : goal.prepare-requires
 prepare-requires c =
-    let s = c in
-    let p = s.requires in
-    let a = s.args in
-    pass_requires a.network.now a.dv a.nodes.now a.edges.now a.grid a.n p.0 a.work.now p.1
+    let a = c.args in
+    pass_requires a.network.now a.dv a.nodes.now a.edges.now a.grid a.n c.requires.0 a.work.now c.requires.1
 
 pub count-t-requires : goal.count-t-requires
 count-t-requires c =
-    let s = c in
-    let p = s.requires in
-    let a = s.args in
+    let a = c.args in
     omega (
       arith,
-      laid_some a.network.now a.dv a.nodes.now a.edges.now a.grid a.n p.0,
-      p.1,
-      c.prepare.auto.1.1.1.1.0,
+      laid_some a.network.now a.dv a.nodes.now a.edges.now a.grid a.n c.requires.0,
+      c.requires.1,
+      c.prepare.auto.work,
     )
 
 pub access_size-a-requires : goal.access_size-a-requires
 access_size-a-requires c =
-    let s = c in
-    let p = s.requires in
-    let a = s.args in
-    sizes_requires a.network.now a.dv a.nodes.now a.edges.now a.grid a.n p.0 _
-    (omega (arith, p.1, c.prepare.auto.1.1.1.1.0)) c.prepare.ensures.members c.prepare.ensures.counted c.prepare.ensures.roads
+    let a = c.args in
+    sizes_requires a.network.now a.dv a.nodes.now a.edges.now a.grid a.n c.requires.0 _
+    (omega (arith, c.requires.1, c.prepare.auto.work)) c.prepare.ensures.members c.prepare.ensures.counted c.prepare.ensures.roads
 
 pub whole_size-size-requires : goal.whole_size-size-requires
 whole_size-size-requires c =
-    let s = c in
-    let a = s.args in
-    (long a.network.now a.dv a.nodes.now a.edges.now a.grid a.n s.requires.0, small c)
+    let a = c.args in
+    (long a.network.now a.dv a.nodes.now a.edges.now a.grid a.n c.requires.0, small c)
 
 pub returns-then-out-size : goal.returns-then-out-size
 returns-then-out-size c =
@@ -90,9 +79,7 @@ returns-then-out-size c =
 
 pub write_oracle-requires : goal.write_oracle-requires
 write_oracle-requires c =
-    let s = c in
-    let start = c in
-    let a = s.args in record { planned = (plan (start), joined a.network.now a.dv a.nodes.now a.edges.now a.grid a.n s.requires.0 (bytes (start))); a_in_bounds = (omega (arith, c.if-out-size.false, c.whole_size-size.ensures), small (start)) }
+    let a = c.args in record { planned = (plan (start), joined a.network.now a.dv a.nodes.now a.edges.now a.grid a.n c.requires.0 (bytes (start))); a_in_bounds = (omega (arith, c.if-out-size.false, c.whole_size-size.ensures), small (start)) }
 
 pub overflow_cast-result : goal.overflow_cast-result
 overflow_cast-result c = omega (
@@ -107,10 +94,8 @@ overflow_cast-result-2 c = omega (arith, small c)
 
 pub returns : goal.returns
 returns c =
-    let s = c in
-    let start = c in
-    let pre = s.pre in
-    let a = s.args in
+    let pre = c.pre in
+    let a = c.args in
     let p = plan (start) in record { given = given_built a.network.now a.dv a.out.now _ _ _ (c.whole_size-size.ensures ∙ sized (start))
           (p.transits ∙ ap length (transits_are a.network.now a.dv a.nodes.now a.edges.now a.grid a.n pre.0))
           (omega (arith, c.if-out-size.false, c.whole_size-size.ensures, sized (start)))

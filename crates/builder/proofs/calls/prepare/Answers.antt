@@ -16,6 +16,5 @@ mark_transit-requires c = record { ground = (c.requires.0, c.requires.1, c.requi
 
 pub returns : goal.returns
 returns c =
-    let s = c in
-    let a = s.args in
-    record { members = c.mark_transit.ensures.members; counted = c.mark_transit.ensures.counted; roads = roads_kept a.edges.now a.n _ _ c.mark_transit.ensures.others c.build_index.ensures.roads; behind = kept_more (index_at a.n) (work_words a.n) _ _ (omega (arith, s.requires.4)) c.mark_transit.ensures.others ∙ c.build_index.ensures.behind }
+    let a = c.args in
+    record { members = c.mark_transit.ensures.members; counted = c.mark_transit.ensures.counted; roads = roads_kept a.edges.now a.n _ _ c.mark_transit.ensures.others c.build_index.ensures.roads; behind = kept_more (index_at a.n) (work_words a.n) _ _ (omega (arith, c.requires.4)) c.mark_transit.ensures.others ∙ c.build_index.ensures.behind }

@@ -22,4 +22,4 @@ write_head-requires c =
 pub returns : goal.returns
 returns c =
     let a = c.args in
-    wrote_front oracle_head a.out.now c.write_head.new.1.1.0 _ (search rules) c.write_head.auto.1.1.0 c.write_head.ensures
+    wrote_front oracle_head a.out.now c.write_head.new.out _ (search rules) c.write_head.auto.out c.write_head.ensures

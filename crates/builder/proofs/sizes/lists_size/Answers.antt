@@ -22,12 +22,10 @@ overflow_add-sum c = omega (
 )
 
 pub loop-v-preserved : goal.loop-v-preserved
-loop-v-preserved c =
-    let s = c in
-    (
+loop-v-preserved c = (
       search rules,
-      omega (arith, c.list_size-sum.ensures, s.requires.2 c.loop-v.v c.loop-v-test.true),
-      omega (arith, c.list_size-sum.ensures, sum_step s.args.counts.now s.args.n c.loop-v.v c.loop-v-test.true, c.loop-v.invariant.2),
+      omega (arith, c.list_size-sum.ensures, c.requires.2 c.loop-v.v c.loop-v-test.true),
+      omega (arith, c.list_size-sum.ensures, sum_step c.args.counts.now c.args.n c.loop-v.v c.loop-v-test.true, c.loop-v.invariant.2),
     )
 
 pub returns : goal.returns

@@ -9,18 +9,14 @@ use Rattle.builder.proofs.whole.put_back.Goals as goal
 
 pub put_transit-lists-requires : goal.put_transit-lists-requires
 put_transit-lists-requires c =
-    let s = c in
-    let p = s.requires in
-    let a = s.args in
-    transit_room a.nodes.now a.edges.now a.grid a.n a.t a.a a.work.now p.0 a.at _ p.1
+    let a = c.args in
+    transit_room a.nodes.now a.edges.now a.grid a.n a.t a.a a.work.now c.requires.0 a.at _ c.requires.1
 
 pub access_part-table-requires : goal.access_part-table-requires
 access_part-table-requires c =
-    let s = c in
-    let p = s.requires in
-    let a = s.args in
-    let all = access_room a.nodes.now a.edges.now a.grid a.n a.t a.a a.work.now p.0 a.at _ a.out.now _
-    c.put_transit-lists.ensures p.1 (search rules) p.2 in record { based = all.0; a_value = all.1 }
+    let a = c.args in
+    let all = access_room a.nodes.now a.edges.now a.grid a.n a.t a.a a.work.now c.requires.0 a.at _ a.out.now _
+    c.put_transit-lists.ensures c.requires.1 (search rules) c.requires.2 in record { based = all.0; a_value = all.1 }
 
 pub table_part-requires : goal.table_part-requires
 table_part-requires c =

@@ -6,15 +6,12 @@ use Rattle.builder.proofs.whole.put_front.Goals as goal
 
 pub put_grid-requires : goal.put_grid-requires
 put_grid-requires c =
-    let s = c in
-    let a = s.args in
-    omega (arith, front_ends a.network.now a.dv a.sizes s.requires.0 c.put_network-at.ensures)
+    let a = c.args in
+    omega (arith, front_ends a.network.now a.dv a.sizes c.requires.0 c.put_network-at.ensures)
 
 pub returns : goal.returns
 returns c =
-    let s = c in
-    let p = s.requires in
-    let a = s.args in
-    front_written a.network.now a.dv a.sizes p.0
+    let a = c.args in
+    front_written a.network.now a.dv a.sizes c.requires.0
     c.put_head.ensures
-    c.put_network-at.ensures c.put_grid.ensures p.1
+    c.put_network-at.ensures c.put_grid.ensures c.requires.1

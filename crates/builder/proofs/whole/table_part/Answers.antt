@@ -9,12 +9,10 @@ use Rattle.builder.proofs.whole.table_part.Goals as goal
 
 pub put_table-requires : goal.put_table-requires
 put_table-requires c =
-    let s = c in
-    let a = s.args in
-    let p = s.requires.0 in
-    record { n_le_max_nodes = (p.0, p.1); indexed_edges = s.requires.1; t_value = (p.2, part_length a.at (value_size * a.t * a.t) a.out.now p.3) }
+    let a = c.args in
+    record { n_le_max_nodes = (c.requires.n_le_max_nodes.0, c.requires.n_le_max_nodes.1); indexed_edges = c.requires.indexed_edges; t_value = (c.requires.n_le_max_nodes.2, part_length a.at (value_size * a.t * a.t) a.out.now c.requires.n_le_max_nodes.3) }
 
 pub returns : goal.returns
 returns c =
-    let a = c.args in record { bytes = wrote_part a.at _ a.out.now c.put_table.new.1.1.1.1.0 _ (omega arith) (omega arith) c.put_table.auto.1.1.1.1.0
+    let a = c.args in record { bytes = wrote_part a.at _ a.out.now c.put_table.new.out _ (omega arith) (omega arith) c.put_table.auto.out
           c.put_table.ensures.bytes; others = c.put_table.ensures.others }

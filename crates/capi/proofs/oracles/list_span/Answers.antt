@@ -13,11 +13,11 @@ list_part-size-requires c = rw c.oracle_body-access.ensures (_, has_list _ (all_
 
 pub overflow_add-entry_at : goal.overflow_add-entry_at
 unfolding entry_at
-overflow_add-entry_at c = omega (arith, c.entry_at_law.ensures)
+overflow_add-entry_at c = omega (arith, c.entry_at.ensures)
 
 pub read32-requires : goal.read32-requires
 unfolding entry_at
-read32-requires c = omega (arith, c.entry_at_law.ensures, long _ (all_shaped _ c.requires.0))
+read32-requires c = omega (arith, c.entry_at.ensures, long _ (all_shaped _ c.requires.0))
 
 pub list_start-requires : goal.list_start-requires
 list_start-requires c = rw c.oracle_body-access.ensures (
@@ -30,11 +30,11 @@ pub overflow_add-start : goal.overflow_add-start
 overflow_add-start c = omega (
   arith,
   start_within _ (all_shaped _ c.requires.0) _ c.requires.1 _
-      c.oracle_body-access.ensures _ c.list_start_law.ensures,
+      c.oracle_body-access.ensures _ c.list_start.ensures,
 )
 
 pub returns : goal.returns
 unfolding entry_at
 returns c = place _ (all_shaped _ c.requires.0) _ c.requires.1 _
-    c.oracle_body-access.ensures _ c.list_start_law.ensures _ _ (c.read32.ensures
-    ∙ rw c.entry_at_law.ensures) c.list_part-size.ensures
+    c.oracle_body-access.ensures _ c.list_start.ensures _ _ (c.read32.ensures
+    ∙ rw c.entry_at.ensures) c.list_part-size.ensures

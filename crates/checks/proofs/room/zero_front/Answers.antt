@@ -12,4 +12,4 @@ slice_bounds-fill-end-2 c = sym (length-take-le c.args.k c.args.work.now (omega 
 pub returns : goal.returns
 returns c =
     let a = c.args in
-    cleared_front a.work.now c.fill.new.0 a.k (omega arith) c.fill.ensures
+    cleared_front a.work.now c.fill.new.s a.k (omega arith) c.fill.ensures

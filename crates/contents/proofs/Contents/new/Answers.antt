@@ -5,4 +5,4 @@ use Rattle.contents.proofs.Contents.new.Goals as goal
 
 pub returns : goal.returns
 unfolding no_contents
-returns c = rw (← c.entry_at_law.ensures)
+returns c = rw (← c.entry_at-end.ensures)

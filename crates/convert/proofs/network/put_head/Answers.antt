@@ -18,4 +18,4 @@ write_head-requires c = (omega arith, omega arith, omega arith, length-take-le n
 pub returns : goal.returns
 returns c =
     let a = c.args in
-    wrote_front network_head a.out.now c.write_head.new.1.1.0 _ (search rules) c.write_head.auto.1.1.0 c.write_head.ensures
+    wrote_front network_head a.out.now c.write_head.new.out _ (search rules) c.write_head.auto.out c.write_head.ensures

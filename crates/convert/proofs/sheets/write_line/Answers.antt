@@ -8,7 +8,7 @@ use borrow.Author.Rules.{rules}
 use Rattle.convert.proofs.sheets.write_line.Goals as goal
 
 pub returns-then-not-is_open : goal.returns-then-not-is_open
-returns-then-not-is_open c = line_none _ _ _ _ c.line_edge-i.ensures.0 _ _ (sym c.is_open.ensures ∙ not-true _ c.if-not-is_open.true)
+returns-then-not-is_open c = line_none _ _ _ _ c.line_edge-i.ensures.0 _ _ (sym c.is_open.ensures ∙ c.if-not-is_open.true)
 
 pub overflow_sub-edge : goal.overflow_sub-edge
 overflow_sub-edge c =
@@ -18,8 +18,8 @@ overflow_sub-edge c =
 pub put_line-requires : goal.put_line-requires
 put_line-requires c =
     let a = c.args in
-    line_fits _ _ _ _ c.line_edge-i.ensures.0 a.out.now a.at (sym c.is_open.ensures ∙ not-false _ c.if-not-is_open.false) c.requires.k_in_bounds
+    line_fits _ _ _ _ c.line_edge-i.ensures.0 a.out.now a.at (sym c.is_open.ensures ∙ c.if-not-is_open.false) c.requires.k_in_bounds
 
 pub returns : goal.returns
-returns c = line_wrote _ _ _ _ c.line_edge-i.ensures.0 _ _ (sym c.is_open.ensures ∙ not-false _ c.if-not-is_open.false) _ _ c.closed_before.ensures
+returns c = line_wrote _ _ _ _ c.line_edge-i.ensures.0 _ _ (sym c.is_open.ensures ∙ c.if-not-is_open.false) _ _ c.closed_before.ensures
     c.read32-added.ensures c.put_line.ensures

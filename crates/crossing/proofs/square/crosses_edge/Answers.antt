@@ -19,10 +19,7 @@ edge_second-requires c = omega arith
 
 pub has-second-requires : goal.has-second-requires
 unfolding node_count
-has-second-requires c =
-    let s = c in
-    let p = s.requires in
-    omega (arith, (edge_fine _ _ p.0 s.args.i p.1).second_in, c.edge_second.ensures)
+has-second-requires c = omega (arith, (edge_fine _ _ c.requires.0 c.args.i c.requires.1).second_in, c.edge_second.ensures)
 
 pub returns : goal.returns
 returns c =

@@ -7,4 +7,4 @@ use Rattle.emit.proofs.copy.put.Goals as goal
 pub returns : goal.returns
 returns c =
     let a = c.args in
-    wrote_part a.at _ a.out.now c.copy.new.1.0 _ (omega arith) (omega arith) c.copy.auto.1.0 c.copy.ensures
+    wrote_part a.at _ a.out.now c.copy.new.to _ (omega arith) (omega arith) c.copy.auto.to c.copy.ensures

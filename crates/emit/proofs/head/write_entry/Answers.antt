@@ -25,16 +25,15 @@ overflow_add-at-2 c = omega arith
 
 pub write32-requires-2 : goal.write32-requires-2
 unfolding entry_at
-write32-requires-2 c = omega (arith, simp length-set at c.write32.auto.0)
+write32-requires-2 c = omega (arith, simp length-set at c.write32.auto.b)
 
 pub shape_of-out : goal.shape_of-out
-shape_of-out c = omega (arith, simp length-set at c.write32.auto.0)
+shape_of-out c = omega (arith, simp length-set at c.write32.auto.b)
 
 pub returns : goal.returns
 unfolding entry_at
 returns c =
     let out = c.args.out.now in
-    let at = c.entry_at_law in
-    let h : at.result + contents_entry_size ≤ length out = omega arith in
-    rw (← at.ensures) (contents_written _ _ _ _ _ _ _ h c.write32.ensures
+    let h : c.entry_at-at.result + contents_entry_size ≤ length out = omega arith in
+    rw (← c.entry_at-at.ensures) (contents_written _ _ _ _ _ _ _ h c.write32.ensures
     c.write32-2.ensures)

@@ -24,15 +24,14 @@ bounds-out-1 c = simp length-set (omega arith)
 pub loop-k-init : goal.loop-k-init
 loop-k-init c =
     let a = c.args in
-    let entry_at_law = c.entry_at_law in
     let long : 2 ≤ length a.out.now = unfold entry_at in omega arith in
     let start = written_start refl (c.requires.3 ∙ sym (length_head a.edition a.sizes.now)) in
     let two = head_wrote a.out.now a.edition (length a.sizes.now) long in (
       omega arith,
       refl,
-      rw entry_at_law.ensures c.requires.2,
+      rw c.entry_at-offset.ensures c.requires.2,
       simp length-set c.requires.3,
-      rw entry_at_law.ensures (written_next (head_start a.edition a.sizes.now) start two),
+      rw c.entry_at-offset.ensures (written_next (head_start a.edition a.sizes.now) start two),
     )
 
 pub write_entry-requires : goal.write_entry-requires

@@ -8,12 +8,12 @@ use borrow.Author.Rules.{rules}
 use Rattle.emit.proofs.lists.same_entry.Goals as goal
 
 pub returns-then-not-contains : goal.returns-then-not-contains
-returns-then-not-contains c = compared_out _ _ _ _ _ (sym c.contains.ensures ∙ not-true _ c.if-not-contains.true)
+returns-then-not-contains c = compared_out _ _ _ _ _ (sym c.contains.ensures ∙ c.if-not-contains.true)
 
 pub returns-in_default : goal.returns-in_default
 unfolding indexed_bytes time_bytes
 returns-in_default c = then_different _ _ _ _ (sym c.same16.ensures ∙ c.in_default.is) ∙ compared_in _ _ _ _ _
-    (sym c.contains.ensures ∙ not-false _ c.if-not-contains.false)
+    (sym c.contains.ensures ∙ c.if-not-contains.false)
 
 pub same_value-requires : goal.same_value-requires
 same_value-requires c =
@@ -25,5 +25,5 @@ unfolding indexed_bytes time_bytes
 returns c =
     let first = sym c.same16.ensures ∙ c.in-Same.is in
     let i = sym c.contains.ensures
-    ∙ not-false _ c.if-not-contains.false in
+    ∙ c.if-not-contains.false in
     rw c.time_of.ensures.1 at c.same_value.ensures ∙ then_same _ _ _ _ _ first ∙ compared_in _ _ _ _ _ i

@@ -32,18 +32,16 @@ same_entry-requires c = (search rules, search rules, search rules, c.loop-u.inva
 
 pub returns-in_default-same_entry : goal.returns-in_default-same_entry
 returns-in_default-same_entry c =
-    let s = c in
-    let a = s.args in
-    let next = entries_step a.n a.access.now a.transit.now a.work.now _ _ c.loop-u-test.true s.requires.4 c.loop-u.invariant.1
+    let a = c.args in
+    let next = entries_step a.n a.access.now a.transit.now a.work.now _ _ c.loop-u-test.true c.requires.4 c.loop-u.invariant.1
     in
     sym (left_different next c.loop-u.invariant.2 (sym c.same_entry.ensures ∙ c.in_default-same_entry.is))
 
 pub loop-u-preserved : goal.loop-u-preserved
 loop-u-preserved c =
-    let s = c in
-    let a = s.args in
+    let a = c.args in
     let next = entries_step a.n a.access.now a.transit.now a.work.now _ _ c.loop-u-test.true
-    s.requires.4 c.loop-u.invariant.1 in (
+    c.requires.4 c.loop-u.invariant.1 in (
       search rules,
       rank_next _ _ _ _ c.loop-u.invariant.1 c.flag_of-rank.ensures.0,
       left_next next c.loop-u.invariant.2 (sym c.same_entry.ensures ∙ c.in-Same-same_entry.is),

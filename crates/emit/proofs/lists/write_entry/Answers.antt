@@ -10,31 +10,26 @@ use borrow.Author.Rules.{rules}
 use Rattle.emit.proofs.lists.write_entry.Goals as goal
 
 pub returns-then-not-contains : goal.returns-then-not-contains
-returns-then-not-contains c = wrote_out _ _ _ _ _ (sym c.contains.ensures ∙ not-true _ c.if-not-contains.true)
+returns-then-not-contains c = wrote_out _ _ _ _ _ (sym c.contains.ensures ∙ c.if-not-contains.true)
 
 pub write16-requires : goal.write16-requires
 write16-requires c =
-    let s = c in
-    let a = s.args in
-    let f = fits_in _ _ _ _ _ (sym c.contains.ensures ∙ not-false _ c.if-not-contains.false) s.requires.1 in
+    let a = c.args in
+    let f = fits_in _ _ _ _ _ (sym c.contains.ensures ∙ c.if-not-contains.false) c.requires.v_in_bounds in
     omega (arith, f, length_indexed (times_in a.n a.work.now) a.index a.v)
 
 pub write_value-requires : goal.write_value-requires
 write_value-requires c =
-    let s = c in
-    let a = s.args in
-    let f = fits_in _ _ _ _ _ (sym c.contains.ensures ∙ not-false _
-    c.if-not-contains.false) s.requires.1 in
+    let a = c.args in
+    let f = fits_in _ _ _ _ _ (sym c.contains.ensures ∙ c.if-not-contains.false) c.requires.v_in_bounds in
     omega (arith, f, length_indexed (times_in a.n a.work.now) a.index a.v)
 
 pub returns : goal.returns
 returns c =
-    let s = c in
-    let a = s.args in
+    let a = c.args in
     let long = length_indexed (times_in a.n a.work.now) a.index a.v in
-    let i = sym c.contains.ensures ∙ not-false _
-    c.if-not-contains.false in
-    let f = fits_in _ _ _ _ _ i s.requires.1 in
+    let i = sym c.contains.ensures ∙ c.if-not-contains.false in
+    let f = fits_in _ _ _ _ _ i c.requires.v_in_bounds in
     let w = entry_written (times_in a.n a.work.now) a.index a.v _ _ _ _ (omega (arith, f, long)) c.write16.ensures
     (rw c.time_of.ensures.1 at c.write_value.ensures) in
     wrote_in _ _ _ _ _ _ _ i (omega (arith, long)) w

@@ -17,27 +17,24 @@ write16-requires c = omega arith
 
 pub loop-v-init : goal.loop-v-init
 loop-v-init c =
-    let s = c in
-    let a = s.args in (
+    let a = c.args in (
       search rules,
       sym (rank_none _),
       search rules,
       count_written a.n a.access.now a.transit.now a.work.now _
-          c.count.ensures.0 _ _ s.requires.1.1 c.write16.ensures,
+          c.count.ensures.0 _ _ c.requires.among.1 c.write16.ensures,
     )
 
 pub write_entry-at-requires : goal.write_entry-at-requires
 write_entry-at-requires c =
-    let s = c in
-    let a = s.args in record { n_in_bounds = search rules; v_in_bounds = written_fits (entries_step a.n a.access.now a.transit.now a.work.now _ _ c.loop-v-test.true
-          s.requires.1.0 c.loop-v.invariant.1) c.loop-v.invariant.3 }
+    let a = c.args in record { n_in_bounds = search rules; v_in_bounds = written_fits (entries_step a.n a.access.now a.transit.now a.work.now _ _ c.loop-v-test.true
+          c.requires.among.0 c.loop-v.invariant.1) c.loop-v.invariant.3 }
 
 pub loop-v-preserved : goal.loop-v-preserved
 loop-v-preserved c =
-    let s = c in
-    let a = s.args in
+    let a = c.args in
     let next = entries_step a.n a.access.now a.transit.now a.work.now _ _ c.loop-v-test.true
-    s.requires.1.0 c.loop-v.invariant.1 in (
+    c.requires.among.0 c.loop-v.invariant.1 in (
       search rules,
       rank_next _ _ _ _ c.loop-v.invariant.1 c.flag_of-rank.ensures.0,
       search rules,

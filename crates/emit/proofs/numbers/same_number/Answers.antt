@@ -6,7 +6,7 @@ use borrow.Author.Rules.{rules}
 use Rattle.emit.proofs.numbers.same_number.Goals as goal
 
 pub returns-then-not-contains : goal.returns-then-not-contains
-returns-then-not-contains c = compared_out _ _ _ _ _ (sym c.contains.ensures ∙ not-true _ c.if-not-contains.true)
+returns-then-not-contains c = compared_out _ _ _ _ _ (sym c.contains.ensures ∙ c.if-not-contains.true)
 
 pub returns : goal.returns
-returns c = c.same16.ensures ∙ compared_in _ _ _ _ _ (sym c.contains.ensures ∙ not-false _ c.if-not-contains.false)
+returns c = c.same16.ensures ∙ compared_in _ _ _ _ _ (sym c.contains.ensures ∙ c.if-not-contains.false)

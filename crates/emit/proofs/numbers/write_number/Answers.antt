@@ -7,14 +7,14 @@ use borrow.Author.Rules.{rules}
 use Rattle.emit.proofs.numbers.write_number.Goals as goal
 
 pub returns-then-not-contains : goal.returns-then-not-contains
-returns-then-not-contains c = wrote_out _ _ _ _ _ (sym c.contains.ensures ∙ not-true _ c.if-not-contains.true)
+returns-then-not-contains c = wrote_out _ _ _ _ _ (sym c.contains.ensures ∙ c.if-not-contains.true)
 
 pub write16-requires : goal.write16-requires
 unfolding bytes16
-write16-requires c = fits_in _ _ _ _ _ (sym c.contains.ensures ∙ not-false _ c.if-not-contains.false)
+write16-requires c = fits_in _ _ _ _ _ (sym c.contains.ensures ∙ c.if-not-contains.false)
     c.requires.2
 
 pub returns : goal.returns
 unfolding bytes16
-returns c = wrote_in _ _ _ _ _ _ _ (sym c.contains.ensures ∙ not-false _ c.if-not-contains.false)
+returns c = wrote_in _ _ _ _ _ _ _ (sym c.contains.ensures ∙ c.if-not-contains.false)
     refl c.write16.ensures

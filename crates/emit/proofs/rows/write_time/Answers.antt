@@ -10,18 +10,16 @@ use borrow.Author.Rules.{rules}
 use Rattle.emit.proofs.rows.write_time.Goals as goal
 
 pub returns-then-not-contains : goal.returns-then-not-contains
-returns-then-not-contains c = wrote_out _ _ _ _ _ (sym c.contains.ensures ∙ not-true _ c.if-not-contains.true)
+returns-then-not-contains c = wrote_out _ _ _ _ _ (sym c.contains.ensures ∙ c.if-not-contains.true)
 
 pub write_value-requires : goal.write_value-requires
 write_value-requires c =
-    let s = c in
-    let f = fits_in _ _ _ _ _ (sym c.contains.ensures ∙ not-false _ c.if-not-contains.false) s.requires.1 in
-    omega (arith, f, length_time (times_in s.args.n s.args.work.now) s.args.v)
+    let f = fits_in _ _ _ _ _ (sym c.contains.ensures ∙ c.if-not-contains.false) c.requires.v_in_bounds in
+    omega (arith, f, length_time (times_in c.args.n c.args.work.now) c.args.v)
 
 pub returns : goal.returns
 unfolding time_bytes
 returns c =
-    let s = c in
-    let long = length_time (times_in s.args.n s.args.work.now) s.args.v in
-    let i = sym c.contains.ensures ∙ not-false _ c.if-not-contains.false in
+    let long = length_time (times_in c.args.n c.args.work.now) c.args.v in
+    let i = sym c.contains.ensures ∙ c.if-not-contains.false in
     wrote_in _ _ _ _ _ _ _ i (omega (arith, long)) (rw c.time_of.ensures.1 at c.write_value.ensures)

@@ -27,17 +27,15 @@ loop-v-init c = (
 
 pub overflow_add-start : goal.overflow_add-start
 overflow_add-start c =
-    let s = c in
-    let a = s.args in
-    let size = c.list_size-start.ensures ∙ ap list_size c.half_of_lem.ensures.0 in
-    omega (arith, start_latest a.counts.now a.n c.loop-v.v c.loop-v.start _ size (s.requires.0.2 c.loop-v.v c.loop-v-test.true) c.loop-v.invariant.1)
+    let a = c.args in
+    let size = c.list_size-start.ensures ∙ ap list_size c.half_of.ensures.0 in
+    omega (arith, start_latest a.counts.now a.n c.loop-v.v c.loop-v.start _ size (c.requires.0.2 c.loop-v.v c.loop-v-test.true) c.loop-v.invariant.1)
 
 pub loop-v-preserved : goal.loop-v-preserved
 loop-v-preserved c =
-    let s = c in
-    let a = s.args in
-    let size = c.list_size-start.ensures ∙ ap list_size c.half_of_lem.ensures.0 in
-    let more = start_latest a.counts.now a.n _ _ _ size (s.requires.0.2 _ c.loop-v-test.true) c.loop-v.invariant.1 in
+    let a = c.args in
+    let size = c.list_size-start.ensures ∙ ap list_size c.half_of.ensures.0 in
+    let more = start_latest a.counts.now a.n _ _ _ size (c.requires.0.2 _ c.loop-v-test.true) c.loop-v.invariant.1 in
     let next = starts_step a.counts.now a.n _ _ _ size c.loop-v-test.true in
     (search rules, more, search rules, written_next next c.loop-v.invariant.3 (start_wrote _ _ _ _ c.write32.ensures))
 

@@ -17,10 +17,7 @@ pub column-requires : goal.column-requires
 column-requires c = rw c.node_x-x.ensures (holds c.requires.0 false c.args.i c.requires.1)
 
 pub row-requires : goal.row-requires
-row-requires c =
-    let s = c in
-    let p = s.requires in
-    rw c.node_y-y.ensures (holds p.0 true s.args.i p.1)
+row-requires c = rw c.node_y-y.ensures (holds c.requires.0 true c.args.i c.requires.1)
 
 pub returns : goal.returns
 unfolding cell_of

@@ -5,14 +5,10 @@ use Rattle.std.proofs.Common.{true, false, arith, rules}
 use Rattle.grid.proofs.Grid.over.Goals as goal
 
 pub overflow_sub-across : goal.overflow_sub-across
-overflow_sub-across c =
-    let s = c in
-    omega (arith, least_greatest false s.args.b.now s.requires, c.over-across.ensures)
+overflow_sub-across c = omega (arith, least_greatest false c.args.b.now c.requires, c.over-across.ensures)
 
 pub overflow_sub-up : goal.overflow_sub-up
-overflow_sub-up c =
-    let s = c in
-    omega (arith, least_greatest true s.args.b.now s.requires, c.over-up.ensures)
+overflow_sub-up c = omega (arith, least_greatest true c.args.b.now c.requires, c.over-up.ensures)
 
 pub returns : goal.returns
 unfolding grid_over

@@ -11,6 +11,5 @@ overflow_add-result-2 c = omega (arith, start_fits _ c.requires _ _ c.cut.ensure
 
 pub returns : goal.returns
 returns c =
-    let s = c in
-    let a = s.args in
-    start_read a.self s.requires a.k c.cut.result c.cut.ensures
+    let a = c.args in
+    start_read a.self c.requires a.k c.cut.result c.cut.ensures

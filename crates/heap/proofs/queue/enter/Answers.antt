@@ -6,19 +6,14 @@ use Rattle.heap.proofs.queue.enter.Goals as goal
 
 pub position_of-p-requires : goal.position_of-p-requires
 position_of-p-requires c =
-    let s = c in
-    let a = s.args in
-    let p = s.requires in
-    (stored a.n a.k a.e a.v a.x a.w.now p.0 p.1 p.4 _ c.store_time.ensures, p.1)
+    let a = c.args in
+    (stored a.n a.k a.e a.v a.x a.w.now c.requires.0 c.requires.1 c.requires.4 _ c.store_time.ensures, c.requires.1)
 
 pub swap-requires : goal.swap-requires
 swap-requires c =
-    let s = c in
-    let a = s.args in
-    let p = s.requires in
-    let q = p.0 in
-    let g = q.room in (
-      stored a.n a.k a.e a.v a.x a.w.now q p.1 p.4 _ c.store_time.ensures,
+    let a = c.args in
+    let g = c.requires.0.room in (
+      stored a.n a.k a.e a.v a.x a.w.now c.requires.0 c.requires.1 c.requires.4 _ c.store_time.ensures,
       omega arith,
       c.position_of-p.ensures.1,
     )
@@ -30,22 +25,17 @@ overflow_add-k c =
 
 pub up-requires : goal.up-requires
 up-requires c =
-    let s = c in
-    let a = s.args in
-    let p = s.requires in
-    let q = p.0 in
-    let g = q.room in
-    let f = enter_from a.n a.k a.e a.v a.x a.w.now q p.1 p.4 _
+    let a = c.args in
+    let g = c.requires.0.room in
+    let f = enter_from a.n a.k a.e a.v a.x a.w.now c.requires.0 c.requires.1 c.requires.4 _
     c.store_time.ensures _
-    c.position_of-p.ensures.0 p.2 p.3 _ c.swap.ensures in
+    c.position_of-p.ensures.0 c.requires.2 c.requires.3 _ c.swap.ensures in
     (f.0, omega arith, omega arith, f.1)
 
 pub returns : goal.returns
 returns c =
-    let s = c in
-    let a = s.args in
-    let p = s.requires in
-    enter_done a.n a.k a.e a.v a.x a.w.now p.0 p.1 p.4 _
+    let a = c.args in
+    enter_done a.n a.k a.e a.v a.x a.w.now c.requires.0 c.requires.1 c.requires.4 _
     c.store_time.ensures _
-    c.position_of-p.ensures.0 p.2 p.3 _
+    c.position_of-p.ensures.0 c.requires.2 c.requires.3 _
     c.swap.ensures _ c.up.ensures

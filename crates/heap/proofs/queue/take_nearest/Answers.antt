@@ -6,30 +6,24 @@ use Rattle.heap.proofs.queue.take_nearest.Goals as goal
 
 pub swap-requires-2 : goal.swap-requires-2
 swap-requires-2 c =
-    let s = c in
-    let a = s.args in
-    let p = s.requires in
-    let h = p.0.held in
-    let g = p.0.room in
-    (take_positioned a.n a.k a.e a.w.now p.0 p.1 _ c.swap.ensures, omega arith, omega arith)
+    let a = c.args in
+    let h = c.requires.0.held in
+    let g = c.requires.0.room in
+    (take_positioned a.n a.k a.e a.w.now c.requires.0 c.requires.1 _ c.swap.ensures, omega arith, omega arith)
 
 pub down-requires : goal.down-requires
 down-requires c =
-    let s = c in
-    let a = s.args in
-    let p = s.requires in
-    let h = p.0.held in
-    let g = p.0.room in
-    let f = take_from a.n a.k a.e a.w.now p.0 p.1 _ c.swap.ensures _
+    let a = c.args in
+    let h = c.requires.0.held in
+    let g = c.requires.0.room in
+    let f = take_from a.n a.k a.e a.w.now c.requires.0 c.requires.1 _ c.swap.ensures _
     c.swap-2.ensures in
     (f.0, omega arith, f.1)
 
 pub returns : goal.returns
 returns c =
-    let s = c in
-    let a = s.args in
-    let p = s.requires in
-    take_done a.n a.k a.e a.w.now p.0 p.1 _
+    let a = c.args in
+    take_done a.n a.k a.e a.w.now c.requires.0 c.requires.1 _
     c.swap.ensures _
     c.swap-2.ensures _ c.down.ensures _
     c.Node-at.ensures.0

@@ -23,7 +23,7 @@ returns-then-not-is_sooner c =
     let a = c.args in
     fall_stop a.n a.k a.i a.w.now c.requires.0 c.requires.1 c.requires.3 _ (c.lesser-c.ensures.some
     (omega (arith, c.if-c-k.false)))
-    (ltb-false _ _ (sym c.is_sooner.ensures ∙ not-true _ c.if-not-is_sooner.true))
+    (ltb-false _ _ (sym c.is_sooner.ensures ∙ c.if-not-is_sooner.true))
 
 pub swap-requires : goal.swap-requires
 swap-requires c =
@@ -39,5 +39,5 @@ returns c =
     fall_move a.n a.k a.i a.w.now c.requires.0 c.requires.1 c.requires.3 _
     (c.lesser-c.ensures.some
     (omega (arith, c.if-c-k.false)))
-    (ltb-true _ _ (sym c.is_sooner.ensures ∙ not-false _ c.if-not-is_sooner.false)) _
+    (ltb-true _ _ (sym c.is_sooner.ensures ∙ c.if-not-is_sooner.false)) _
     c.swap.ensures

@@ -15,12 +15,12 @@ pub returns-then-not-is_sooner : goal.returns-then-not-is_sooner
 returns-then-not-is_sooner c =
     let a = c.args in
     rise_stop a.n a.k a.i a.w.now c.requires.0 c.requires.1 c.requires.2 c.requires.3 c.if-i-eq0.false
-    (ltb-false _ _ (sym c.is_sooner.ensures ∙ not-true _ c.if-not-is_sooner.true))
+    (ltb-false _ _ (sym c.is_sooner.ensures ∙ c.if-not-is_sooner.true))
 
 pub returns : goal.returns
 returns c =
     let a = c.args in
     rise_move a.n a.k a.i a.w.now c.requires.0 c.requires.1 c.requires.2 c.requires.3
     c.if-i-eq0.false
-    (ltb-true _ _ (sym c.is_sooner.ensures ∙ not-false _ c.if-not-is_sooner.false)) _
+    (ltb-true _ _ (sym c.is_sooner.ensures ∙ c.if-not-is_sooner.false)) _
     c.swap.ensures

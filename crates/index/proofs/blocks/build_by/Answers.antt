@@ -9,6 +9,4 @@ pub list_all-requires : goal.list_all-requires
 list_all-requires c = record { edges_value = c.requires.edges_value; edges_bound = (search rules, search rules, search rules, search rules); chained = cleared _ _ _ c.clear.ensures _ _ _ (λ h. refl) }
 
 pub returns : goal.returns
-returns c =
-    let s = c in
-    λ e. blocked_index _ _ _ s.requires.1.1 s.args.s (λ f. omega arith) (search rules) (c.list_all.ensures e)
+returns c = λ e. blocked_index _ _ _ c.requires.edges_value_2 c.args.s (λ f. omega arith) (search rules) (c.list_all.ensures e)

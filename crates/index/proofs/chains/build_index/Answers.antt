@@ -23,4 +23,4 @@ returns c =
     let a = c.args in
     let two : 2 ≤ a.n = omega (arith, c.if-n-lt2.false) in
     let all = laid_index a.edges.now a.n c.requires.edges_value _ a.work.now _ (c.index_at-at.ensures ∙ omega (arith, two)) two c.requires.n_le_max_nodes.1
-    c.build.auto.1.0 c.build.ensures in record { roads = all.0; before = all.1.0; behind = all.1.1 }
+    c.build.auto.ix c.build.ensures in record { roads = all.0; before = all.1.0; behind = all.1.1 }

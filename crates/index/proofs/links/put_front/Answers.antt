@@ -7,6 +7,6 @@ use Rattle.index.proofs.links.put_front.Goals as goal
 pub returns : goal.returns
 returns c =
     let a = c.args in
-    linked_at a.ix.now _ _ a.n a.k a.x _ _ c.half_of_lem.ensures
+    linked_at a.ix.now _ _ a.n a.k a.x _ _ c.half_of-h.ensures
     c.put_half.ensures c.put_half-2.ensures (search rules) (search rules)
     (search rules) (search rules) refl c.requires.growing

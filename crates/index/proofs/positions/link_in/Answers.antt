@@ -23,4 +23,4 @@ returns c =
     let a = c.args in
     let two = of_two_links a.n a.work.now c.requires.2 a.p c.requires.3 in
     let e : a.at ≡ index_at a.n = c.requires.0 ∙ omega (arith, two) in
-    (rw e at c.half_of_lem.ensures.0 ∙ sym (link_there a.n a.work.now c.requires.2 a.p c.requires.3), c.half_of_lem.ensures.1)
+    (rw e at c.half_of.ensures.0 ∙ sym (link_there a.n a.work.now c.requires.2 a.p c.requires.3), c.half_of.ensures.1)

@@ -12,42 +12,37 @@ write_text-places-requires c =
 
 pub write_field-first-requires : goal.write_field-first-requires
 write_field-first-requires c =
-    let s = c in
-    let a = s.args in
-    room_first _ (after_count a.transit) (room_second _ (after_places a.n a.transit) (rw header_parts at s.requires)
+    let a = c.args in
+    room_first _ (after_count a.transit) (room_second _ (after_places a.n a.transit) (rw header_parts at c.requires)
     c.write_text-places.ensures)
 
 pub write_text-second-requires : goal.write_text-second-requires
 write_text-second-requires c =
-    let s = c in
-    let a = s.args in
+    let a = c.args in
     room_first _ (after_transit a.transit) (room_second _ (after_count a.transit)
-    (room_second _ (after_places a.n a.transit) (rw header_parts at s.requires)
+    (room_second _ (after_places a.n a.transit) (rw header_parts at c.requires)
     c.write_text-places.ensures) c.write_field-first.ensures)
 
 pub write_decimal-end-requires : goal.write_decimal-end-requires
 write_decimal-end-requires c =
-    let s = c in
-    let a = s.args in
+    let a = c.args in
     room_first _ line_feed (room_second _ (after_transit a.transit) (room_second _ (after_count a.transit)
-    (room_second _ (after_places a.n a.transit) (rw header_parts at s.requires)
+    (room_second _ (after_places a.n a.transit) (rw header_parts at c.requires)
     c.write_text-places.ensures)
     c.write_field-first.ensures) c.write_text-second.ensures)
 
 pub write_byte-requires : goal.write_byte-requires
 write_byte-requires c =
-    let s = c in
-    let a = s.args in
+    let a = c.args in
     room_second _ line_feed (room_second _ (after_transit a.transit) (room_second _ (after_count a.transit)
-    (room_second _ (after_places a.n a.transit) (rw header_parts at s.pre)
+    (room_second _ (after_places a.n a.transit) (rw header_parts at c.pre)
     c.write_text-places.ensures) c.write_field-first.ensures)
     c.write_text-second.ensures) c.write_decimal-end.ensures
 
 pub returns : goal.returns
 returns c =
-    let s = c in
-    let p = s.pre in
-    let a = s.args in
+    let p = c.pre in
+    let a = c.args in
     let write_text =
     c.write_text-places in
     let one = rw header_parts at (p) in

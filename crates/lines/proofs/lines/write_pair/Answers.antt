@@ -12,9 +12,7 @@ write_field-first-requires c = room_first _ (field_text c.args.t ++ (answer_text
     (rw pair_parts at c.requires)
 
 pub write_field-second-requires : goal.write_field-second-requires
-write_field-second-requires c =
-    let s = c in
-    room_first _ (answer_text s.args.answer ++ line_feed) (room_second _ _ (rw pair_parts at s.requires) c.write_field-first.ensures)
+write_field-second-requires c = room_first _ (answer_text c.args.answer ++ line_feed) (room_second _ _ (rw pair_parts at c.requires) c.write_field-first.ensures)
 
 pub write_answer-end-requires : goal.write_answer-end-requires
 write_answer-end-requires c = room_first _ line_feed (room_second _ _ (room_second _ _ (rw pair_parts at
@@ -29,10 +27,9 @@ write_byte-requires c = room_second _ line_feed (room_second _ _ (room_second _ 
 
 pub returns : goal.returns
 returns c =
-    let s = c in
-    let a = s.args in
+    let a = c.args in
     let after = answer_text a.answer ++ line_feed in
-    let one = rw pair_parts at s.requires in
+    let one = rw pair_parts at c.requires in
     let two = room_second _ (field_text a.t ++ after) one c.write_field-first.ensures in
     let three = room_second _ after two c.write_field-second.ensures in
     rw pair_parts (wrote_both _ _ one c.write_field-first.ensures (wrote_both _ _ two c.write_field-second.ensures

@@ -10,9 +10,7 @@ pub write_text-refused-requires : goal.write_text-refused-requires
 write_text-refused-requires c = room_first _ (decimal c.args.rule ++ line_feed) (rw refused_parts at c.requires)
 
 pub write_decimal-end-requires : goal.write_decimal-end-requires
-write_decimal-end-requires c =
-    let s = c in
-    room_first _ line_feed (room_second _ (decimal s.args.rule ++ line_feed) (rw refused_parts at s.requires) c.write_text-refused.ensures)
+write_decimal-end-requires c = room_first _ line_feed (room_second _ (decimal c.args.rule ++ line_feed) (rw refused_parts at c.requires) c.write_text-refused.ensures)
 
 pub write_byte-requires : goal.write_byte-requires
 write_byte-requires c = room_second _ line_feed
@@ -21,9 +19,7 @@ write_byte-requires c = room_second _ line_feed
 
 pub returns : goal.returns
 returns c =
-    let s = c in
-    let p = s.requires in
-    let one = rw refused_parts at (p) in
-    let two = room_second _ (decimal s.args.rule ++ line_feed) one c.write_text-refused.ensures in
-    holds _ (p) (rw refused_parts (wrote_both _ _ one c.write_text-refused.ensures
+    let one = rw refused_parts at (c.requires) in
+    let two = room_second _ (decimal c.args.rule ++ line_feed) one c.write_text-refused.ensures in
+    holds _ (c.requires) (rw refused_parts (wrote_both _ _ one c.write_text-refused.ensures
     (wrote_both _ _ two c.write_decimal-end.ensures c.write_byte.ensures)))

@@ -19,7 +19,7 @@ returns-then-s-n c =
           (omega (arith, c.if-s-n.true, c.node_count-n.ensures))); opened = c.requires.0 }
 
 pub write_lines-requires : goal.write_lines-requires
-write_lines-requires c = (opened_kept _ _ _ c.requires.0 c.times_from.auto.1.1.0 c.times_from.ensures.others, c.requires.1, c.times_from.ensures.times, c.requires.2)
+write_lines-requires c = (opened_kept _ _ _ c.requires.0 c.times_from.auto.work c.times_from.ensures.others, c.requires.1, c.times_from.ensures.times, c.requires.2)
 
 pub returns : goal.returns
-returns c = record { text = holds _ c.requires.2 c.write_lines.ensures; opened = opened_kept _ _ _ c.requires.0 c.times_from.auto.1.1.0 c.times_from.ensures.others }
+returns c = record { text = holds _ c.requires.2 c.write_lines.ensures; opened = opened_kept _ _ _ c.requires.0 c.times_from.auto.work c.times_from.ensures.others }

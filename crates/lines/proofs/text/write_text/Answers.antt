@@ -10,4 +10,4 @@ overflow_add-end c = omega (arith, c.requires.fits)
 pub returns : goal.returns
 returns c =
     let a = c.args in
-    wrote_part a.out.now a.text.now c.copy.new.1.0 a.at c.copy.ensures
+    wrote_part a.out.now a.text.now c.copy.new.to a.at c.copy.ensures

@@ -9,11 +9,11 @@ pub returns-then-not-contains : goal.returns-then-not-contains
 returns-then-not-contains c =
     let a = c.args in
     arc_unmarked a.work.now a.n a.v a.to a.cost c.requires.3 _ c.queue_words-m.ensures
-    (sym c.contains.ensures ∙ not-true _ c.if-not-contains.true)
+    (sym c.contains.ensures ∙ c.if-not-contains.true)
 
 pub returns : goal.returns
 returns c =
     let a = c.args in
     arc_marked a.work.now a.n a.v a.to a.cost c.requires.3 _ c.queue_words-m.ensures
-    (sym c.contains.ensures ∙ not-false _ c.if-not-contains.false) _ _
+    (sym c.contains.ensures ∙ c.if-not-contains.false) _ _
     c.time_of.ensures.1 c.time_of-2.ensures.1

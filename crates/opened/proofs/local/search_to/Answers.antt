@@ -11,7 +11,7 @@ use Rattle.opened.proofs.local.search_to.Goals as goal
 pub search_wanted_under-requires : goal.search_wanted_under-requires
 search_wanted_under-requires c =
     let a = c.args in
-    record { n_le_max_nodes = (c.requires.0, c.requires.1, omega (arith, c.requires.3, c.want_only.auto.0), rw c.want_only.ensures.members (lacking_one a.n a.t), c.requires.5); edges_under = edges_behind _ _ _ _ _ c.want_only.ensures.others c.requires.4 }
+    record { n_le_max_nodes = (c.requires.0, c.requires.1, omega (arith, c.requires.3, c.want_only.auto.work), rw c.want_only.ensures.members (lacking_one a.n a.t), c.requires.5); edges_under = edges_behind _ _ _ _ _ c.want_only.ensures.others c.requires.4 }
 
 pub returns : goal.returns
 returns c =

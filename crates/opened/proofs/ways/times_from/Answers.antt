@@ -15,5 +15,5 @@ search_front-requires c =
 pub returns : goal.returns
 unfolding words_needed
 returns c =
-    let found = rw (c.node_count.ensures, c.oracle_body.ensures) at c.search_front.ensures.found.0.times in record { times = record { times = found; room = omega (arith, c.requires.0.room, c.search_front.auto.1.1.1.0) }; others = rw c.node_count.ensures at
+    let found = rw (c.node_count.ensures, c.oracle_body.ensures) at c.search_front.ensures.found.0.times in record { times = record { times = found; room = omega (arith, c.requires.0.room, c.search_front.auto.work) }; others = rw c.node_count.ensures at
           (kept_more (search_words c.node_count.result) (grid_at c.node_count.result) _ _ (omega arith) c.search_front.ensures.others) }

@@ -14,7 +14,7 @@ slice_bounds-nodes-end c = found_room _ _ c.whole_way-size.ensures.size.0
     c.args.out.now _ _ c.whole_way-size.ensures.bytes
 
 pub slice_bounds-copy-end : goal.slice_bounds-copy-end
-slice_bounds-copy-end c = sym (length-take-le c.whole_way-size.result c.whole_way-size.new.1.1.1.1.1.0
+slice_bounds-copy-end c = sym (length-take-le c.whole_way-size.result c.whole_way-size.new.nodes
     (found_room _ _ c.whole_way-size.ensures.size.0 c.args.out.now _ _ c.whole_way-size.ensures.bytes))
 
 pub slice_bounds-copy-end-3 : goal.slice_bounds-copy-end-3
@@ -23,7 +23,7 @@ slice_bounds-copy-end-3 c = sym (length-take-le c.whole_way-size.result
 
 pub copy-requires : goal.copy-requires
 copy-requires c = length-take-le c.whole_way-size.result c.args.out.now
-    (omega (arith, c.if-out-size.false)) ∙ sym (length-take-le c.whole_way-size.result c.whole_way-size.new.1.1.1.1.1.0
+    (omega (arith, c.if-out-size.false)) ∙ sym (length-take-le c.whole_way-size.result c.whole_way-size.new.nodes
     (found_room _ _ c.whole_way-size.ensures.size.0 c.args.out.now _ _ c.whole_way-size.ensures.bytes))
 
 pub returns : goal.returns

@@ -19,7 +19,7 @@ returns-then-s-t c =
           c.write_way_itself.ensures; others = refl }
 
 pub write_way_from-requires : goal.write_way_from-requires
-write_way_from-requires c = record { s_lt_n = (c.requires.1, c.requires.0, omega (arith, c.requires.3, c.search_to.auto.1.1.1.1.1.0)); edges_under = edges_behind _ _ _ _ _ c.search_to.ensures.others c.requires.4 }
+write_way_from-requires c = record { s_lt_n = (c.requires.1, c.requires.0, omega (arith, c.requires.3, c.search_to.auto.work)); edges_under = edges_behind _ _ _ _ _ c.search_to.ensures.others c.requires.4 }
 
 pub returns : goal.returns
 returns c =

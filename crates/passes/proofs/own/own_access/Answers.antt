@@ -10,7 +10,6 @@ cell_access-requires c = record { ground = (c.requires.ground.0, c.requires.grou
 
 pub returns : goal.returns
 returns c =
-    let s = c in
-    let a = s.args in
-    let p = s.requires.0 in record { members = access_listed a.nodes.now a.edges.now a.grid a.n p.1 a.u p.3 own _ _
+    let a = c.args in
+    record { members = access_listed a.nodes.now a.edges.now a.grid a.n c.requires.ground.1 a.u c.requires.ground.3 own _ _
           c.cell-c.ensures c.cell_access.ensures.members; others = c.cell_access.ensures.others }

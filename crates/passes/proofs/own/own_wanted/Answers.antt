@@ -13,10 +13,8 @@ own_access-requires c =
 
 pub returns : goal.returns
 returns c =
-    let s = c in
-    let a = s.args in
-    let p = s.requires.0 in
-    let two = access_alone a.nodes.now a.edges.now a.grid a.n p.1 p.0 a.u own _ c.own_access.ensures.members in
-    let r = sought_made a.n (omega (arith, p.3)) _ _ _ two c.clear.ensures.members c.clear.ensures.others c.unite.ensures.members
+    let a = c.args in
+    let two = access_alone a.nodes.now a.edges.now a.grid a.n c.requires.ground.1 c.requires.ground.0 a.u own _ c.own_access.ensures.members in
+    let r = sought_made a.n (omega (arith, c.requires.ground.3)) _ _ _ two c.clear.ensures.members c.clear.ensures.others c.unite.ensures.members
     c.unite.ensures.others _ c.count.ensures in
     record { members = r.0 ∙ c.own_access.ensures.members; sought = r.1; others = r.2 ∙ c.own_access.ensures.others }

@@ -19,11 +19,8 @@ loop-u-init c =
 
 pub pass_cell-requires : goal.pass_cell-requires
 pass_cell-requires c =
-    let s = c in
-    let pre = s.requires in
-    let a = s.args in
-    let p = pre.0 in
-    let r = roads_only a.edges.now a.n a.work.now _ _ _ (omega arith) c.clear.ensures.others pre.1 in record { ground = (p.0, p.1, p.2, c.loop-u-test.true, omega (arith, p.3, c.loop-u.invariant.1, c.clear.auto.0)); cells_passed = (
+    let a = c.args in
+    let r = roads_only a.edges.now a.n a.work.now _ _ _ (omega arith) c.clear.ensures.others c.requires.indexed_edges in record { ground = (c.requires.ground.0, c.requires.ground.1, c.requires.ground.2, c.loop-u-test.true, omega (arith, c.requires.ground.3, c.loop-u.invariant.1, c.clear.auto.work)); cells_passed = (
         c.loop-u.invariant.2,
         roads_kept a.edges.now a.n _ c.loop-u.work c.loop-u.invariant.3
             r,
@@ -32,15 +29,13 @@ pass_cell-requires c =
 pub loop-u-preserved : goal.loop-u-preserved
 loop-u-preserved c = (
       omega (arith, c.loop-u-test.true),
-      c.pass_cell.auto.1.1.1.1.1.0 ∙ c.loop-u.invariant.1,
+      c.pass_cell.auto.work ∙ c.loop-u.invariant.1,
       c.pass_cell.ensures.passed,
       c.pass_cell.ensures.others ∙ c.loop-u.invariant.3,
     )
 
 pub returns : goal.returns
 returns c =
-    let s = c in
-    let a = s.args in
-    let p = s.requires.0 in
-    let r = passed_all a.nodes.now a.edges.now a.grid a.n p.0 p.1 c.loop-u.u c.loop-u.work c.loop-u-test.false c.loop-u.invariant.2 in
+    let a = c.args in
+    let r = passed_all a.nodes.now a.edges.now a.grid a.n c.requires.ground.0 c.requires.ground.1 c.loop-u.u c.loop-u.work c.loop-u-test.false c.loop-u.invariant.2 in
     record { members = r.0; counted = r.1; others = c.loop-u.invariant.3 ∙ after_kept _ _ a.work.now _ c.clear.ensures.others (index_at a.n) (omega arith) }

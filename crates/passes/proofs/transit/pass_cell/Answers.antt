@@ -10,29 +10,25 @@ use Rattle.passes.proofs.transit.pass_cell.Goals as goal
 
 pub put_counts-requires : goal.put_counts-requires
 put_counts-requires c =
-    let s = c in
-    let a = s.args in
-    let p = s.requires.0 in
-    let x = c.own_access.new.1.1.1.1.1.0 in (
-      p.0.over,
-      p.1,
-      p.2,
-      p.3,
+    let a = c.args in
+    let x = c.own_access.new.work in (
+      c.requires.ground.0.over,
+      c.requires.ground.1,
+      c.requires.ground.2,
+      c.requires.ground.3,
       omega (arith, c.count-k.ensures, ones_most a.n (drop (region_at a.n own) x)),
-      omega (arith, p.4, c.own_access.auto.1.1.1.1.1.0, c.unite.auto.0),
+      omega (arith, c.requires.ground.4, c.own_access.auto.work, c.unite.auto.work),
     )
 
 pub returns-then-first_of_cell : goal.returns-then-first_of_cell
 returns-then-first_of_cell c =
-    let s = c in
-    let a = s.args in
-    let p = s.pre in
+    let a = c.args in
+    let p = c.pre in
     let all = passed_next a.nodes.now a.edges.now a.grid a.n a.u p.0.3 a.work.now _ _ _ p.1.0 c.own_access.ensures.members
     c.own_access.ensures.others c.unite.ensures.members c.unite.ensures.others _ c.count-k.ensures
     c.put_counts.ensures.counted c.put_counts.ensures.others in record { passed = all.0; others = all.1 }
 
 pub returns-else-first_of_cell : goal.returns-else-first_of_cell
 returns-else-first_of_cell c =
-    let s = c in
-    let a = s.args in record { passed = passed_later a.nodes.now a.edges.now a.grid a.n a.u a.work.now s.requires.1.0
-          (sym c.if-first_of_cell.false ∙ c.first_of_cell_law.ensures); others = refl }
+    let a = c.args in record { passed = passed_later a.nodes.now a.edges.now a.grid a.n a.u a.work.now c.requires.cells_passed.0
+          (sym c.if-first_of_cell.false ∙ c.first_of_cell.ensures); others = refl }

@@ -22,7 +22,7 @@ time_of-answer-requires c =
 
 pub returns : goal.returns
 returns c =
-    let k = stays _ _ _ c.open_words.ensures.opened c.time_of-answer.auto.1.1.1.0 c.time_of-answer.ensures.others in
+    let k = stays _ _ _ c.open_words.ensures.opened c.time_of-answer.auto.work c.time_of-answer.ensures.others in
     record {
       result = ap meaning (c.time_of-answer.ensures.answer ∙ time_given _ _ _ _ _ c.time_refusal-rule.ensures c.if-rule-ne0.false);
       words = c.zero_words.ensures

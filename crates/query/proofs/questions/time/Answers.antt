@@ -16,5 +16,5 @@ time_of-requires c =
 
 pub returns : goal.returns
 returns c =
-    let k = stays _ _ _ c.requires c.time_of.auto.1.1.1.0 c.time_of.ensures.others in
+    let k = stays _ _ _ c.requires c.time_of.auto.work c.time_of.ensures.others in
     record { result = c.time_of.ensures.answer ∙ time_given _ _ _ _ _ (as_time _ _ _ _ c.requires _ c.named_pair_refusal-rule.ensures) c.if-rule-ne0.false; opened = k.opened; rest = k.rest }

@@ -38,56 +38,47 @@ body-requires-2 c = record {
     }
 
 pub body-requires-3 : goal.body-requires-3
-body-requires-3 c =
-    let s = c in
-    record {
+body-requires-3 c = record {
       entries = oracle_entries;
       few = omega arith;
       below = omega arith;
       read = c.read-c.ensures;
-      joined = (kept s.args.o.now s.requires).bodies;
+      joined = (kept c.args.o.now c.requires).bodies;
     }
 
 pub body-requires-4 : goal.body-requires-4
-body-requires-4 c =
-    let s = c in
-    record {
+body-requires-4 c = record {
       entries = oracle_entries;
       few = omega arith;
       below = omega arith;
       read = c.read-c.ensures;
-      joined = (kept s.args.o.now s.requires
+      joined = (kept c.args.o.now c.requires
           ).bodies;
     }
 
 pub body-requires-5 : goal.body-requires-5
-body-requires-5 c =
-    let s = c in
-    record {
+body-requires-5 c = record {
       entries = oracle_entries;
       few = omega arith;
       below = omega arith;
       read = c.read-c.ensures;
-      joined = (kept s.args.o.now
-          s.requires).bodies;
+      joined = (kept c.args.o.now
+          c.requires).bodies;
     }
 
 pub oracle_bodies-requires : goal.oracle_bodies-requires
 unfolding node_count
 oracle_bodies-requires c =
-    let s = c in
-    let a = s.args in
-    omega (arith, node_bytes a.o.now (kept a.o.now s.requires).sound, ap (λ (b : Bytes). length b) c.body.ensures)
+    let a = c.args in
+    omega (arith, node_bytes a.o.now (kept a.o.now c.requires).sound, ap (λ (b : Bytes). length b) c.body.ensures)
 
 pub returns : goal.returns
 unfolding shape_rules node_count
-returns c =
-    let s = c in
-    rw (
+returns c = rw (
       ← c.body.ensures,
       ← c.body-2.ensures,
       ← c.body-3.ensures,
       ← c.body-4.ensures,
       ← c.body-5.ensures,
     ) c.oracle_bodies.ensures ∙
-    sym (first_append _ _ (plain_counted oracle_edition oracle_entries s.args.o.now) s.requires)
+    sym (first_append _ _ (plain_counted oracle_edition oracle_entries c.args.o.now) c.requires)

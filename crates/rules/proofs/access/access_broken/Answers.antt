@@ -7,12 +7,12 @@ use Rattle.rules.proofs.access.access_broken.Goals as goal
 
 pub returns-then-not-lists_gapless : goal.returns-then-not-lists_gapless
 unfolding access_broken
-returns-then-not-lists_gapless c = rw (← c.lists_gapless.ensures) (rw (not-true c.lists_gapless.result c.if-not-lists_gapless.true))
+returns-then-not-lists_gapless c = rw (← c.lists_gapless.ensures) (rw c.if-not-lists_gapless.true)
 
 pub some_list_broken-requires : goal.some_list_broken-requires
-some_list_broken-requires c = (c.requires, sym c.lists_gapless.ensures ∙ not-false _ c.if-not-lists_gapless.false)
+some_list_broken-requires c = (c.requires, sym c.lists_gapless.ensures ∙ c.if-not-lists_gapless.false)
 
 pub returns : goal.returns
 unfolding access_broken
-returns c = rw (← c.lists_gapless.ensures) (rw (not-false c.lists_gapless.result c.if-not-lists_gapless.false)
+returns c = rw (← c.lists_gapless.ensures) (rw c.if-not-lists_gapless.false
     c.some_list_broken.ensures)

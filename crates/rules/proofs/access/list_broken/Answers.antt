@@ -14,8 +14,8 @@ read16-count-requires c = omega arith
 
 pub loop-i-init : goal.loop-i-init
 loop-i-init c =
-    let r = list_read _ _ _ _ c.list_start_law.ensures c.read16-count.ensures.0 c.requires.1 in
-    (c.list_start_law.ensures, r.0, entries_all _ _ _ _ r.1)
+    let r = list_read _ _ _ _ c.list_start-start.ensures c.read16-count.ensures.0 c.requires.1 in
+    (c.list_start-start.ensures, r.0, entries_all _ _ _ _ r.1)
 
 pub returns-then-entry_broken : goal.returns-then-entry_broken
 returns-then-entry_broken c = sym (c.loop-i.invariant.2 ∙ entries_bad _ _ _ _ _ _ _ c.loop-i-test.true c.loop-i.invariant.0 (sym c.entry_broken.ensures ∙ c.if-entry_broken.true))

@@ -12,5 +12,5 @@ pub returns-then-b-at-lt-COUNT_SIZE : goal.returns-then-b-at-lt-COUNT_SIZE
 returns-then-b-at-lt-COUNT_SIZE c = sym (unfit_count _ _ _ (omega arith))
 
 pub returns : goal.returns
-returns c = fits_size _ _ _ (sym c.list_start_law.ensures ∙ c.if-list_start-at.false) c.requires.1 _
+returns c = fits_size _ _ _ (sym c.list_start.ensures ∙ c.if-list_start-at.false) c.requires.1 _
     c.size_at.ensures

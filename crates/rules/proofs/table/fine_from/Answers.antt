@@ -8,7 +8,7 @@ use borrow.Author.Rules.{rules}
 use Rattle.rules.proofs.table.fine_from.Goals as goal
 
 pub returns-then-not-four_exceed : goal.returns-then-not-four_exceed
-returns-then-not-four_exceed c = (omega arith, c.four_exceed.ensures (not-true _ c.if-not-four_exceed.true), λ e. absurd (omega arith))
+returns-then-not-four_exceed c = (omega arith, c.four_exceed.ensures c.if-not-four_exceed.true, λ e. absurd (omega arith))
 
 pub returns-then-value_broken : goal.returns-then-value_broken
 unfolding cell_broken

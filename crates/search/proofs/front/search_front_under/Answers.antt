@@ -13,16 +13,12 @@ use Rattle.search.proofs.front.search_front_under.Goals as goal
 
 pub loop-k-init : goal.loop-k-init
 loop-k-init c =
-    let start = c in
-    let a = start.args in
-    let p = start.requires in
-    (refl, refl, first _ a.n a.s p.0.0 p.0.1 (arcs_bounded _ _ _ _ p.1) _ _ c.begin-k.ensures.holds c.begin-k.ensures.times c.begin-k.ensures.settled)
+    let a = c.args in
+    (refl, refl, first _ a.n a.s c.requires.n_le_max_nodes.0 c.requires.n_le_max_nodes.1 (arcs_bounded _ _ _ _ c.requires.edges_under) _ _ c.begin-k.ensures.holds c.begin-k.ensures.times c.begin-k.ensures.settled)
 
 pub round-k-requires : goal.round-k-requires
 round-k-requires c =
-    let start = c in
-    let a = start.args in
-    let p = start.requires in
+    let a = c.args in
     record { holds = (
         c.loop-k.invariant.2.holds,
         omega (arith, c.loop-k-test.true),
@@ -30,7 +26,7 @@ round-k-requires c =
             c.loop-k.invariant.2,
       ); edges_under = (
         edges_kept a.edges.now a.lines.now a.n a.work.now c.loop-k.work
-            (c.loop-k.invariant.1 ∙ c.begin-k.ensures.others) p.1,
+            (c.loop-k.invariant.1 ∙ c.begin-k.ensures.others) c.requires.edges_under,
         search rules,
       ) }
 
@@ -42,13 +38,11 @@ loop-k-smaller c = omega (arith, c.loop-k.invariant.2.holds.queue.held, c.loop-k
 
 pub loop-k-preserved : goal.loop-k-preserved
 loop-k-preserved c =
-    let start = c in
-    let a = start.args in
-    let p = start.requires in
+    let a = c.args in
     (
       search rules,
       c.round-k.ensures.others ∙ c.loop-k.invariant.1,
-      next _ a.n a.s p.0.0 p.0.1 (arcs_bounded _ _ _ _ p.1)
+      next _ a.n a.s c.requires.n_le_max_nodes.0 c.requires.n_le_max_nodes.1 (arcs_bounded _ _ _ _ c.requires.edges_under)
           c.loop-k.k c.loop-k.e _ c.loop-k.invariant.2 _ _ c.round-k.ensures.round,
     )
 
@@ -57,8 +51,6 @@ finish-requires c = (search rules, search rules, c.loop-k.invariant.2.holds.queu
 
 pub returns : goal.returns
 returns c =
-    let start = c in
-    let a = start.args in
-    let p = start.requires in
-    record { found = last _ a.n a.s p.0.0 p.0.1 (arcs_bounded _ _ _ _ p.1) c.loop-k.k c.loop-k.e _ c.loop-k.invariant.2
+    let a = c.args in
+    record { found = last _ a.n a.s c.requires.n_le_max_nodes.0 c.requires.n_le_max_nodes.1 (arcs_bounded _ _ _ _ c.requires.edges_under) c.loop-k.k c.loop-k.e _ c.loop-k.invariant.2
           (omega (arith, c.loop-k-test.false)) _ c.finish.ensures.times c.finish.ensures.order; others = c.finish.ensures.others ∙ (c.loop-k.invariant.1 ∙ c.begin-k.ensures.others) }

@@ -11,4 +11,4 @@ slice_bounds-fill-end-2 c = sym (length-take-le c.args.n c.args.work.now (search
 pub returns : goal.returns
 returns c =
     let a = c.args in
-    rw c.queue_words-m.ensures (blank_times a.n c.requires.0 a.work.now c.fill.new.0 c.fill-2.new.0 c.requires.2 c.fill.ensures (rw c.queue_words-m.ensures at c.fill-2.ensures))
+    rw c.queue_words-m.ensures (blank_times a.n c.requires.0 a.work.now c.fill.new.s c.fill-2.new.s c.requires.2 c.fill.ensures (rw c.queue_words-m.ensures at c.fill-2.ensures))

@@ -7,11 +7,11 @@ use Rattle.search.proofs.regions.clear.Goals as goal
 pub returns : goal.returns
 returns c =
     let n = c.args.n in
-    let ys = c.number.new.0 in
-    let zs = c.fill.new.0 in
-    let size = c.blank.auto.0 ∙ c.requires.2 in
+    let ys = c.number.new.s in
+    let zs = c.fill.new.s in
+    let size = c.blank.auto.work ∙ c.requires.2 in
     let r = rw c.queue_words-m.ensures at c.fill.ensures in
     let all = rw c.queue_words-m.ensures (
-      clear_holds n c.requires.0 c.blank.new.0 ys zs size c.blank.ensures c.number.ensures r c.requires.1,
-      (clear_times n c.requires.0 c.blank.new.0 ys zs size c.blank.ensures c.number.ensures, clear_settled n c.requires.0 c.blank.new.0 ys zs size c.blank.ensures c.number.ensures r),
+      clear_holds n c.requires.0 c.blank.new.work ys zs size c.blank.ensures c.number.ensures r c.requires.1,
+      (clear_times n c.requires.0 c.blank.new.work ys zs size c.blank.ensures c.number.ensures, clear_settled n c.requires.0 c.blank.new.work ys zs size c.blank.ensures c.number.ensures r),
     ) in record { holds = all.0; times = all.1.0; settled = all.1.1 }

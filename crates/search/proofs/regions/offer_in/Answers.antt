@@ -17,7 +17,7 @@ returns-then-not-lowers c =
     not_offered a.n a.k a.e a.v a.x a.work.now c.requires.0 (omega (
       arith,
       time_at a.n a.work.now a.v c.requires.1,
-      ltb-false a.x (time a.n a.work.now a.v) (sym c.lowers.ensures.less ∙ not-true _ c.if-not-lowers.true),
+      ltb-false a.x (time a.n a.work.now a.v) (sym c.lowers.ensures.less ∙ c.if-not-lowers.true),
     ))
 
 pub returns-then-contains : goal.returns-then-contains
@@ -38,7 +38,7 @@ slice_bounds-offer-end-2 c =
 pub offer-requires : goal.offer-requires
 offer-requires c =
     let a = c.args in
-    let lowered = not-false _ c.if-not-lowers.false in
+    let lowered = c.if-not-lowers.false in
     let less = ltb-true a.x (time a.n a.work.now a.v)
     (sym c.lowers.ensures.less ∙ lowered) in (
       rw c.queue_words-m.ensures c.requires.0.queue,
@@ -52,7 +52,7 @@ offer-requires c =
 pub returns : goal.returns
 returns c =
     let a = c.args in
-    rw c.queue_words-m.ensures (offered_in a.n a.k a.e a.work.now c.offer.new.0
+    rw c.queue_words-m.ensures (offered_in a.n a.k a.e a.work.now c.offer.new.w
     c.requires.0
-    (rw c.queue_words-m.ensures at c.offer.auto.0) a.v a.x _
+    (rw c.queue_words-m.ensures at c.offer.auto.w) a.v a.x _
     (rw c.queue_words-m.ensures at c.offer.ensures))

@@ -11,4 +11,4 @@ offer_in-requires c =
 pub returns : goal.returns
 returns c =
     let a = c.args in
-    let all = reset_done a.n a.s c.clear.new.0 c.clear.ensures.times c.clear.ensures.settled _ _ c.offer_in.ensures in record { holds = all.0; times = all.1.0; settled = all.1.1 }
+    let all = reset_done a.n a.s c.clear.new.work c.clear.ensures.times c.clear.ensures.settled _ _ c.offer_in.ensures in record { holds = all.0; times = all.1.0; settled = all.1.1 }

@@ -14,7 +14,7 @@ take_nearest-u-requires c = rw c.queue_words-m.ensures (c.requires.0.queue, c.re
 pub returns : goal.returns
 returns c =
     let a = c.args in
-    rw c.queue_words-m.ensures (taken_in a.n a.k a.e a.work.now c.take_nearest-u.new.0
-    c.requires.0 (rw c.queue_words-m.ensures at c.take_nearest-u.auto.0)
-    c.insert.new.0 _
-    (rw c.queue_words-m.ensures at c.take_nearest-u.ensures) (rw c.queue_words-m.ensures at c.insert.auto.0) (rw c.queue_words-m.ensures at c.insert.ensures.words))
+    rw c.queue_words-m.ensures (taken_in a.n a.k a.e a.work.now c.take_nearest-u.new.w
+    c.requires.0 (rw c.queue_words-m.ensures at c.take_nearest-u.auto.w)
+    c.insert.new.s _
+    (rw c.queue_words-m.ensures at c.take_nearest-u.ensures) (rw c.queue_words-m.ensures at c.insert.auto.s) (rw c.queue_words-m.ensures at c.insert.ensures.words))

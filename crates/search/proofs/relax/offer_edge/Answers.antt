@@ -67,7 +67,7 @@ offer_in-requires c =
 pub returns : goal.returns
 returns c =
     let a = c.args in
-    let k = rw c.search_words-front.ensures at c.offer_in.auto.0 in
+    let k = rw c.search_words-front.ensures at c.offer_in.auto.work in
     let l = edge_room a.n a.edges.now a.i a.work.now c.requires.edges_value.0 c.requires.edges_value.1 c.requires.holds.2 in
     let x = one_arc a.edges.now a.lines.now a.n a.u a.i c.requires.edges_value.0 c.requires.edges_value.1 c.requires.edges_value.2 _ _ _ _
     c.edge_first.ensures.0
@@ -75,6 +75,6 @@ returns c =
     c.other_end-v.ensures
     c.cost_left-cost.ensures
     c.if-cost-eq-NO_WALK.false in let all = rw c.search_words-front.ensures (
-      offered a.n a.e a.u a.d a.work.now a.k c.requires.holds.0 _ _ _ x c.offer_in.new.0 _ l k (rw c.search_words-front.ensures at c.offer_in.ensures),
-      front_others a.work.now c.offer_in.new.0 (search_words a.n) l k,
+      offered a.n a.e a.u a.d a.work.now a.k c.requires.holds.0 _ _ _ x c.offer_in.new.work _ l k (rw c.search_words-front.ensures at c.offer_in.ensures),
+      front_others a.work.now c.offer_in.new.work (search_words a.n) l k,
     ) in record { relaxed = all.0; others = all.1 }

@@ -21,12 +21,11 @@ arc_at-a-requires c = (c.requires.edges_under.0.roads.ends, λ l. (c.first_edge-
 
 pub loop-a-init : goal.loop-a-init
 loop-a-init c =
-    let s = c in
-    let a = s.args in
-    let p = s.requires in (
+    let a = c.args in
+    (
       refl,
-      passed_first a.edges.now [] a.n a.e a.u c.time_of-d.result a.work.now a.k _ p.0.0
-          (rw (time_read a.n a.u a.work.now p.0.1 _ c.time_of-d.ensures.0) at p.0.2) p.1.0
+      passed_first a.edges.now [] a.n a.e a.u c.time_of-d.result a.work.now a.k _ c.requires.holds.0
+          (rw (time_read a.n a.u a.work.now c.requires.holds.1 _ c.time_of-d.ensures.0) at c.requires.holds.2) c.requires.edges_under.0
           (passes_first _ _ _ _ _ _ _ (first_arc_here _ _ _ _ _ _ _ c.arc_at-a.ensures.0 c.first_edge-c.ensures.valid
           (λ z. omega (arith, z, c.arc_at-a.ensures.1))) c.first_edge-c.ensures),
     )
@@ -35,10 +34,8 @@ pub slice_bounds-offer_in-end : goal.slice_bounds-offer_in-end
 slice_bounds-offer_in-end c = omega (arith, c.search_words-front.ensures, c.loop-a.invariant.0, c.requires.edges_under.1)
 
 pub slice_bounds-offer_in-end-in-loop-a : goal.slice_bounds-offer_in-end-in-loop-a
-slice_bounds-offer_in-end-in-loop-a c =
-    let s = c in
-    sym (length-take-le c.search_words-front.result c.loop-a.work
-    (omega (arith, c.search_words-front.ensures, c.loop-a.invariant.0, s.requires.1.1)))
+slice_bounds-offer_in-end-in-loop-a c = sym (length-take-le c.search_words-front.result c.loop-a.work
+    (omega (arith, c.search_words-front.ensures, c.loop-a.invariant.0, c.requires.edges_under.1)))
 
 pub overflow_add-d : goal.overflow_add-d
 overflow_add-d c = omega (arith, c.loop-a.invariant.1.passes.low)
@@ -51,15 +48,13 @@ offer_in-held-requires c =
 
 pub next_arc-a-requires : goal.next_arc-a-requires
 next_arc-a-requires c =
-    let s = c in
-    let a = s.args in
-    let p = s.requires in
-    let ys = c.offer_in-held.new.0 in
-    let k = rw c.search_words-front.ensures at c.offer_in-held.auto.0 in
-    record { n_le_max_nodes = (p.0.0.queue.positioned.few, search rules, p.0.1); indexed_edges = rw c.search_words-front.ensures (turn_edges a.edges.now [] a.n a.e a.u c.time_of-d.result a.work.now c.loop-a.a c.loop-a.held
-            c.loop-a.work ys c.loop-a.invariant.1 (omega (arith, c.loop-a.invariant.0, p.1.1)) k).roads; valid_arc = (
+    let a = c.args in
+    let ys = c.offer_in-held.new.work in
+    let k = rw c.search_words-front.ensures at c.offer_in-held.auto.work in
+    record { n_le_max_nodes = (c.requires.holds.0.queue.positioned.few, search rules, c.requires.holds.1); indexed_edges = rw c.search_words-front.ensures (turn_edges a.edges.now [] a.n a.e a.u c.time_of-d.result a.work.now c.loop-a.a c.loop-a.held
+            c.loop-a.work ys c.loop-a.invariant.1 (omega (arith, c.loop-a.invariant.0, c.requires.edges_under.1)) k).roads; valid_arc = (
           rw c.search_words-front.ensures (turn_passes a.edges.now [] a.n a.e a.u c.time_of-d.result a.work.now
-              c.loop-a.a c.loop-a.held c.loop-a.work ys c.loop-a.invariant.1 (omega (arith, c.loop-a.invariant.0, p.1.1)) k).valid,
+              c.loop-a.a c.loop-a.held c.loop-a.work ys c.loop-a.invariant.1 (omega (arith, c.loop-a.invariant.0, c.requires.edges_under.1)) k).valid,
           c.loop-a-test.true,
         ) }
 
@@ -68,19 +63,17 @@ loop-a-smaller c = c.next_arc-a.ensures.less
 
 pub loop-a-preserved : goal.loop-a-preserved
 loop-a-preserved c =
-    let s = c in
-    let a = s.args in
+    let a = c.args in
     (
       search rules,
-      rw c.search_words-front.ensures (passed_next a.edges.now [] a.n a.e a.u c.time_of-d.result a.work.now c.loop-a.a c.loop-a.held c.loop-a.work c.offer_in-held.new.0
-          c.loop-a.invariant.1 (omega (arith, c.loop-a.invariant.0, s.requires.1.1)) (rw c.search_words-front.ensures at c.offer_in-held.auto.0) _ (rw c.search_words-front.ensures at c.offer_in-held.ensures) _
+      rw c.search_words-front.ensures (passed_next a.edges.now [] a.n a.e a.u c.time_of-d.result a.work.now c.loop-a.a c.loop-a.held c.loop-a.work c.offer_in-held.new.work
+          c.loop-a.invariant.1 (omega (arith, c.loop-a.invariant.0, c.requires.edges_under.1)) (rw c.search_words-front.ensures at c.offer_in-held.auto.work) _ (rw c.search_words-front.ensures at c.offer_in-held.ensures) _
           (rw c.search_words-front.ensures at c.next_arc-a.ensures)),
     )
 
 pub returns : goal.returns
 returns c =
-    let s = c in
-    let a = s.args in
-    record { relaxed = rw (time_read a.n a.u a.work.now s.requires.0.1 _ c.time_of-d.ensures.0)
+    let a = c.args in
+    record { relaxed = rw (time_read a.n a.u a.work.now c.requires.holds.1 _ c.time_of-d.ensures.0)
           (passed_last a.edges.now [] a.n a.e a.u c.time_of-d.result a.work.now c.loop-a.held c.loop-a.work c.loop-a.a
           (omega (arith, c.loop-a-test.false)) c.loop-a.invariant.1); others = c.loop-a.invariant.1.others }

@@ -18,6 +18,6 @@ plain_order-requires c = (
 pub returns : goal.returns
 returns c =
     let a = c.args in
-    let x = finished a.n a.work.now c.plain_order.new.0 (search rules) (rw c.search_words-m.ensures at c.plain_order.auto.0)
+    let x = finished a.n a.work.now c.plain_order.new.work (search rules) (rw c.search_words-m.ensures at c.plain_order.auto.work)
     a.e _ _ (rw c.search_words-m.ensures at c.plain_order.ensures.times) (rw c.search_words-m.ensures at c.plain_order.ensures.order) in
     let all = rw c.search_words-m.ensures (x.0, (x.1, x.2)) in record { times = all.0; order = all.1.0; others = all.1.1 }

@@ -16,18 +16,16 @@ settle_nearest-u-requires c = rw c.search_words-m.ensures (c.requires.holds.0, c
 
 pub relax-requires : goal.relax-requires
 relax-requires c =
-    let s = c in
-    let a = s.args in
-    let p = s.requires in
+    let a = c.args in
     let t = rw c.search_words-m.ensures at c.settle_nearest-u.ensures in
-    let ys = c.settle_nearest-u.new.0 in
-    let k = rw c.search_words-m.ensures at c.settle_nearest-u.auto.0 in record { holds = (
+    let ys = c.settle_nearest-u.new.work in
+    let k = rw c.search_words-m.ensures at c.settle_nearest-u.auto.work in record { holds = (
         rw c.search_words-m.ensures (round_holds a.n a.work.now ys (search rules) k a.k a.e _ t),
         t.near.inside,
-        rw c.search_words-m.ensures (round_within a.n a.work.now ys (search rules) k a.k a.e _ t p.0.2),
+        rw c.search_words-m.ensures (round_within a.n a.work.now ys (search rules) k a.k a.e _ t c.requires.holds.2),
       ); edges_under = (
         rw c.search_words-m.ensures (edges_kept a.edges.now a.lines.now a.n a.work.now _
-            (others a.n a.work.now ys (search rules) k) p.1.0),
+            (others a.n a.work.now ys (search rules) k) c.requires.edges_under.0),
         search rules,
       ) }
 
@@ -35,6 +33,6 @@ pub returns : goal.returns
 returns c =
     let a = c.args in
     let t = rw c.search_words-m.ensures at c.settle_nearest-u.ensures in
-    let ys = c.settle_nearest-u.new.0 in
-    let k = rw c.search_words-m.ensures at c.settle_nearest-u.auto.0 in record { round = round_front a.n a.work.now ys (search rules) k a.k a.e _ t (arcs_under a.edges.now a.lines.now) _ _
+    let ys = c.settle_nearest-u.new.work in
+    let k = rw c.search_words-m.ensures at c.settle_nearest-u.auto.work in record { round = round_front a.n a.work.now ys (search rules) k a.k a.e _ t (arcs_under a.edges.now a.lines.now) _ _
           (rw c.search_words-m.ensures at c.relax.ensures.relaxed); others = rw c.search_words-m.ensures at c.relax.ensures.others ∙ others a.n a.work.now ys (search rules) k }

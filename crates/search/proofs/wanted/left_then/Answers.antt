@@ -15,21 +15,19 @@ contains-requires c =
 pub returns-then-contains : goal.returns-then-contains
 unfolding low
 returns-then-contains c =
-    let s = c in
-    let a = s.args in
+    let a = c.args in
     omega (
       arith,
-      want_set a.n a.work.now _ s.requires.4
+      want_set a.n a.work.now _ c.requires.4
           (rw c.search_words-m.ensures at (sym c.contains.ensures ∙ c.if-contains.true)),
     )
 
 pub returns : goal.returns
 unfolding low
 returns c =
-    let s = c in
-    let a = s.args in
+    let a = c.args in
     omega (
       arith,
-      want_not_set a.n a.work.now _ s.requires.4
+      want_not_set a.n a.work.now _ c.requires.4
           (rw c.search_words-m.ensures at (sym c.contains.ensures ∙ c.if-contains.false)),
     )

@@ -16,28 +16,24 @@ use Rattle.search.proofs.wanted.search_wanted_under.Goals as goal
 
 pub loop-k-init : goal.loop-k-init
 loop-k-init c =
-    let start = c in
-    let a = start.args in
-    let p = start.requires in
+    let a = c.args in
     (
       refl,
       refl,
       wanting_begun (arcs_under a.edges.now a.lines.now) a.n a.s _ a.left a.work.now _ c.begin-k.ensures.others
-          (first _ a.n a.s p.0.0 p.0.1 (arcs_bounded _ _ _ _ p.1) _ _ c.begin-k.ensures.holds c.begin-k.ensures.times c.begin-k.ensures.settled) c.begin-k.ensures.settled p.0.3,
+          (first _ a.n a.s c.requires.n_le_max_nodes.0 c.requires.n_le_max_nodes.1 (arcs_bounded _ _ _ _ c.requires.edges_under) _ _ c.begin-k.ensures.holds c.begin-k.ensures.times c.begin-k.ensures.settled) c.begin-k.ensures.settled c.requires.n_le_max_nodes.3,
     )
 
 pub round-k-requires : goal.round-k-requires
 round-k-requires c =
-    let start = c in
-    let a = start.args in
-    let p = start.requires in
+    let a = c.args in
     record { holds = (
         c.loop-k.invariant.2.standing.holds,
         omega (arith, c.loop-k-test.true),
         standing_first (arcs_under a.edges.now a.lines.now) a.n a.s c.loop-k.k c.loop-k.e _ c.loop-k.invariant.2.standing,
       ); edges_under = (
         edges_kept a.edges.now a.lines.now a.n a.work.now c.loop-k.work
-            (c.loop-k.invariant.1 ∙ c.begin-k.ensures.others) p.1,
+            (c.loop-k.invariant.1 ∙ c.begin-k.ensures.others) c.requires.edges_under,
         search rules,
       ) }
 
@@ -50,16 +46,14 @@ overflow_sub-e c = omega (
 
 pub left_then-lacking-requires : goal.left_then-lacking-requires
 left_then-lacking-requires c =
-    let start = c in
-    let a = start.args in
-    let p = start.requires in
+    let a = c.args in
     let h = c.loop-k.invariant.2.standing.holds.queue in
     (
-      p.0.0,
+      c.requires.n_le_max_nodes.0,
       omega (arith, h.held, h.room, c.loop-k-test.true),
       ltb-true 0 c.loop-k.lacking c.if-lacking-gt0.true,
       search rules,
-      node_inside _ a.n a.s p.0.0 p.0.1 (arcs_bounded _ _ _ _ p.1) c.loop-k.k c.loop-k.e _ _ _ _ c.loop-k-test.true (c.round-k.ensures.others ∙ c.loop-k.invariant.1)
+      node_inside _ a.n a.s c.requires.n_le_max_nodes.0 c.requires.n_le_max_nodes.1 (arcs_bounded _ _ _ _ c.requires.edges_under) c.loop-k.k c.loop-k.e _ _ _ _ c.loop-k-test.true (c.round-k.ensures.others ∙ c.loop-k.invariant.1)
           c.loop-k.invariant.2 _ c.round-k.ensures.round,
     )
 
@@ -72,13 +66,11 @@ loop-k-smaller c = omega (
 
 pub loop-k-preserved : goal.loop-k-preserved
 loop-k-preserved c =
-    let start = c in
-    let a = start.args in
-    let p = start.requires in
+    let a = c.args in
     (
       search rules,
       c.round-k.ensures.others ∙ c.loop-k.invariant.1,
-      turn _ a.n a.s p.0.0 p.0.1 (arcs_bounded _ _ _ _ p.1) c.loop-k.k c.loop-k.e _ _ _ _
+      turn _ a.n a.s c.requires.n_le_max_nodes.0 c.requires.n_le_max_nodes.1 (arcs_bounded _ _ _ _ c.requires.edges_under) c.loop-k.k c.loop-k.e _ _ _ _
           c.loop-k-test.true (c.round-k.ensures.others ∙ c.loop-k.invariant.1) c.loop-k.invariant.2 _ c.round-k.ensures.round _ c.left_then-lacking.ensures,
     )
 
@@ -87,9 +79,7 @@ finish-requires c = (search rules, search rules, c.loop-k.invariant.2.standing.h
 
 pub returns : goal.returns
 returns c =
-    let start = c in
-    let a = start.args in
-    let p = start.requires in
-    let b = c.begin-k.ensures.others in record { found = stop_wanted _ a.n a.s p.0.0 p.0.1 (arcs_bounded _ _ _ _ p.1) c.loop-k.k c.loop-k.e _ a.work.now _ b _ c.loop-k.invariant.2
+    let a = c.args in
+    let b = c.begin-k.ensures.others in record { found = stop_wanted _ a.n a.s c.requires.n_le_max_nodes.0 c.requires.n_le_max_nodes.1 (arcs_bounded _ _ _ _ c.requires.edges_under) c.loop-k.k c.loop-k.e _ a.work.now _ b _ c.loop-k.invariant.2
           (⊎_elim (λ z. inr (omega (arith, ltb-false 0 c.loop-k.lacking z.1.left))) (λ z. inl (omega (arith, z.left)))
           c.loop-k-test.branch) _ c.finish.ensures.times c.finish.ensures.order; others = c.finish.ensures.others ∙ (c.loop-k.invariant.1 ∙ b) }

@@ -14,7 +14,7 @@ unfolding line_count
 loop-k-init c = (refl, c.block_lines-size.ensures, refl, noted_none c.args.lines.now _)
 
 pub note_line-requires : goal.note_line-requires
-note_line-requires c = (c.loop-k.invariant.1, omega (arith, c.loop-k.invariant.0, c.loop-k-test.true), omega (arith, c.loop-k.invariant.2, c.fill.auto.0, c.requires), c.loop-k.invariant.3)
+note_line-requires c = (c.loop-k.invariant.1, omega (arith, c.loop-k.invariant.0, c.loop-k-test.true), omega (arith, c.loop-k.invariant.2, c.fill.auto.s, c.requires), c.loop-k.invariant.3)
 
 pub overflow_add-k : goal.overflow_add-k
 unfolding line_count

@@ -17,12 +17,12 @@ overflow_mul-column c = omega (arith, c.requires.0.2.within _ (index_below _ _ _
 pub sum-requires : goal.sum-requires
 sum-requires c =
     let within = c.requires.0.2.within _ (index_below _ _ _ c.requires.0.1 _ c.requires.1) in
-    rw (c.entry_index-column.ensures, c.entry_at_law.ensures) (within, omega (arith, entry_within _ _ _ c.requires.0.1 _ c.requires.1))
+    rw (c.entry_index-column.ensures, c.entry_at-at.ensures) (within, omega (arith, entry_within _ _ _ c.requires.0.1 _ c.requires.1))
 
 pub returns : goal.returns
 unfolding sum_in access_entry value
 returns c =
     let column = c.requires.0.2.range _ (index_below _ _ _ c.requires.0.1 _ c.requires.1) in
     let entry = key_in_range _ _ _ c.requires.0.1 _ c.requires.1 in
-    let e = rw (c.entry_index-column.ensures, c.entry_at_law.ensures) at c.sum.ensures in
+    let e = rw (c.entry_index-column.ensures, c.entry_at-at.ensures) at c.sum.ensures in
     (ap summed e ∙ two-tells _ _ column entry, rw e (two_most _ _ column entry))

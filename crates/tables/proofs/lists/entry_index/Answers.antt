@@ -12,4 +12,4 @@ read16-requires c = omega (arith, entry_within _ _ _ c.requires.0.1 _ c.requires
 
 pub returns : goal.returns
 unfolding access_entry
-returns c = c.read16.ensures.0 ∙ ap (word16 _) c.entry_at_law.ensures
+returns c = c.read16.ensures.0 ∙ ap (word16 _) c.entry_at.ensures

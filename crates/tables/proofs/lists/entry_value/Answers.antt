@@ -14,5 +14,5 @@ read_value-requires c = omega (arith, entry_within _ _ _ c.requires.0.1 _ c.requ
 pub returns : goal.returns
 unfolding access_entry
 returns c =
-    let e = rw c.entry_at_law.ensures at c.read_value.ensures.0 in
+    let e = rw c.entry_at.ensures at c.read_value.ensures.0 in
     (e, value_in_range _ _ _ c.requires.0.1 _ c.requires.1 _ e)

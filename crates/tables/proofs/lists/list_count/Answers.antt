@@ -12,4 +12,4 @@ read16-requires c = omega (arith, list_within _ _ _ c.requires.1)
 
 pub returns : goal.returns
 unfolding list_count
-returns c = (c.read16.ensures.0 ∙ ap (word16 _) c.list_start_law.ensures, c.read16.ensures.1)
+returns c = (c.read16.ensures.0 ∙ ap (word16 _) c.list_start.ensures, c.read16.ensures.1)

@@ -9,5 +9,5 @@ pub overflow_add-end : goal.overflow_add-end
 overflow_add-end c = omega (arith, list_within _ _ _ c.requires.1)
 
 pub returns : goal.returns
-returns c = part_between _ _ _ _ c.list_start_law.ensures
+returns c = part_between _ _ _ _ c.list_start-start.ensures
     (omega (arith, c.list_count.ensures.0, c.list_size.ensures))

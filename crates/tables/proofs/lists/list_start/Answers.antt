@@ -6,4 +6,4 @@ pub list_start-requires : goal.list_start-requires
 list_start-requires c = start_within _ _ _ c.requires.1
 
 pub returns : goal.returns
-returns c = c.list_start_law.ensures
+returns c = c.list_start.ensures

@@ -15,5 +15,5 @@ returns c =
     let a = c.args in
     judged_over a.o.now a.lines.now c.requires.opened.0 a.s a.t c.requires.opened.1 c.requires.opened.2 c.requires.opened.3 _ _
     c.oracle_body.ensures
-    c.node_count.ensures _ _ c.old_way_driven.auto.1.1.1.1.1.0 c.old_way_driven.ensures.driven c.old_way_driven.ensures.old c.old_way_driven.ensures.edges
+    c.node_count.ensures _ _ c.old_way_driven.auto.work c.old_way_driven.ensures.driven c.old_way_driven.ensures.old c.old_way_driven.ensures.edges
     c.old_way_driven.ensures.others

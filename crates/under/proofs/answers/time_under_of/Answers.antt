@@ -12,7 +12,7 @@ pub returns-then-s-t : goal.returns-then-s-t
 returns-then-s-t c =
     let a = c.args in
     let e = stands_itself _ a.o.now a.s (own_itself a.o.now (all_shaped _ c.requires.opened.0.shape) a.s c.requires.opened.1) in record { answer = rw (← c.if-s-t.true) (rw (← c.if-s-t.true) at c.time_of.ensures.answer ∙ e); stays = stays _ _ _ c.requires.opened.0
-          c.time_of.auto.1.1.1.0 c.time_of.ensures.others }
+          c.time_of.auto.work c.time_of.ensures.others }
 
 pub judge-driven-requires : goal.judge-driven-requires
 judge-driven-requires c = record { opened = (c.requires.opened.0, c.requires.opened.1, c.requires.opened.2, c.if-s-t.false); quick_lines = c.requires.quick_lines }
@@ -31,4 +31,4 @@ searched-requires c = record { opened = (c.judge-driven.ensures.stays.opened, c.
 
 pub returns : goal.returns
 returns c = record { answer = c.searched.ensures.answer ∙ stands_not _ _ _ _ (sym c.judge-driven.ensures.driven ∙ c.if-driven.false)
-          (sym (ap isNone c.old_answer-old.ensures) ∙ (sym c.is_none.ensures ∙ c.if-is_none.false)); stays = stays_then _ _ _ _ c.judge-driven.ensures.stays (stays _ _ _ c.judge-driven.ensures.stays.opened c.searched.auto.1.1.1.1.0 c.searched.ensures.others) }
+          (sym (ap isNone c.old_answer-old.ensures) ∙ (sym c.is_none.ensures ∙ c.if-is_none.false)); stays = stays_then _ _ _ _ c.judge-driven.ensures.stays (stays _ _ _ c.judge-driven.ensures.stays.opened c.searched.auto.work c.searched.ensures.others) }

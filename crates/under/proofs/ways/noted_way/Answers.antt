@@ -15,5 +15,5 @@ write_way_to-requires c =
 pub returns : goal.returns
 returns c =
     let a = c.args in
-    record { given = c.write_way_to.ensures.given; others = noted_then a.n _ _ _ c.note_lines.auto.1.1.0
+    record { given = c.write_way_to.ensures.given; others = noted_then a.n _ _ _ c.note_lines.auto.work
           c.note_lines.ensures.others c.write_way_to.ensures.others }

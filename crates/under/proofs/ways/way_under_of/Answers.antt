@@ -38,4 +38,4 @@ returns c =
     let a = c.args in
     let e = way_is a.o.now a.lines.now (all_shaped _ c.requires.opened.0.shape) c.requires.quick_lines a.s a.t c.requires.opened.2 in record { given = rw (← e, ← c.oracle_body.ensures, ← c.node_count.ensures) c.noted_way.ensures.given; stays = noted_stays _ _ _ c.requires.opened.0
           (omega (arith, c.requires.opened.1, c.requires.opened.2, c.if-s-t.false))
-          c.noted_way.auto.1.1.1.1.1.0 (rw c.node_count.ensures at c.noted_way.ensures.others) }
+          c.noted_way.auto.work (rw c.node_count.ensures at c.noted_way.ensures.others) }

@@ -21,5 +21,5 @@ wages_of-written-requires c =
 
 pub returns : goal.returns
 returns c =
-    let k = stays _ _ _ c.open_words.ensures.opened c.wages_of-written.auto.1.1.0 c.wages_of-written.ensures.others in
+    let k = stays _ _ _ c.open_words.ensures.opened c.wages_of-written.auto.work c.wages_of-written.ensures.others in
     wages_given _ _ _ _ c.open_refusal-rule.ensures _ c.if-rule-ne0.false _ _ _ _ c.wages_of-written.ensures.given (k.rest ∙ c.open_words.ensures.rest) c.zero_words.ensures

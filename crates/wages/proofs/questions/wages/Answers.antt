@@ -16,6 +16,6 @@ wages_of-requires c = (c.requires, legs_kept _ _ (sym c.named_legs_refusal-rule.
 
 pub returns : goal.returns
 returns c =
-    let k = stays _ _ _ c.requires c.wages_of.auto.1.1.0 c.wages_of.ensures.others in
+    let k = stays _ _ _ c.requires c.wages_of.auto.work c.wages_of.ensures.others in
     let r = wages_given _ _ _ _ (as_open _ _ _ c.requires _ c.named_legs_refusal-rule.ensures) _ c.if-rule-ne0.false _ _ _ _ c.wages_of.ensures.given refl refl in
     record { result = r.result; bytes = r.bytes; stays = k }

@@ -18,9 +18,8 @@ returns-then-left-eq-NO_WALK c =
 pub way_after-requires : goal.way_after-requires
 way_after-requires c =
     let a = c.args in
-    let r = c in
     let e = starts a.n a.t4.now (arcs_under a.t1.now a.t2.now) a.s _ c.requires.s_lt_n.0
-    r.time_of.ensures.1 r.if1.false in
+    c.time_of-left.ensures.1 c.if-left-eq-NO_WALK.false in
     record { u_value = (e, c.requires.s_lt_n.1, c.requires.s_lt_n.2); fits = room _ _ _ _ c.requires.edges_under c.requires.s_lt_n.1 _ _ c.requires.s_lt_n.0 e; edges_under = c.requires.edges_under }
 
 pub returns : goal.returns

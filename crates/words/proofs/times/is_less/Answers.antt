@@ -12,6 +12,6 @@ returns-then-a-b c =
 pub returns : goal.returns
 returns c =
     let a = c.args in
-    rw (c.half_of_lem.ensures.0, c.half_of-2.ensures.0)
+    rw (c.half_of.ensures.0, c.half_of-2.ensures.0)
     (less_hops a.n a.work.now (λ i. omega (arith, c.shared_slice_known-2-1.given i)) a.u a.v
     c.if-a-b.false)

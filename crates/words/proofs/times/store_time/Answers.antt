@@ -11,7 +11,7 @@ pub put_half-requires : goal.put_half-requires
 put_half-requires c = simp length-set (omega arith, omega (arith, c.hops_of.ensures.1))
 
 pub shape_of-work : goal.shape_of-work
-shape_of-work c = simp length-set at c.put_half.auto.0
+shape_of-work c = simp length-set at c.put_half.auto.w
 
 pub returns : goal.returns
 unfolding store
