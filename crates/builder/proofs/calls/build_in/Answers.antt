@@ -94,7 +94,7 @@ overflow_cast-result-2 c = omega (arith, small c)
 
 pub returns : goal.returns
 returns c =
-    let pre = c.pre in
+    let pre = c.requires in
     let a = c.args in
     let p = plan (start) in record { given = given_built a.network.now a.dv a.out.now _ _ _ (c.whole_size-size.ensures ∙ sized (start))
           (p.transits ∙ ap length (transits_are a.network.now a.dv a.nodes.now a.edges.now a.grid a.n pre.0))
