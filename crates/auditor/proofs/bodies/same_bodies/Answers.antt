@@ -73,5 +73,5 @@ returns c =
     let first = first_same a.nodes.now a.edges.now a.grid a.n p.1 a.transit.now a.access.now a.table.now _
     c.mark_transit.ensures.members (sym c.same_transit.ensures ∙ c.if-not-same_transit.false) in record { same = third_tells a.nodes.now a.edges.now a.grid a.n p.1 a.transit.now a.access.now a.table.now _
           (transit_kept a.n _ _ c.same_lists.ensures.others ∙ c.mark_transit.ensures.members) first
-          (sym c.same_lists.ensures.same ∙ c.if-not-same_lists.false) _ c.same_table.ensures.same; rest = rest_last a.edges.now a.n p.5 a.work.now _ _ build_index.ensures.0 build_index.ensures.1.1
+          (sym c.same_lists.ensures.same ∙ c.if-not-same_lists.false) _ c.same_table.ensures.same; rest = rest_last a.edges.now a.n p.5 a.work.now _ _ build_index.ensures.roads build_index.ensures.behind
           c.mark_transit.ensures.others _ c.same_lists.ensures.others _ c.same_table.ensures.others }
