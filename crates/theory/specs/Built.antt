@@ -8,7 +8,7 @@ use Rattle.model.specs.Lists.{any, member, up_to, index_of, concat_map}
 use Rattle.model.specs.Bytes.{Bytes, bytes16}
 use Rattle.model.specs.Contents.{body, file, oracle_edition, node_body, edge_body, closed_body, grid_body, transit_body, access_body, table_body}
 use Rattle.model.specs.Distance.{Distance, plus, sooner, soonest}
-use Rattle.model.specs.Network.{Edge, network, nodes, order, distance}
+use Rattle.model.specs.Network.{Edge, network, order, distance}
 use Rattle.model.specs.Grid.{Grid, Cell, cells, cell_at, cell_of, grid_over, division, division_bytes, kind_of}
 use Rattle.model.specs.Access.{access_nodes, access_lists, transit_nodes}
 use Rattle.model.specs.Oracle.{oracle, access_list, access_bytes, table_bytes, transit_count}

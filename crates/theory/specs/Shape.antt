@@ -10,7 +10,7 @@ use mathlib.Core.List.{List, [], ◌∷◌, ◌++◌, map, Memᴰ}
 use Rattle.std.proofs.Math.ListN.{length}
 use borrow.Author.Tests.{lt-ltb, le-ltb, eq-eqb, ltb-true, eqb-true}
 use Rattle.model.specs.Lists.{Part, gapless, any, all, filter, rising, up_to, range, index_of, concat}
-use Rattle.model.specs.Bytes.{Bytes, byte, word32, bytes16, bytes32}
+use Rattle.model.specs.Bytes.{Bytes, byte, bytes16, bytes32}
 use Rattle.model.specs.Contents.{entry, entry_at, entries, file, body_part, contents_broken, of_its_kind, bodies_broken, head_size, contents_entry_size}
 use Rattle.model.specs.Distance.{Distance, unreachable, finite}
 use Rattle.model.specs.Pair.{seconds_of, hops_of}

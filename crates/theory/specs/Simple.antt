@@ -2,7 +2,7 @@
 use Rattle.std.specs.Prelude.{ℕ, suc, ◌+◌, ◌≤◌, ◌≡◌, refl, ◌⊎◌, length}
 use Rattle.std.proofs.Common.{arith, ap, subst, sym, inl, inr}
 use mathlib.Core.List.Memᴰ
-use mathlib.Core.List.{List, [], ◌∷◌, Memᴰ}
+use mathlib.Core.List.{List, ◌∷◌, Memᴰ}
 use Rattle.model.specs.Lists.{Distinct}
 use Rattle.model.specs.Walk.{Arc, Walk, stay, go, hops, Least, nodes_after, nodes_of}
 use Rattle.theory.specs.Walks.{Positive, one, last_part}

@@ -2,7 +2,6 @@
 use Rattle.model.specs.Contents.{entry_at}
 use Rattle.contents.proofs.Bodies.{entry_in_file, entry_part}
 use native.Mathlib.Omega.{arith}
-use borrow.Author.Rules.{rules}
 use Rattle.contents.proofs.body_of.Goals as goal
 
 pub read_entry-entry-requires : goal.read_entry-entry-requires

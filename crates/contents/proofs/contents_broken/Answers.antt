@@ -1,6 +1,5 @@
 -- `contents::contents_broken` meets its contract: rule 1, test by test.
 use native.Mathlib.Omega.{arith}
-use borrow.Author.Rules.{rules}
 use Rattle.contents.proofs.Head.{by_length, by_edition, by_entries, by_contents}
 use Rattle.contents.proofs.contents_broken.Goals as goal
 

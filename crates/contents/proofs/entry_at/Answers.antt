@@ -1,6 +1,5 @@
 -- `contents::entry_at` meets its contract.
 use mathlib.Core.Path.{refl}
-use borrow.Author.Rules.{rules}
 use Rattle.model.specs.Contents.{entry_at}
 use Rattle.contents.proofs.entry_at.Goals as goal
 

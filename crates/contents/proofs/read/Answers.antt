@@ -1,9 +1,7 @@
 -- `contents::read` meets its contract. The loop keeps that the steps that are left make the contents.
-use Prim.Native.Nat.{◌-◌}
 use native.Mathlib.Omega.{arith}
-use borrow.Author.Rules.{rules}
 use Rattle.model.specs.Contents.{entry_at}
-use Rattle.contents.proofs.Steps.{Left, left_all, left_next, left_none}
+use Rattle.contents.proofs.Steps.{left_all, left_next, left_none}
 use Rattle.contents.proofs.read.Goals as goal
 
 pub loop-i-init : goal.loop-i-init

@@ -1,6 +1,5 @@
 -- `contents::read_entry` meets its contract: the three reads are the fields of the entry.
 use native.Mathlib.Omega.{arith}
-use borrow.Author.Rules.{rules}
 use Rattle.model.specs.Contents.{entry, entry_at}
 use Rattle.contents.specs.Reading.{held}
 use Rattle.contents.proofs.read_entry.Goals as goal

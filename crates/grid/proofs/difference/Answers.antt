@@ -1,5 +1,5 @@
 -- `grid::difference` meets its contract. Assumes nothing.
-use Rattle.std.proofs.Common.{arith, rules}
+use Rattle.std.proofs.Common.{arith}
 use Rattle.model.specs.Grid.{gap}
 use Rattle.grid.proofs.difference.Goals as goal
 

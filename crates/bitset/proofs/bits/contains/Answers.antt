@@ -1,7 +1,6 @@
 -- `bits::settled` meets its contract: the shift and the mask are the bit.
 use Prim.Native.Nat.{ℕ, ◌/◌, ◌%◌, ◌^◌}
 use mathlib.Core.Path.{ap}
-use borrow.Author.Rules.{rules}
 use lib.Bits.{and_mask}
 use lib.Dec.{eqb}
 use lib.ListN.{get_or}

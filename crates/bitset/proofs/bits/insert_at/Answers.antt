@@ -1,5 +1,4 @@
 -- `bits::insert_at` meets its contract: the words are those of the set with v.
-use borrow.Author.Rules.{rules}
 use Rattle.bitset.proofs.Members.{settle_same}
 use Rattle.bitset.proofs.bits.insert_at.Goals as goal
 

@@ -1,11 +1,8 @@
 -- `counts::count` meets its contract. The loop's invariant: `members` counts those below v. Assumes nothing.
-use Rattle.bitset.proofs.Ranks.{rank_none, rank_next}
 use Rattle.bitset.specs.Members.{members_of}
 use lib.ListN.{length}
-use native.Mathlib.Omega.{arith}
-use mathlib.Core.Path.{◌≡◌, sym, ◌∙◌, ap}
-use Prim.Native.Nat.{ℕ, ◌≤◌, ◌-◌}
-use borrow.Author.Rules.{rules}
+use mathlib.Core.Path.{◌≡◌}
+use Prim.Native.Nat.{◌≤◌, ◌-◌}
 use Rattle.bitset.proofs.counts.count.Given as goal
 
 abbrev pub invariant-loop-v : goal.invariant-loop-v

@@ -1,5 +1,5 @@
 use Rattle.model.specs.Bytes.{word16}
-use Rattle.std.proofs.Common.{arith, rules}
+use Rattle.std.proofs.Common.{arith}
 use Rattle.codec.proofs.bytes.read16.Goals as goal
 
 pub returns : goal.returns

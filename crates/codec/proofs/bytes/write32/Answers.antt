@@ -1,5 +1,5 @@
 use Rattle.codec.proofs.Writes.{write_4}
-use Rattle.std.proofs.Common.{arith, length-set, rules}
+use Rattle.std.proofs.Common.{arith, length-set}
 use Rattle.codec.proofs.bytes.write32.Goals as goal
 
 pub bounds-b-i-2 : goal.bounds-b-i-2

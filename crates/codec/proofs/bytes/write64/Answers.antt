@@ -1,5 +1,5 @@
 -- `bytes::write64` meets its contract.
-use Rattle.std.proofs.Common.{ap, ◌∙◌, rules}
+use Rattle.std.proofs.Common.{ap, ◌∙◌}
 use Rattle.model.specs.Bytes.{splice}
 use Rattle.codec.proofs.Writes.{write_8}
 use Rattle.codec.proofs.bytes.write64.Goals as goal

@@ -1,6 +1,5 @@
 -- `lists::list_start` meets its contract.
 use Rattle.model.specs.Oracle.{list_start}
-use Rattle.std.proofs.Common.{rules}
 use Rattle.codec.proofs.lists.list_start.Goals as goal
 
 pub returns : goal.returns

@@ -1,5 +1,4 @@
 use Rattle.model.specs.Network.{edge}
-use Rattle.std.proofs.Common.{rules}
 use Rattle.codec.proofs.records.edge_first.Goals as goal
 
 pub returns : goal.returns

@@ -1,5 +1,5 @@
 use Rattle.model.specs.Network.{coordinate, node}
-use Rattle.std.proofs.Common.{ap, ◌∙◌, rules}
+use Rattle.std.proofs.Common.{ap, ◌∙◌}
 use Rattle.codec.proofs.records.node_x.Goals as goal
 
 pub returns : goal.returns

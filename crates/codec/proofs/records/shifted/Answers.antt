@@ -1,5 +1,4 @@
 use Rattle.model.specs.Network.{coordinate}
-use Rattle.std.proofs.Common.{rules}
 use Rattle.codec.proofs.records.shifted.Goals as goal
 
 pub returns : goal.returns

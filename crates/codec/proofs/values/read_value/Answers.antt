@@ -1,5 +1,5 @@
 -- `values::read_value` meets its contract.
-use Rattle.std.proofs.Common.{ap, arith, rules}
+use Rattle.std.proofs.Common.{ap, arith}
 use Rattle.model.specs.Oracle.{decoded, value_key, value}
 use Rattle.codec.proofs.values.read_value.Goals as goal
 

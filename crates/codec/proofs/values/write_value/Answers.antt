@@ -1,5 +1,5 @@
 -- `values::write_value` meets its contract.
-use Rattle.std.proofs.Common.{◌∙◌, rules}
+use Rattle.std.proofs.Common.{◌∙◌}
 use Rattle.codec.proofs.Writes.{write_value}
 use Rattle.codec.proofs.values.write_value.Goals as goal
 

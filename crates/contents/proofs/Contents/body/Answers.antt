@@ -1,6 +1,5 @@
 -- `contents::Contents::body` meets its contract: the record holds the entry of the file, and its part lies in the file.
 use native.Mathlib.Omega.{arith}
-use borrow.Author.Rules.{rules}
 use Rattle.contents.proofs.Bodies.{in_file, its_part}
 use Rattle.contents.proofs.Contents.body.Goals as goal
 

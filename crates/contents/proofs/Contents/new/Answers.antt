@@ -1,5 +1,4 @@
 -- `contents::Contents::new` meets its contract.
-use borrow.Author.Rules.{rules}
 use Rattle.contents.specs.Reading.{no_contents}
 use Rattle.contents.proofs.Contents.new.Goals as goal
 

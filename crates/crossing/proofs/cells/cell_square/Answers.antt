@@ -2,7 +2,6 @@
 use Rattle.grid.specs.Stored.{model_cell}
 use Rattle.grid.proofs.Reached.{bounded}
 use Rattle.crossing.proofs.Alike.{cell_square_made}
-use borrow.Author.Rules.{rules}
 use Rattle.crossing.proofs.cells.cell_square.Goals as goal
 
 pub square-requires : goal.square-requires

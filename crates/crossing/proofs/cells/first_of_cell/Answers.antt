@@ -1,12 +1,7 @@
 -- `cells::first_of_cell` meets its contract: the answer is that for the nodes from v on.
-use Prim.Native.Nat.{◌-◌, ◌≤◌}
-use mathlib.Core.Path.{◌≡◌, sym, ◌∙◌}
+use mathlib.Core.Path.{sym, ◌∙◌}
 use borrow.Author.Rules.{rules}
-use Rattle.crossing.specs.Cells.{first_of_cell}
-use Rattle.crossing.specs.Beside.{CellSquare}
-use Rattle.grid.specs.declared.Grid.{Grid}
-use Rattle.crossing.specs.Ground.{cells_in}
-use Rattle.crossing.proofs.Alike.{none_from, none_first, none_found, none_next, none_last}
+use Rattle.crossing.proofs.Alike.{none_first, none_found, none_next, none_last}
 use Rattle.crossing.proofs.cells.first_of_cell.Goals as goal
 
 pub loop-v-init : goal.loop-v-init

@@ -1,12 +1,11 @@
 -- `cells::first_of_cell` meets its contract: the answer is that for the nodes from v on.
 use Prim.Native.Nat.{◌-◌, ◌≤◌}
-use mathlib.Core.Path.{◌≡◌, sym, ◌∙◌}
-use borrow.Author.Rules.{rules}
+use mathlib.Core.Path.{◌≡◌}
 use Rattle.crossing.specs.Cells.{first_of_cell}
 use Rattle.crossing.specs.Beside.{CellSquare}
 use Rattle.grid.specs.declared.Grid.{Grid}
 use Rattle.crossing.specs.Ground.{cells_in}
-use Rattle.crossing.proofs.Alike.{none_from, none_first, none_found, none_next, none_last}
+use Rattle.crossing.proofs.Alike.{none_from}
 use Rattle.crossing.proofs.cells.first_of_cell.Given as goal
 
 abbrev pub invariant-loop-v : goal.invariant-loop-v

@@ -1,6 +1,5 @@
 -- `square::crossing_end` meets its contract.
 use native.Mathlib.Omega.{arith}
-use borrow.Author.Rules.{rules}
 use Rattle.model.specs.Access.{crossing_end}
 use Rattle.crossing.proofs.square.crossing_end.Goals as goal
 

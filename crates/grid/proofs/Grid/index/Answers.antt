@@ -2,7 +2,7 @@
 use Rattle.theory.specs.GridLaws.{index_below}
 use Rattle.grid.proofs.Cells.{index_fits}
 use Rattle.model.specs.Grid.{cell_index}
-use Rattle.std.proofs.Common.{◌-◌, refl, arith, rules}
+use Rattle.std.proofs.Common.{◌-◌, refl, arith}
 use Rattle.grid.proofs.Grid.index.Goals as goal
 
 pub overflow_mul-result : goal.overflow_mul-result

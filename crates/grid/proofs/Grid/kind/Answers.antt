@@ -1,5 +1,5 @@
 -- `grid::Grid::kind` meets its contract. Assumes nothing.
-use Rattle.std.proofs.Common.{sym, ◌∙◌, rules}
+use Rattle.std.proofs.Common.{sym, ◌∙◌}
 use Rattle.grid.proofs.Cells.{kind_far}
 use Rattle.grid.proofs.Grid.kind.Goals as goal
 

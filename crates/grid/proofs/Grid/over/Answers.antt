@@ -1,7 +1,7 @@
 -- `grid::Grid::over` meets its contract. Assumes nothing.
 use Rattle.grid.proofs.Bounds.{least_greatest}
 use Rattle.model.specs.Grid.{grid_over}
-use Rattle.std.proofs.Common.{true, false, arith, rules}
+use Rattle.std.proofs.Common.{true, false, arith}
 use Rattle.grid.proofs.Grid.over.Goals as goal
 
 pub overflow_sub-across : goal.overflow_sub-across

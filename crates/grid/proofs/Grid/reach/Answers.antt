@@ -1,5 +1,5 @@
 -- `grid::Grid::reach` meets its contract.
-use Rattle.std.proofs.Common.{ℕ, ◌+◌, ◌-◌, ap, ◌∙◌, arith, rules}
+use Rattle.std.proofs.Common.{ℕ, ◌+◌, ◌-◌, ap, ◌∙◌, arith}
 use Rattle.grid.specs.Squares.{start_of}
 use Rattle.grid.proofs.Reached.{start_rises}
 use Rattle.grid.proofs.Grid.reach.Goals as goal

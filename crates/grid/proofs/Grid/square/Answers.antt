@@ -1,5 +1,5 @@
 -- `grid::Grid::square` meets its contract.
-use Rattle.std.proofs.Common.{arith, rules}
+use Rattle.std.proofs.Common.{arith}
 use Rattle.grid.proofs.Grid.square.Goals as goal
 
 pub overflow_add-result : goal.overflow_add-result

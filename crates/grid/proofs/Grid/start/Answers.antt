@@ -1,5 +1,5 @@
 -- `grid::Grid::start` meets its contract.
-use Rattle.std.proofs.Common.{arith, rules}
+use Rattle.std.proofs.Common.{arith}
 use Rattle.grid.proofs.Reached.{start_fits, start_read}
 use Rattle.grid.proofs.Grid.start.Goals as goal
 

@@ -1,5 +1,5 @@
 -- `grid::Grid::within` meets its contract. Assumes nothing.
-use Rattle.std.proofs.Common.{rules, le-leb}
+use Rattle.std.proofs.Common.{le-leb}
 use borrow.Author.Tests.{lt-leb}
 use Rattle.model.specs.Grid.{within}
 use Rattle.grid.proofs.Grid.within.Goals as goal

@@ -1,5 +1,4 @@
 -- `grid::span::coordinate` meets its contract. Assumes nothing.
-use Rattle.std.proofs.Common.{rules}
 use Rattle.grid.proofs.span.coordinate.Goals as goal
 
 pub returns-then-vertical : goal.returns-then-vertical

@@ -1,5 +1,5 @@
 -- `square::inside` meets its contract.
-use Rattle.std.proofs.Common.{ℕ, ltb, ap, arith, rules}
+use Rattle.std.proofs.Common.{ℕ, ltb, ap, arith}
 use Rattle.grid.specs.Squares.{reaches}
 use Rattle.grid.proofs.square.inside.Goals as goal
 

@@ -1,13 +1,9 @@
 -- `halves::strip` meets its contract: after i turns the first i words are stripped and the others as they were.
-use Prim.Native.Nat.{◌≤◌, ◌<◌, ◌-◌, ◌+◌}
-use native.Mathlib.Omega.{arith}
-use mathlib.Core.Path.{◌≡◌, ◌∙◌}
-use mathlib.Core.List.{◌++◌, map, append-nil}
-use borrow.Author.Rules.{rules}
-use lib.ListN.{length, get_or, take, drop, set, length-set}
-use lib.Seq.{take-length, drop-length}
+use Prim.Native.Nat.{◌≤◌, ◌-◌}
+use mathlib.Core.Path.{◌≡◌}
+use mathlib.Core.List.{◌++◌, map}
+use lib.ListN.{length, take, drop}
 use Rattle.heap.specs.Words.{low}
-use Rattle.heap.proofs.FillLaws.{change_more}
 use Rattle.heap.proofs.halves.strip.Given as goal
 
 abbrev pub invariant-loop-i : goal.invariant-loop-i

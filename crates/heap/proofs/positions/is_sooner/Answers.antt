@@ -1,6 +1,4 @@
 -- `positions::is_sooner` meets its contract: the times of the nodes that stand there.
-use borrow.Author.Rules.{rules}
-use mathlib.Core.Path.{◌∙◌}
 use Rattle.heap.proofs.positions.is_sooner.Goals as goal
 
 pub returns : goal.returns

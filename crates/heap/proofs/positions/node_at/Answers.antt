@@ -1,6 +1,5 @@
 -- `positions::node_at` meets its contract: the low half of the word.
 use mathlib.Core.Path.{refl}
-use borrow.Author.Rules.{rules}
 use Rattle.heap.specs.Words.{node}
 use Rattle.heap.proofs.positions.node_at.Goals as goal
 

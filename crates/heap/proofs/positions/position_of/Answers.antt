@@ -2,7 +2,6 @@
 use Prim.Native.Nat.{◌+◌}
 use native.Mathlib.Omega.{arith}
 use mathlib.Core.Path.{refl}
-use borrow.Author.Rules.{rules}
 use Rattle.heap.specs.Words.{position}
 use Rattle.heap.proofs.positions.position_of.Goals as goal
 

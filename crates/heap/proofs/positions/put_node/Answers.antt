@@ -2,7 +2,6 @@
 use Prim.Native.Nat.{◌+◌}
 use native.Mathlib.Omega.{arith}
 use mathlib.Core.Path.{refl}
-use borrow.Author.Rules.{rules}
 use Rattle.heap.specs.Words.{put_node}
 use Rattle.heap.proofs.positions.put_node.Goals as goal
 

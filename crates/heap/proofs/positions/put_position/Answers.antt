@@ -1,6 +1,5 @@
 -- `positions::put_position` meets its contract: the low half stays.
 use mathlib.Core.Path.{refl}
-use borrow.Author.Rules.{rules}
 use Rattle.heap.specs.Words.{put_position}
 use Rattle.heap.proofs.positions.put_position.Goals as goal
 

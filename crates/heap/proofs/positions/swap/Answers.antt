@@ -1,5 +1,4 @@
 -- `positions::swap` meets its contract: four halves are written.
-use borrow.Author.Rules.{rules}
 use Rattle.heap.proofs.SwapLaws.{swap_read}
 use Rattle.heap.proofs.positions.swap.Goals as goal
 

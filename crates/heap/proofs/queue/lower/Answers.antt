@@ -3,7 +3,6 @@ use Rattle.heap.proofs.ReachLaws.{stored, read_same, lower_from, lower_done}
 use Rattle.model.specs.Oracle.{no_walk}
 use native.Mathlib.Omega.{arith}
 use Prim.Native.Nat.{◌<◌}
-use borrow.Author.Rules.{rules}
 use Rattle.heap.proofs.queue.lower.Goals as goal
 
 pub store_time-requires : goal.store_time-requires

@@ -1,7 +1,6 @@
 -- `queue::offer` meets its contract: the node is lowered or enters.
 use Rattle.heap.proofs.ReachLaws.{offer_less}
 use native.Mathlib.Omega.{arith}
-use borrow.Author.Rules.{rules}
 use Rattle.heap.proofs.queue.offer.Goals as goal
 
 pub lower-requires : goal.lower-requires

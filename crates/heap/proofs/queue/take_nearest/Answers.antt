@@ -1,6 +1,5 @@
 -- `queue::take_nearest` meets its contract: the first goes in front of the settled ones, and the last sinks from the root.
 use native.Mathlib.Omega.{arith}
-use borrow.Author.Rules.{rules}
 use Rattle.heap.proofs.TakeLaws.{take_positioned, take_from, take_done}
 use Rattle.heap.proofs.queue.take_nearest.Goals as goal
 

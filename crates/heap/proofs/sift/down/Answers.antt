@@ -1,9 +1,6 @@
 -- `sift::down` meets its contract: after 12 levels nothing stands below.
-use Prim.Native.Nat.{◌-◌}
 use native.Mathlib.Omega.{arith}
-use borrow.Author.Rules.{rules}
-use Rattle.heap.specs.Levels.{max_levels}
-use Rattle.heap.proofs.SiftLaws.{Falling, falling_first, falling_turn, falling_stop, falling_end}
+use Rattle.heap.proofs.SiftLaws.{falling_first, falling_turn, falling_stop, falling_end}
 use Rattle.heap.proofs.sift.down.Goals as goal
 
 pub loop-level-init : goal.loop-level-init

@@ -1,9 +1,7 @@
 -- `sift::down` meets its contract: after 12 levels nothing stands below.
 use Prim.Native.Nat.{◌-◌}
-use native.Mathlib.Omega.{arith}
-use borrow.Author.Rules.{rules}
 use Rattle.heap.specs.Levels.{max_levels}
-use Rattle.heap.proofs.SiftLaws.{Falling, falling_first, falling_turn, falling_stop, falling_end}
+use Rattle.heap.proofs.SiftLaws.{Falling}
 use Rattle.heap.proofs.sift.down.Given as goal
 
 abbrev pub invariant-loop-level : goal.invariant-loop-level

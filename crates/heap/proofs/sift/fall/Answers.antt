@@ -1,8 +1,7 @@
 -- `sift::fall` meets its contract: three ways out of a level.
 use native.Mathlib.Omega.{arith}
 use mathlib.Core.Path.{sym, ◌∙◌}
-use borrow.Author.Rules.{rules}
-use borrow.Author.Tests.{ltb-true, ltb-false, not-true, not-false}
+use borrow.Author.Tests.{ltb-true, ltb-false}
 use Rattle.heap.proofs.SiftLaws.{fall_leaf, fall_stop, fall_move}
 use Rattle.heap.proofs.sift.fall.Goals as goal
 

@@ -1,5 +1,4 @@
 -- `sift::less` meets its contract: a comparison as a number.
-use borrow.Author.Rules.{rules}
 use Rattle.heap.proofs.SiftLaws.{less_is, less_small}
 use Rattle.heap.proofs.sift.less.Goals as goal
 

@@ -1,6 +1,5 @@
 -- `sift::lesser` meets its contract: the lesser of two, or the only one.
 use native.Mathlib.Omega.{arith}
-use borrow.Author.Rules.{rules}
 use Rattle.heap.proofs.SiftLaws.{lesser_left, lesser_of}
 use Rattle.heap.proofs.sift.lesser.Goals as goal
 

@@ -1,8 +1,6 @@
 -- `sift::rise` meets its contract: three ways out of a level.
-use native.Mathlib.Omega.{arith}
 use mathlib.Core.Path.{sym, ◌∙◌}
-use borrow.Author.Rules.{rules}
-use borrow.Author.Tests.{ltb-true, ltb-false, not-true, not-false}
+use borrow.Author.Tests.{ltb-true, ltb-false}
 use Rattle.heap.proofs.SiftLaws.{rise_root, rise_stop, rise_move}
 use Rattle.heap.proofs.sift.rise.Goals as goal
 

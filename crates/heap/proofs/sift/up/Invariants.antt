@@ -1,9 +1,7 @@
 -- `sift::up` meets its contract: after 12 levels the node stands at the root.
 use Prim.Native.Nat.{◌-◌}
-use native.Mathlib.Omega.{arith}
-use borrow.Author.Rules.{rules}
 use Rattle.heap.specs.Levels.{max_levels}
-use Rattle.heap.proofs.SiftLaws.{Rising, rising_first, rising_turn, rising_stop, rising_end}
+use Rattle.heap.proofs.SiftLaws.{Rising}
 use Rattle.heap.proofs.sift.up.Given as goal
 
 abbrev pub invariant-loop-level : goal.invariant-loop-level

@@ -1,10 +1,7 @@
 -- `blocks::build_any` meets its contract: the first blocks that fit.
 use Prim.Native.Nat.{◌<◌, ◌-◌}
-use mathlib.Core.Bool.{false≢true}
 use mathlib.Core.Path.{◌≡◌}
-use borrow.Author.Rules.{rules}
 use lib.ListN.{length}
-use Rattle.model.specs.Network.{edge_count}
 use Rattle.index.proofs.blocks.build_any.Given as goal
 
 abbrev pub invariant-loop-s : goal.invariant-loop-s

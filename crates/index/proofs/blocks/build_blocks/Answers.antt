@@ -1,5 +1,4 @@
 -- `blocks::build_blocks` meets its contract: chains, or none.
-use borrow.Author.Rules.{rules}
 use Rattle.index.proofs.Listing.{cleared_index}
 use Rattle.index.proofs.blocks.build_blocks.Goals as goal
 

@@ -1,13 +1,10 @@
 -- `blocks::list_all` meets its contract: the edges below i are listed.
-use Prim.Native.Nat.{◌≤◌, ◌-◌}
 use native.Mathlib.Nat.{div-le_self}
 use native.Mathlib.Omega.{arith}
 use mathlib.Core.Bool.{false≢true}
-use mathlib.Core.Path.{◌≡◌, refl}
+use mathlib.Core.Path.{refl}
 use borrow.Author.Rules.{rules}
-use lib.ListN.{length}
 use Rattle.index.proofs.Listing.{chained_growing, chained_more, chained_last}
-use Rattle.index.specs.Index.{by_blocks, Chained}
 use Rattle.model.specs.Network.{edge_count}
 use Rattle.theory.specs.Sound.{edge_fine}
 use Rattle.index.proofs.blocks.list_all.Goals as goal
@@ -27,13 +24,13 @@ list_edge-k-requires c =
 pub loop-i-preserved : goal.loop-i-preserved
 unfolding edge_count
 loop-i-preserved c = (
-      omega arith,
-      search rules,
-      omega (arith, c.list_edge-k.ensures.0.more),
-      omega (arith, c.list_edge-k.ensures.0.few),
-      search rules,
-      chained_more _ _ _ c.loop-i.i _ _ _ _ _ (omega (arith, c.loop-i-test.true)) refl c.loop-i.invariant.5 c.list_edge-k.ensures,
-    )
+  omega arith,
+  search rules,
+  omega (arith, c.list_edge-k.ensures.0.more),
+  omega (arith, c.list_edge-k.ensures.0.few),
+  search rules,
+  chained_more _ _ _ c.loop-i.i _ _ _ _ _ (omega (arith, c.loop-i-test.true)) refl c.loop-i.invariant.5 c.list_edge-k.ensures,
+)
 
 pub returns : goal.returns
 returns c = λ e. chained_last _ _ _ c.loop-i.i _ _ (omega arith) c.loop-i.invariant.3 c.loop-i.invariant.5

@@ -1,15 +1,9 @@
 -- `blocks::list_all` meets its contract: the edges below i are listed.
 use Prim.Native.Nat.{◌≤◌, ◌-◌}
-use native.Mathlib.Nat.{div-le_self}
-use native.Mathlib.Omega.{arith}
-use mathlib.Core.Bool.{false≢true}
-use mathlib.Core.Path.{◌≡◌, refl}
-use borrow.Author.Rules.{rules}
+use mathlib.Core.Path.{◌≡◌}
 use lib.ListN.{length}
-use Rattle.index.proofs.Listing.{chained_growing, chained_more, chained_last}
 use Rattle.index.specs.Index.{by_blocks, Chained}
 use Rattle.model.specs.Network.{edge_count}
-use Rattle.theory.specs.Sound.{edge_fine}
 use Rattle.index.proofs.blocks.list_all.Given as goal
 
 abbrev pub invariant-loop-i : goal.invariant-loop-i

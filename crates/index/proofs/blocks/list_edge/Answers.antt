@@ -8,13 +8,16 @@ pub list_at-j-requires : goal.list_at-j-requires
 list_at-j-requires c = record { x_lt_n = (omega (arith, c.edge_first-first.ensures.0), search rules, search rules, search rules, search rules); growing = c.requires.growing }
 
 pub list_at-requires : goal.list_at-requires
-list_at-requires c = record { x_lt_n = (
-        omega (arith, c.edge_second-second.ensures.0),
-        omega (arith, c.list_at-j.ensures.0.more),
-        omega (arith, c.list_at-j.ensures.0.few),
-        search rules,
-        search rules,
-      ); growing = c.list_at-j.ensures.0.growing }
+list_at-requires c = record {
+  x_lt_n = (
+    omega (arith, c.edge_second-second.ensures.0),
+    omega (arith, c.list_at-j.ensures.0.more),
+    omega (arith, c.list_at-j.ensures.0.few),
+    search rules,
+    search rules,
+  );
+  growing = c.list_at-j.ensures.0.growing;
+}
 
 pub returns : goal.returns
 returns c =

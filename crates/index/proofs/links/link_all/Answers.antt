@@ -1,11 +1,8 @@
 -- `links::link_all` meets its contract: the edges below i are listed.
-use Prim.Native.Nat.{◌+◌, ◌-◌, ◌*◌, ◌≤◌}
 use native.Mathlib.Omega.{arith}
-use mathlib.Core.Path.{◌≡◌}
 use lib.ListN.{length}
 use Rattle.model.specs.Network.{edge_count}
 use Rattle.theory.specs.Sound.{edge_fine}
-use Rattle.index.specs.Index.{by_links, Chained}
 use Rattle.index.proofs.Listing.{chained_growing, chained_last, unlinked}
 use Rattle.index.proofs.ByLinks.{linked_more}
 use borrow.Author.Rules.{rules}
@@ -30,12 +27,12 @@ list_edge-requires c =
 pub loop-i-preserved : goal.loop-i-preserved
 unfolding edge_count
 loop-i-preserved c = (
-      omega arith,
-      search rules,
-      search rules,
-      linked_more _ c.loop-i.i _ _ _ (omega (arith, c.loop-i-test.true)) c.loop-i.invariant.3
-          c.list_edge.ensures,
-    )
+  omega arith,
+  search rules,
+  search rules,
+  linked_more _ c.loop-i.i _ _ _ (omega (arith, c.loop-i-test.true)) c.loop-i.invariant.3
+      c.list_edge.ensures,
+)
 
 pub returns : goal.returns
 unfolding edge_count

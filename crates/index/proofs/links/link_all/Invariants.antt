@@ -1,14 +1,9 @@
 -- `links::link_all` meets its contract: the edges below i are listed.
 use Prim.Native.Nat.{◌+◌, ◌-◌, ◌*◌, ◌≤◌}
-use native.Mathlib.Omega.{arith}
 use mathlib.Core.Path.{◌≡◌}
 use lib.ListN.{length}
 use Rattle.model.specs.Network.{edge_count}
-use Rattle.theory.specs.Sound.{edge_fine}
 use Rattle.index.specs.Index.{by_links, Chained}
-use Rattle.index.proofs.Listing.{chained_growing, chained_last, unlinked}
-use Rattle.index.proofs.ByLinks.{linked_more}
-use borrow.Author.Rules.{rules}
 use Rattle.index.proofs.links.link_all.Given as goal
 
 abbrev pub invariant-loop-i : goal.invariant-loop-i

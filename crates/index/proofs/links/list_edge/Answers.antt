@@ -1,7 +1,6 @@
 -- `links::list_edge` meets its contract: at one end and at the other.
 use native.Mathlib.Omega.{arith}
 use Rattle.index.proofs.ByLinks.{edge_linked}
-use borrow.Author.Rules.{rules}
 use Rattle.index.proofs.links.list_edge.Goals as goal
 
 pub returns : goal.returns

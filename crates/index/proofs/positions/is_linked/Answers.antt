@@ -1,5 +1,4 @@
 -- `positions::is_linked` meets its contract.
-use borrow.Author.Rules.{rules}
 use Rattle.model.specs.Network.{edge_count}
 use Rattle.index.specs.Index.{linked}
 use Rattle.index.proofs.positions.is_linked.Goals as goal

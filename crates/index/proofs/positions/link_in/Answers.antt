@@ -1,7 +1,6 @@
 -- `positions::link_in` meets its contract: the number of 16 bits where it stands.
 use native.Mathlib.Omega.{arith}
 use mathlib.Core.Path.{◌≡◌, sym, ◌∙◌}
-use borrow.Author.Rules.{rules}
 use Rattle.words.specs.Regions.{index_at}
 use Rattle.index.proofs.Places.{of_two_links, link_fits, link_there}
 use Rattle.index.proofs.positions.link_in.Goals as goal

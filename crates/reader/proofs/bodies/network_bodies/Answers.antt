@@ -1,7 +1,6 @@
 use Rattle.theory.specs.Firsts.{stops, goes, none}
 use Rattle.model.specs.Network.{node_count, edge_count}
 use mathlib.Core.Path.{sym, ◌∙◌}
-use borrow.Author.Rules.{rules}
 use Rattle.reader.proofs.bodies.network_bodies.Goals as goal
 
 pub returns-then-nodes_broken : goal.returns-then-nodes_broken

@@ -3,7 +3,6 @@ use native.Mathlib.Omega.{arith}
 use Rattle.theory.specs.Firsts.{stops, goes, none}
 use Rattle.model.specs.Oracle.{transit_count}
 use mathlib.Core.Path.{sym, ◌∙◌}
-use borrow.Author.Rules.{rules}
 use Rattle.reader.proofs.bodies.oracle_bodies.Goals as goal
 
 pub returns-then-grid_body_broken : goal.returns-then-grid_body_broken

@@ -2,7 +2,6 @@ use Rattle.theory.specs.Firsts.{stops, goes, none, first_stays, first_append}
 use Rattle.theory.specs.Passed.{plain_counted}
 use Rattle.model.specs.Rules.{accept_rules}
 use mathlib.Core.Path.{sym, ◌∙◌}
-use borrow.Author.Rules.{rules}
 use Rattle.reader.proofs.files.accept_refusal.Goals as goal
 
 pub returns-then-r-ne0 : goal.returns-then-r-ne0

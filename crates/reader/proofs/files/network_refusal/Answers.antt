@@ -3,7 +3,6 @@ use Rattle.theory.specs.Joined.{whole_contents}
 use Rattle.model.specs.Rules.{network_rules}
 use mathlib.Core.Path.{sym, ◌∙◌}
 use native.Mathlib.Omega.{arith}
-use borrow.Author.Rules.{rules}
 use Rattle.reader.proofs.files.network_refusal.Goals as goal
 
 pub returns-then-contents_broken : goal.returns-then-contents_broken
@@ -22,33 +21,33 @@ returns-then-bodies_broken c = goes 1 _ (sym c.contents_broken.ensures ∙ c.if-
 
 pub body-requires : goal.body-requires
 body-requires c = record {
-      entries = c.args.entries;
-      few = omega arith;
-      below = omega arith;
-      read =
-          c.read-c.ensures;
-      joined = sym c.bodies_broken.ensures ∙ c.if-bodies_broken.false;
-    }
+  entries = c.args.entries;
+  few = omega arith;
+  below = omega arith;
+  read =
+      c.read-c.ensures;
+  joined = sym c.bodies_broken.ensures ∙ c.if-bodies_broken.false;
+}
 
 pub body-requires-2 : goal.body-requires-2
 body-requires-2 c = record {
-      entries = c.args.entries;
-      few = omega arith;
-      below = omega arith;
-      read =
-          c.read-c.ensures;
-      joined = sym c.bodies_broken.ensures ∙ c.if-bodies_broken.false;
-    }
+  entries = c.args.entries;
+  few = omega arith;
+  below = omega arith;
+  read =
+      c.read-c.ensures;
+  joined = sym c.bodies_broken.ensures ∙ c.if-bodies_broken.false;
+}
 
 pub body-requires-3 : goal.body-requires-3
 body-requires-3 c = record {
-      entries = c.args.entries;
-      few = omega arith;
-      below = omega arith;
-      read =
-          c.read-c.ensures;
-      joined = sym c.bodies_broken.ensures ∙ c.if-bodies_broken.false;
-    }
+  entries = c.args.entries;
+  few = omega arith;
+  below = omega arith;
+  read =
+      c.read-c.ensures;
+  joined = sym c.bodies_broken.ensures ∙ c.if-bodies_broken.false;
+}
 
 pub returns : goal.returns
 unfolding network_rules

@@ -19,52 +19,52 @@ read-c-requires c =
 
 pub body-requires : goal.body-requires
 body-requires c = record {
-      entries = oracle_entries;
-      few = omega arith;
-      below = omega arith;
-      read = c.read-c.ensures;
-      joined = (kept c.args.o.now
-          c.requires).bodies;
-    }
+  entries = oracle_entries;
+  few = omega arith;
+  below = omega arith;
+  read = c.read-c.ensures;
+  joined = (kept c.args.o.now
+      c.requires).bodies;
+}
 
 pub body-requires-2 : goal.body-requires-2
 body-requires-2 c = record {
-      entries = oracle_entries;
-      few = omega arith;
-      below = omega arith;
-      read = c.read-c.ensures;
-      joined = (kept c.args.o.now
-          c.requires).bodies;
-    }
+  entries = oracle_entries;
+  few = omega arith;
+  below = omega arith;
+  read = c.read-c.ensures;
+  joined = (kept c.args.o.now
+      c.requires).bodies;
+}
 
 pub body-requires-3 : goal.body-requires-3
 body-requires-3 c = record {
-      entries = oracle_entries;
-      few = omega arith;
-      below = omega arith;
-      read = c.read-c.ensures;
-      joined = (kept c.args.o.now c.requires).bodies;
-    }
+  entries = oracle_entries;
+  few = omega arith;
+  below = omega arith;
+  read = c.read-c.ensures;
+  joined = (kept c.args.o.now c.requires).bodies;
+}
 
 pub body-requires-4 : goal.body-requires-4
 body-requires-4 c = record {
-      entries = oracle_entries;
-      few = omega arith;
-      below = omega arith;
-      read = c.read-c.ensures;
-      joined = (kept c.args.o.now c.requires
-          ).bodies;
-    }
+  entries = oracle_entries;
+  few = omega arith;
+  below = omega arith;
+  read = c.read-c.ensures;
+  joined = (kept c.args.o.now c.requires
+      ).bodies;
+}
 
 pub body-requires-5 : goal.body-requires-5
 body-requires-5 c = record {
-      entries = oracle_entries;
-      few = omega arith;
-      below = omega arith;
-      read = c.read-c.ensures;
-      joined = (kept c.args.o.now
-          c.requires).bodies;
-    }
+  entries = oracle_entries;
+  few = omega arith;
+  below = omega arith;
+  read = c.read-c.ensures;
+  joined = (kept c.args.o.now
+      c.requires).bodies;
+}
 
 pub oracle_bodies-requires : goal.oracle_bodies-requires
 unfolding node_count
@@ -75,10 +75,10 @@ oracle_bodies-requires c =
 pub returns : goal.returns
 unfolding shape_rules node_count
 returns c = rw (
-      ← c.body.ensures,
-      ← c.body-2.ensures,
-      ← c.body-3.ensures,
-      ← c.body-4.ensures,
-      ← c.body-5.ensures,
-    ) c.oracle_bodies.ensures ∙
+  ← c.body.ensures,
+  ← c.body-2.ensures,
+  ← c.body-3.ensures,
+  ← c.body-4.ensures,
+  ← c.body-5.ensures,
+) c.oracle_bodies.ensures ∙
     sym (first_append _ _ (plain_counted oracle_edition oracle_entries c.args.o.now) c.requires)

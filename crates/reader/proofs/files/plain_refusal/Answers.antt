@@ -6,7 +6,6 @@ use Rattle.reader.proofs.Kept.{kept_to_7}
 use borrow.Author.Tests.{eq-eqb, ne_eqb}
 use mathlib.Core.Path.{sym, ◌∙◌}
 use native.Mathlib.Omega.{arith}
-use borrow.Author.Rules.{rules}
 use Rattle.reader.proofs.files.plain_refusal.Goals as goal
 
 pub returns-then-r-ne0 : goal.returns-then-r-ne0

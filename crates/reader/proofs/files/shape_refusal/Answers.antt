@@ -1,7 +1,6 @@
 use Rattle.theory.specs.Firsts.{first_stays}
 use Rattle.model.specs.Rules.{shape_rules}
 use mathlib.Core.Path.{sym, ◌∙◌}
-use borrow.Author.Rules.{rules}
 use Rattle.reader.proofs.files.shape_refusal.Goals as goal
 
 pub returns-then-r-ne0 : goal.returns-then-r-ne0

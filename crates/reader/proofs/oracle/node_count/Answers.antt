@@ -1,6 +1,5 @@
 use Rattle.model.specs.Network.{node_count}
 use mathlib.Core.Path.{ap}
-use borrow.Author.Rules.{rules}
 use Rattle.reader.proofs.oracle.node_count.Goals as goal
 
 pub returns : goal.returns

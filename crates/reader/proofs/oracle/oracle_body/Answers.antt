@@ -2,7 +2,6 @@ use Rattle.model.specs.Contents.{oracle_edition, oracle_entries}
 use Rattle.theory.specs.Joined.{whole_contents}
 use Rattle.theory.specs.Passed.{all_shaped}
 use native.Mathlib.Omega.{arith}
-use borrow.Author.Rules.{rules}
 use Rattle.reader.proofs.oracle.oracle_body.Goals as goal
 
 pub body_of-requires : goal.body_of-requires

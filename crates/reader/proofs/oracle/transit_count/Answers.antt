@@ -1,6 +1,5 @@
 use Rattle.model.specs.Oracle.{transit_count}
 use mathlib.Core.Path.{ap}
-use borrow.Author.Rules.{rules}
 use Rattle.reader.proofs.oracle.transit_count.Goals as goal
 
 pub returns : goal.returns

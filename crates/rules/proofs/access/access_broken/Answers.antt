@@ -1,8 +1,6 @@
 -- `rules::access::access_broken` meets its contract. Assumes nothing.
 use Rattle.model.specs.Oracle.{access_broken}
-use borrow.Author.Tests.{not-true, not-false}
 use mathlib.Core.Path.{sym, ◌∙◌}
-use borrow.Author.Rules.{rules}
 use Rattle.rules.proofs.access.access_broken.Goals as goal
 
 pub returns-then-not-lists_gapless : goal.returns-then-not-lists_gapless

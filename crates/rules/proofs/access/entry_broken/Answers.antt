@@ -2,7 +2,6 @@
 use native.Mathlib.Omega.{arith}
 use borrow.Author.Tests.{lt-ltb, le-ltb, le-leb, lt-leb}
 use mathlib.Core.Bool.{or-true}
-use borrow.Author.Rules.{rules}
 use Rattle.rules.proofs.access.entry_broken.Goals as goal
 
 pub returns-then-index-least : goal.returns-then-index-least
@@ -10,10 +9,10 @@ returns-then-index-least c = rw (← c.read16-index.ensures.0) (simp (lt-ltb c.r
 
 pub returns-then-transit-index : goal.returns-then-transit-index
 returns-then-transit-index c = rw (← c.read16-index.ensures.0) (simp (
-      le-leb c.args.transit c.read16-index.result
-          (omega arith),
-      or-true,
-    ))
+  le-leb c.args.transit c.read16-index.result
+      (omega arith),
+  or-true,
+))
 
 pub returns : goal.returns
 returns c =

@@ -1,11 +1,9 @@
 -- `rules::access::list_broken` meets its contract. Assumes nothing.
-use Rattle.rules.proofs.AccessEntries.{list_read, entries_left, entries_all, entries_bad, entries_good, entries_end}
-use Rattle.model.specs.Oracle.{list_size, list_start, list_part, list_broken}
+use Rattle.rules.proofs.AccessEntries.{entries_left}
+use Rattle.model.specs.Oracle.{list_size, list_start, list_broken}
 use lib.ListN.{length}
-use native.Mathlib.Omega.{arith}
-use mathlib.Core.Path.{◌≡◌, sym, ◌∙◌}
+use mathlib.Core.Path.{◌≡◌}
 use Prim.Native.Nat.{◌+◌, ◌-◌, ◌≤◌}
-use borrow.Author.Rules.{rules}
 use Rattle.rules.proofs.access.list_broken.Given as goal
 
 abbrev pub invariant-loop-i : goal.invariant-loop-i

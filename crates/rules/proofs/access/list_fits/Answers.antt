@@ -2,7 +2,6 @@
 use Rattle.rules.proofs.AccessLayout.{unfit_start, unfit_count, fits_size}
 use native.Mathlib.Omega.{arith}
 use mathlib.Core.Path.{sym, ◌∙◌}
-use borrow.Author.Rules.{rules}
 use Rattle.rules.proofs.access.list_fits.Goals as goal
 
 pub returns-then-list_start-at : goal.returns-then-list_start-at

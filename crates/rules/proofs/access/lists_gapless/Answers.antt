@@ -1,15 +1,8 @@
 -- `rules::access::lists_gapless` meets its contract. Assumes nothing.
-use borrow.Author.Tests.{not-true, not-false}
-use Rattle.rules.proofs.AccessLayout.{gapless_beyond, lists_left, lists_all, list_unfit, list_fit, fit_count}
+use Rattle.rules.proofs.AccessLayout.{gapless_beyond, lists_all, list_unfit, list_fit, fit_count}
 use Rattle.theory.specs.RangeLaws.{gapless_end}
-use Rattle.model.specs.Oracle.{start_size, list_part}
-use Rattle.model.specs.Lists.{gapless, up_to}
-use lib.ListN.{length}
 use native.Mathlib.Omega.{arith}
-use mathlib.Core.List.{map}
-use mathlib.Core.Path.{◌≡◌, sym, ◌∙◌}
-use Prim.Native.Nat.{◌*◌, ◌-◌, ◌≤◌}
-use borrow.Author.Rules.{rules}
+use mathlib.Core.Path.{sym, ◌∙◌}
 use Rattle.rules.proofs.access.lists_gapless.Goals as goal
 
 pub returns-then-b-at : goal.returns-then-b-at
@@ -27,10 +20,10 @@ size_at-at-requires c = fit_count _ _ _ (sym c.list_fits.ensures ∙ c.if-not-li
 
 pub overflow_add-at : goal.overflow_add-at
 overflow_add-at c = omega (
-      arith,
-      (list_fit _ _ _ _ c.loop-u-test.true
-          (sym c.list_fits.ensures ∙ c.if-not-list_fits.false) _ c.size_at-at.ensures).0,
-    )
+  arith,
+  (list_fit _ _ _ _ c.loop-u-test.true
+      (sym c.list_fits.ensures ∙ c.if-not-list_fits.false) _ c.size_at-at.ensures).0,
+)
 
 pub loop-u-preserved : goal.loop-u-preserved
 loop-u-preserved c =

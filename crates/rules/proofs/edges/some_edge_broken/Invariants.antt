@@ -1,12 +1,10 @@
 -- `some_edge_broken` meets its contract. The loop's invariant: the answer is that for the edges from i on.
 use Prim.Native.Nat.{◌-◌}
-use mathlib.Core.Path.{◌≡◌, ap}
+use mathlib.Core.Path.{◌≡◌}
 use mathlib.Core.List.{map}
-use borrow.Author.Rules.{rules}
 use Rattle.model.specs.Lists.{any}
-use Rattle.model.specs.Network.{edge, edges, edge_count, edge_broken, some_edge_broken}
-use Rattle.theory.specs.RangeLaws.{rest, rest_step, rest_end}
-use Rattle.theory.specs.Scans.{scan_all, scan_found, scan_passed, scan_end}
+use Rattle.model.specs.Network.{edge, edge_broken, some_edge_broken}
+use Rattle.theory.specs.RangeLaws.{rest}
 use Rattle.rules.proofs.edges.some_edge_broken.Given as goal
 
 abbrev pub invariant-loop-i : goal.invariant-loop-i

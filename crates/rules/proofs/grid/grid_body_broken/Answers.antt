@@ -1,7 +1,6 @@
 -- `grid_body_broken` meets its contract.
 use mathlib.Core.Path.{◌∙◌, ap}
 use mathlib.Core.Bool.{not}
-use borrow.Author.Rules.{rules}
 use borrow.Author.Tests.{eq-eqb, ne_eqb}
 use Rattle.model.specs.Grid.{grid_broken}
 use Rattle.model.specs.Oracle.{grid_body_broken}

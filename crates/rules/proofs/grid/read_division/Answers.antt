@@ -1,5 +1,4 @@
 -- `read_division` meets its contract.
-use borrow.Author.Rules.{rules}
 use Rattle.model.specs.Grid.{division}
 use Rattle.rules.proofs.grid.read_division.Goals as goal
 

@@ -1,5 +1,4 @@
 -- `node_broken` meets its contract.
-use borrow.Author.Rules.{rules}
 use borrow.Author.Tests.{lt-ltb, le-ltb}
 use Rattle.model.specs.Network.{node_broken}
 use Rattle.rules.proofs.Flags.{or_first, or_second}

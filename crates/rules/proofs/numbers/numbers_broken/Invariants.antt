@@ -1,11 +1,8 @@
 -- `numbers_broken` meets its contract. The loop's invariant: the answer is that for the numbers from i on, `least` the least that may come next.
 use Prim.Native.Nat.{◌-◌}
-use mathlib.Core.Path.{◌≡◌, sym, ◌∙◌}
-use mathlib.Core.Logic.{⊎_elim}
-use borrow.Author.Rules.{rules}
-use borrow.Author.Tests.{ne_eqb}
+use mathlib.Core.Path.{◌≡◌}
 use Rattle.model.specs.Network.{numbers_broken}
-use Rattle.rules.proofs.Climb.{number_at, numbers_left, numbers_all, numbers_end, numbers_low, numbers_high, numbers_next}
+use Rattle.rules.proofs.Climb.{number_at, numbers_left}
 use Rattle.rules.proofs.numbers.numbers_broken.Given as goal
 
 abbrev pub invariant-loop-i : goal.invariant-loop-i

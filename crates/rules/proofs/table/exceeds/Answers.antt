@@ -1,6 +1,5 @@
 -- `rules::table::exceeds` meets its contract. Assumes nothing.
 use Rattle.rules.proofs.TableLaws.{excess_read}
-use borrow.Author.Rules.{rules}
 use Rattle.rules.proofs.table.exceeds.Goals as goal
 
 pub returns : goal.returns

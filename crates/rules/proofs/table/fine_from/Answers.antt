@@ -1,10 +1,8 @@
 -- `rules::table::fine_from` meets its contract. Assumes nothing.
 use native.Mathlib.Omega.{arith}
 use mathlib.Core.Path.{sym, ◌∙◌}
-use borrow.Author.Tests.{not-true}
 use Rattle.model.specs.Oracle.{cell_broken}
 use Rattle.rules.proofs.TableLaws.{one_fine}
-use borrow.Author.Rules.{rules}
 use Rattle.rules.proofs.table.fine_from.Goals as goal
 
 pub returns-then-not-four_exceed : goal.returns-then-not-four_exceed

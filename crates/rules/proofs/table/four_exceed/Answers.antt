@@ -3,7 +3,6 @@ use mathlib.Core.Path.{refl, sym, ◌∙◌}
 use mathlib.Core.Bool.{◌||◌}
 use Rattle.theory.specs.Passed.{or-false}
 use Rattle.rules.proofs.TableLaws.{four_fine}
-use borrow.Author.Rules.{rules}
 use Rattle.rules.proofs.table.four_exceed.Goals as goal
 
 pub returns : goal.returns

@@ -1,13 +1,7 @@
 -- `rules::table::table_broken` meets its contract. The loop's invariant: the answer is that for the values from i on. Assumes nothing.
-use Prim.Native.Nat.{◌-◌, ◌*◌, ◌≤◌}
 use native.Mathlib.Omega.{arith}
-use mathlib.Core.Path.{◌≡◌, sym, ◌∙◌}
-use lib.ListN.{length}
-use Rattle.model.specs.Lists.{any}
-use Rattle.model.specs.Oracle.{value_size, cell_broken, table_broken}
-use Rattle.theory.specs.RangeLaws.{rest}
+use mathlib.Core.Path.{sym, ◌∙◌}
 use Rattle.rules.proofs.TableLaws.{square_most, table_size, table_all, table_passed, table_found, table_end}
-use borrow.Author.Rules.{rules}
 use Rattle.rules.proofs.table.table_broken.Goals as goal
 
 pub overflow_mul-values : goal.overflow_mul-values

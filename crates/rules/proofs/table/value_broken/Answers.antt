@@ -1,7 +1,6 @@
 -- `rules::table::value_broken` meets its contract. Assumes nothing.
 use mathlib.Core.Path.{sym, ◌∙◌}
 use Rattle.rules.proofs.TableLaws.{time_fine, other_test}
-use borrow.Author.Rules.{rules}
 use Rattle.rules.proofs.table.value_broken.Goals as goal
 
 pub returns-then-exceeds : goal.returns-then-exceeds

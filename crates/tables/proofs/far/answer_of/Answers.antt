@@ -1,5 +1,4 @@
 -- `far::answer_of` meets its contract.
-use borrow.Author.Rules.{rules}
 use Rattle.model.specs.Query.{answer}
 use Rattle.tables.proofs.Values.{decoded_no_walk, a_time}
 use Rattle.tables.proofs.far.answer_of.Goals as goal

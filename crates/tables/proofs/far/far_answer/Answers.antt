@@ -1,5 +1,4 @@
 -- `far::far_answer` meets its contract.
-use borrow.Author.Rules.{rules}
 use Rattle.tables.proofs.far.far_answer.Goals as goal
 
 pub returns : goal.returns

@@ -1,13 +1,10 @@
 -- `far::far_key` meets its contract. The loop's invariant: the least so far and the entries from i on give the whole answer.
 use Prim.Native.Nat.{◌-◌, ◌≤◌}
-use native.Mathlib.Omega.{arith}
-use mathlib.Core.Path.{◌≡◌, sym, ◌∙◌}
-use borrow.Author.Rules.{rules}
+use mathlib.Core.Path.{◌≡◌}
 use Rattle.model.specs.Distance.{soonest}
 use Rattle.model.specs.Oracle.{no_walk, access_list}
 use Rattle.model.specs.Query.{sum_by, far_distance}
-use Rattle.tables.proofs.Values.{summed_small}
-use Rattle.tables.proofs.Leasts.{least_left, least_all, least_next, least_end}
+use Rattle.tables.proofs.Leasts.{least_left}
 use Rattle.tables.proofs.far.far_key.Given as goal
 
 abbrev pub invariant-loop-i : goal.invariant-loop-i

@@ -1,13 +1,10 @@
 -- `far::least_over` meets its contract. The loop's invariant: the least so far and the entries from j on give the whole answer.
 use Prim.Native.Nat.{◌-◌, ◌≤◌}
-use native.Mathlib.Omega.{arith}
-use mathlib.Core.Path.{◌≡◌, sym, ◌∙◌}
-use borrow.Author.Rules.{rules}
+use mathlib.Core.Path.{◌≡◌}
 use Rattle.model.specs.Distance.{soonest}
 use Rattle.model.specs.Oracle.{no_walk, access_list}
 use Rattle.tables.specs.Premises.{InTwo, sum_in}
-use Rattle.tables.proofs.Values.{lesser_most}
-use Rattle.tables.proofs.Leasts.{least_left, least_all, least_next, least_end}
+use Rattle.tables.proofs.Leasts.{least_left}
 use Rattle.tables.proofs.far.least_over.Given as goal
 
 abbrev pub invariant-loop-j : goal.invariant-loop-j

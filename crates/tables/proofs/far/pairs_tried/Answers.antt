@@ -1,6 +1,5 @@
 -- `far::pairs_tried` meets its contract: two counts of 16 bits have a product of 32.
 use native.Mathlib.Omega.{arith}
-use borrow.Author.Rules.{rules}
 use Rattle.tables.proofs.Counts.{length_list, product_fits}
 use Rattle.tables.proofs.far.pairs_tried.Goals as goal
 

@@ -5,7 +5,6 @@ use Rattle.model.specs.Oracle.{value, access_entry}
 use Rattle.tables.specs.Premises.{summed, sum_in}
 use Rattle.tables.specs.Entries.{entry_within, index_below, key_in_range}
 use Rattle.tables.proofs.Values.{two-tells, two_most}
-use borrow.Author.Rules.{rules}
 use Rattle.tables.proofs.far.sum_with.Goals as goal
 
 pub overflow_add-at : goal.overflow_add-at

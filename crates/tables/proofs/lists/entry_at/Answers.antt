@@ -1,9 +1,6 @@
 -- `lists::entry_at` meets its contract: the entry stands in the body, so that no sum wraps.
-use Prim.Native.Nat.{◌+◌, ◌≤◌}
 use native.Mathlib.Omega.{arith}
-use lib.ListN.{length}
-use borrow.Author.Rules.{rules}
-use Rattle.model.specs.Oracle.{entry_size, access_at}
+use Rattle.model.specs.Oracle.{access_at}
 use Rattle.tables.specs.Entries.{entry_within}
 use Rattle.tables.proofs.lists.entry_at.Goals as goal
 

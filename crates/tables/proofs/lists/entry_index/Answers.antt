@@ -1,7 +1,6 @@
 -- `lists::entry_index` meets its contract.
 use native.Mathlib.Omega.{arith}
 use mathlib.Core.Path.{◌∙◌, ap}
-use borrow.Author.Rules.{rules}
 use Rattle.model.specs.Bytes.{word16}
 use Rattle.model.specs.Oracle.{access_entry}
 use Rattle.tables.specs.Entries.{entry_within}

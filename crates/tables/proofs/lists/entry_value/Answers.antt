@@ -1,6 +1,5 @@
 -- `lists::entry_value` meets its contract: rule 10 has the value in range.
 use native.Mathlib.Omega.{arith}
-use borrow.Author.Rules.{rules}
 use Rattle.model.specs.Oracle.{access_entry}
 use Rattle.tables.specs.Entries.{entry_within, value_in_range}
 use Rattle.tables.proofs.lists.entry_value.Goals as goal

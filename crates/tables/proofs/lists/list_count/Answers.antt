@@ -1,7 +1,6 @@
 -- `lists::list_count` meets its contract.
 use native.Mathlib.Omega.{arith}
 use mathlib.Core.Path.{◌∙◌, ap}
-use borrow.Author.Rules.{rules}
 use Rattle.model.specs.Bytes.{word16}
 use Rattle.model.specs.Oracle.{list_count}
 use Rattle.tables.specs.Entries.{list_within}

@@ -1,6 +1,5 @@
 -- `lists::list_part` meets its contract: the list stands in the body.
 use native.Mathlib.Omega.{arith}
-use borrow.Author.Rules.{rules}
 use Rattle.tables.specs.Entries.{list_within}
 use Rattle.tables.proofs.Counts.{part_between}
 use Rattle.tables.proofs.lists.list_part.Goals as goal

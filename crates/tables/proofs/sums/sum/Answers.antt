@@ -1,7 +1,6 @@
 -- `sums::sum` meets its contract.
 use native.Mathlib.Omega.{arith}
 use Rattle.model.specs.Oracle.{value_key}
-use borrow.Author.Rules.{rules}
 use Rattle.tables.proofs.sums.sum.Goals as goal
 
 pub returns : goal.returns

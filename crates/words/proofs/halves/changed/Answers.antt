@@ -1,6 +1,5 @@
 -- `halves::changed` meets its contract: the other half stays.
 use Rattle.words.proofs.HalfLaws.{changed_low, changed_high}
-use borrow.Author.Rules.{rules}
 use Rattle.words.proofs.halves.changed.Goals as goal
 
 pub returns-then-p-eq0 : goal.returns-then-p-eq0

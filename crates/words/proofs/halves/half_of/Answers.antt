@@ -1,7 +1,6 @@
 -- `halves::half_of` meets its contract: the low half of the word, or the high one.
 use Prim.Native.Nat.{◌/◌}
 use native.Mathlib.Omega.{arith}
-use borrow.Author.Rules.{rules}
 use Rattle.words.proofs.HalfLaws.{half_shifted}
 use Rattle.words.proofs.halves.half_of.Goals as goal
 

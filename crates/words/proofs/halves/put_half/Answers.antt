@@ -1,6 +1,5 @@
 -- `halves::put_half` meets its contract.
 use Rattle.words.proofs.HalfLaws.{put_is}
-use borrow.Author.Rules.{rules}
 use Rattle.words.proofs.halves.put_half.Goals as goal
 
 pub returns : goal.returns

@@ -1,5 +1,4 @@
 -- `regions::counts` meets its contract.
-use borrow.Author.Rules.{rules}
 use Rattle.words.proofs.regions.counts.Goals as goal
 
 pub returns : goal.returns

@@ -1,5 +1,4 @@
 -- `regions::has` meets its contract: the part shows the region's members.
-use borrow.Author.Rules.{rules}
 use mathlib.Core.Path.{◌∙◌}
 use Rattle.words.proofs.Windows.{in_front}
 use Rattle.words.proofs.regions.has.Goals as goal

@@ -1,5 +1,4 @@
 -- `regions::index_fits` meets its contract.
-use borrow.Author.Rules.{rules}
 use Rattle.words.proofs.Windows.{fits_same}
 use Rattle.words.proofs.regions.index_fits.Goals as goal
 

@@ -1,5 +1,4 @@
 -- `regions::part` meets its contract.
-use borrow.Author.Rules.{rules}
 use Rattle.words.proofs.Windows.{part_is}
 use Rattle.words.proofs.regions.part.Goals as goal
 

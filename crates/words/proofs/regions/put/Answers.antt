@@ -1,5 +1,4 @@
 -- `regions::put` meets its contract.
-use borrow.Author.Rules.{rules}
 use Rattle.words.proofs.Windows.{inserted, inserted_only}
 use Rattle.words.proofs.regions.put.Goals as goal
 

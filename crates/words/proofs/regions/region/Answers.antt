@@ -1,6 +1,5 @@
 -- `regions::region` meets its contract.
 use native.Mathlib.Omega.{arith}
-use borrow.Author.Rules.{rules}
 use Rattle.words.proofs.Windows.{region_length}
 use Rattle.words.proofs.regions.region.Goals as goal
 

@@ -1,5 +1,4 @@
 -- `regions::region_at` meets its contract: k * n, or the words of the sets before it.
-use borrow.Author.Rules.{rules}
 use native.Mathlib.Omega.{arith}
 use Rattle.words.proofs.Windows.{at_words, at_sets}
 use Rattle.words.proofs.regions.region_at.Goals as goal

@@ -1,7 +1,6 @@
 -- `regions::span_count` meets its contract: there is room for a span.
 use native.Mathlib.Omega.{arith}
 use mathlib.Core.Path.{◌≡◌}
-use borrow.Author.Rules.{rules}
 use Rattle.words.specs.Regions.{index_at, place_at}
 use Rattle.words.proofs.Windows.{room_left}
 use Rattle.words.proofs.regions.span_count.Goals as goal

@@ -1,7 +1,6 @@
 -- `times::is_less` meets its contract: the seconds decide, or else the hops.
 use native.Mathlib.Omega.{arith}
 use Rattle.words.proofs.TimeLaws.{less_seconds, less_hops}
-use borrow.Author.Rules.{rules}
 use Rattle.words.proofs.times.is_less.Goals as goal
 
 pub returns-then-a-b : goal.returns-then-a-b

@@ -3,7 +3,6 @@ use Prim.Native.Nat.{ℕ, ◌<◌}
 use native.Mathlib.Omega.{arith}
 use lib.ListN.{get_or}
 use Rattle.words.proofs.TimeLaws.{lowers_seconds, lowers_hops, lowers_small}
-use borrow.Author.Rules.{rules}
 use Rattle.words.proofs.times.lowers.Goals as goal
 
 pub overflow_cast-b : goal.overflow_cast-b

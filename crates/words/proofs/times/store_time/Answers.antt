@@ -1,10 +1,7 @@
 -- `times::store_time` meets its contract: the seconds, and then the hops.
 use native.Mathlib.Omega.{arith}
-use mathlib.Core.Path.{◌≡◌, refl, ◌∙◌, ap}
-use lib.ListN.{length-set, set}
-use Rattle.words.specs.Halves.{put_half}
+use lib.ListN.{length-set}
 use Rattle.words.specs.Times.{store}
-use borrow.Author.Rules.{rules}
 use Rattle.words.proofs.times.store_time.Goals as goal
 
 pub put_half-requires : goal.put_half-requires

@@ -3,7 +3,6 @@ use native.Mathlib.Omega.{arith}
 use mathlib.Core.Path.{◌≡◌, refl, sym, ◌∙◌}
 use Rattle.words.proofs.TimeLaws.{time_at}
 use Rattle.words.specs.Times.{time}
-use borrow.Author.Rules.{rules}
 use Rattle.words.proofs.times.time_of.Goals as goal
 
 pub returns : goal.returns

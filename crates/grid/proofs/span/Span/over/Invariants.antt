@@ -1,8 +1,7 @@
 -- `grid::span::Span::over` meets its contract. Assumes nothing.
-use Rattle.grid.proofs.Bounds.{some_node}
-use Rattle.grid.proofs.Spans.{Spans, every, onward, spans_first, spans_next, spans_end}
-use Rattle.model.specs.Network.{node_count, node_size}
-use Rattle.std.proofs.Common.{◌≡◌, ◌-◌, ◌/◌, length, refl, arith, rules}
+use Rattle.grid.proofs.Spans.{Spans, every, onward}
+use Rattle.model.specs.Network.{node_size}
+use Rattle.std.proofs.Common.{◌≡◌, ◌-◌, ◌/◌, length}
 use Rattle.grid.proofs.span.Span.over.Given as goal
 
 abbrev pub invariant-loop-i : goal.invariant-loop-i

@@ -1,5 +1,4 @@
 -- `square::Square::has` meets its contract.
-use Rattle.std.proofs.Common.{rules}
 use Rattle.grid.specs.Squares.{reaches_node}
 use Rattle.grid.proofs.square.Square.has.Goals as goal
 
