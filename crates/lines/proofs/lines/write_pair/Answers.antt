@@ -1,6 +1,6 @@
 -- `lines::write_pair` meets its contract. Assumes nothing.
 use Rattle.lines.proofs.Chains.{room_first, room_second, wrote_both}
-use Rattle.lines.proofs.Answers.{pair_parts}
+use Rattle.lines.proofs.Parts.{pair_parts}
 use Rattle.lines.specs.Texts.{field_text}
 use Rattle.model.specs.Listing.{line_feed, answer_text}
 use mathlib.Core.List.{◌++◌}
