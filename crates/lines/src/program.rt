@@ -51,7 +51,13 @@ fn print_header(rt: &impl Print, o: &[u8], out: &mut [u8]) -> io::Result<()>
 }
 
 // A failed write leaves the words as they are promised too.
-fn print_row(rt: &impl Print, o: &[u8], s: usize, work: &mut [u32], out: &mut [u8]) -> io::Result<()>
+fn print_row(
+    rt: &impl Print,
+    o: &[u8],
+    s: usize,
+    work: &mut [u32],
+    out: &mut [u8],
+) -> io::Result<()>
     requires { Opened o.now work.old × (s < node_count (node_body o.now)) × (5 * length o.now ≤ length out.old) }
     ensures { Opened o.now work.new }
 {

@@ -242,7 +242,11 @@ fn print(rt: &impl Print, tally: Tally) -> io::Result<()> {
 }
 
 fn main(rt: HostRuntime) -> io::Result<()> {
-    line(&rt, "wrong among document 01's ", sum(line_wrong(), x_wrong()))?;
+    line(
+        &rt,
+        "wrong among document 01's ",
+        sum(line_wrong(), x_wrong()),
+    )?;
     let none = Tally {
         pairs: 0,
         far: 0,
