@@ -2,7 +2,6 @@
 use Rattle.lines.proofs.Sizes.{room_header}
 use lib.Seq.{length-take-le}
 use mathlib.Core.Path.{sym}
-use borrow.Author.Rules.{rules}
 use Rattle.lines.proofs.program.print_header.Goals as goal
 
 pub write_header-end-requires : goal.write_header-end-requires

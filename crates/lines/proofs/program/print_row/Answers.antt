@@ -2,7 +2,6 @@
 use Rattle.lines.proofs.Sizes.{room_row}
 use lib.Seq.{length-take-le}
 use mathlib.Core.Path.{sym}
-use borrow.Author.Rules.{rules}
 use Rattle.lines.proofs.program.print_row.Goals as goal
 
 pub write_row-end-requires : goal.write_row-end-requires

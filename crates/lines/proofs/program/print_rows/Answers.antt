@@ -1,10 +1,4 @@
 -- `program::print_rows` meets its contract. Assumes nothing.
-use Rattle.model.specs.Network.{node_count}
-use Rattle.model.specs.Contents.{node_body}
-use Rattle.opened.specs.Opened.{Opened}
-use lib.ListN.{length}
-use mathlib.Core.Path.{◌≡◌}
-use Prim.Native.Nat.{◌-◌}
 use borrow.Author.Rules.{rules}
 use Rattle.lines.proofs.program.print_rows.Goals as goal
 

@@ -5,7 +5,6 @@ use Rattle.opened.specs.Opened.{Opened}
 use lib.ListN.{length}
 use mathlib.Core.Path.{◌≡◌}
 use Prim.Native.Nat.{◌-◌}
-use borrow.Author.Rules.{rules}
 use Rattle.lines.proofs.program.print_rows.Given as goal
 
 abbrev pub invariant-loop-s : goal.invariant-loop-s

@@ -3,7 +3,6 @@ use native.Mathlib.Omega.{arith}
 use Rattle.lines.proofs.Chains.{holds}
 use Rattle.lines.proofs.Turns.{begun_start, begun_end}
 use Rattle.opened.proofs.OpenLaws.{opened_kept}
-use borrow.Author.Rules.{rules}
 use Rattle.lines.proofs.rows.write_row.Goals as goal
 
 pub node_count-n-requires : goal.node_count-n-requires
