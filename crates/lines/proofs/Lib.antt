@@ -1,5 +1,5 @@
 -- The laws that the proofs cite.
-mod Answers
+mod Parts
 mod Chains
 mod Digits
 mod Sizes

@@ -16,7 +16,7 @@ use Rattle.model.specs.declared.Answer.{Answer}
 use Rattle.model.specs.declared.Answer.TheVariants.{Time, None, Refused}
 use Rattle.lines.specs.Texts.{Room, field_text, pair_text, row_text}
 use Rattle.lines.proofs.Digits.{few_digits}
-use Rattle.lines.proofs.Answers.{pair_parts, header_parts, refused_parts, after_count}
+use Rattle.lines.proofs.Parts.{pair_parts, header_parts, refused_parts, after_count}
 
 few_decimal : (n : ℕ) → length (decimal n) ≤ 10
 unfolding decimal

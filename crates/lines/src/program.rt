@@ -1,5 +1,5 @@
 // The listing program: it reads an oracle on standard input and writes its listing on standard output.
-ghost use Rattle.std.specs.Prelude.{◌≡◌, true, ◌+◌, ◌*◌, ◌<◌, ◌≤◌, length};
+ghost use Rattle.std.specs.Prelude.{◌≡◌, true, ◌+◌, ◌*◌, ◌<◌, ◌≤◌, length, IfOk};
 ghost use Rattle.model.specs.Contents.{node_body};
 ghost use Rattle.model.specs.Network.{node_count};
 ghost use Rattle.model.specs.Rules.{well_shaped};
@@ -10,6 +10,8 @@ use crate::rows::write_row;
 use opened::opening::open_words;
 use reader::files::shape_refusal;
 use reader::oracle::{node_count, transit_count};
+use std::io;
+use std::io::Read;
 
 // The bytes read of the input.
 const READ: usize = 28672;
@@ -19,61 +21,81 @@ const WORDS: usize = READ;
 
 const ROOM: usize = 5 * READ + 40;
 
-const STDIN: i32 = 0;
+// Reads until the buffer is full or the input ends.
+fn read_full(input: &mut impl Read, buf: &mut [u8]) -> io::Result<usize>
+    ensures { IfOk result (λ n. n ≤ length buf.new) }
+{
+    let mut done = 0;
+    while done < buf.len() {
+        let n = input.read(&mut buf[done..])?;
+        if n == 0 {
+            break;
+        }
+        done += n;
+    }
+    Ok(done)
+}
 
-const STDOUT: i32 = 1;
-
-fn print_refused(rule: u32, out: &mut [u8])
+fn print_refused(rt: &impl Print, rule: u32, out: &mut [u8]) -> io::Result<()>
     requires { 40 ≤ length out.old }
 {
     let end = write_refused(rule, out);
-    io::write_all(STDOUT, &out[..end]);
+    rt.write_all(&out[..end])
 }
 
-fn print_header(o: &[u8], out: &mut [u8])
+fn print_header(rt: &impl Print, o: &[u8], out: &mut [u8]) -> io::Result<()>
     requires { (well_shaped o.now ≡ true) × (40 ≤ length out.old) }
 {
     let end = write_header(node_count(o), transit_count(o), out);
-    io::write_all(STDOUT, &out[..end]);
+    rt.write_all(&out[..end])
 }
 
-fn print_row(o: &[u8], s: usize, work: &mut [u32], out: &mut [u8])
+// A failed write leaves the words as they are promised too.
+fn print_row(
+    rt: &impl Print,
+    o: &[u8],
+    s: usize,
+    work: &mut [u32],
+    out: &mut [u8],
+) -> io::Result<()>
     requires { Opened o.now work.old × (s < node_count (node_body o.now)) × (5 * length o.now ≤ length out.old) }
     ensures { Opened o.now work.new }
 {
     let end = write_row(o, s, work, out);
-    io::write_all(STDOUT, &out[..end]);
+    rt.write_all(&out[..end])
 }
 
-fn print_rows(o: &[u8], work: &mut [u32], out: &mut [u8])
+fn print_rows(rt: &impl Print, o: &[u8], work: &mut [u32], out: &mut [u8]) -> io::Result<()>
     requires { Opened o.now work.old × (5 * length o.now ≤ length out.old) }
 {
     let n = node_count(o);
     let mut s = 0;
     while s < n {
-        print_row(o, s, work, out);
+        print_row(rt, o, s, work, out)?;
         s += 1;
     }
+    Ok(())
 }
 
-// One line where a rule is broken, and else the header and the rows in order (`listing_refused`, `listing_rows`).
-fn print_listing(o: &[u8], work: &mut [u32], out: &mut [u8])
+// One line where a rule is broken, and else the header and the rows in order (`listing_refused`, `listing_rows`). Any error is that of a failed write: what was
+// written before it stays written.
+fn print_listing(rt: &impl Print, o: &[u8], work: &mut [u32], out: &mut [u8]) -> io::Result<()>
     requires { (length o.now ≤ length work.old) × (5 * length o.now + 40 ≤ length out.old) }
 {
     let rule = shape_refusal(o);
     if rule != 0 {
-        print_refused(rule, out);
-        return;
+        return print_refused(rt, rule, out);
     }
-    print_header(o, out);
+    print_header(rt, o, out)?;
     open_words(o, work);
-    print_rows(o, work, out);
+    print_rows(rt, o, work, out)
 }
 
-pub fn run() {
+// Any error is that of a failed read, before which nothing is written, or of a failed write.
+pub fn run(rt: &(impl Input + Print)) -> io::Result<()> {
     let mut file = [0u8; READ];
     let mut work = [0u32; WORDS];
     let mut out = [0u8; ROOM];
-    let n = io::read_full(STDIN, &mut file);
-    print_listing(&file[..n], &mut work, &mut out);
+    let n = read_full(&mut rt.reader(), &mut file)?;
+    print_listing(rt, &file[..n], &mut work, &mut out)
 }

@@ -1,6 +1,8 @@
 // The listing program; its stored input is the oracle of Line.
 #![tactic(auto)]
 
-fn main() {
-    lines::program::run();
+use std::io;
+
+fn main(rt: HostRuntime) -> io::Result<()> {
+    lines::program::run(&rt)
 }

@@ -1,6 +1,8 @@
 // The listing program, on the oracle of Fork.
 #![tactic(auto)]
 
-fn main() {
-    lines::program::run();
+use std::io;
+
+fn main(rt: HostRuntime) -> io::Result<()> {
+    lines::program::run(&rt)
 }

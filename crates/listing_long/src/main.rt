@@ -1,6 +1,8 @@
 // The listing program, on an oracle longer than what is read of it.
 #![tactic(auto)]
 
-fn main() {
-    lines::program::run();
+use std::io;
+
+fn main(rt: HostRuntime) -> io::Result<()> {
+    lines::program::run(&rt)
 }

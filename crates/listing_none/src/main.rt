@@ -1,6 +1,8 @@
 // The listing program, on an oracle of two islands, where many pairs have no walk.
 #![tactic(auto)]
 
-fn main() {
-    lines::program::run();
+use std::io;
+
+fn main(rt: HostRuntime) -> io::Result<()> {
+    lines::program::run(&rt)
 }

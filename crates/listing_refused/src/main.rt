@@ -1,6 +1,8 @@
 // The listing program, on the oracle of Line with a transit place that names no place.
 #![tactic(auto)]
 
-fn main() {
-    lines::program::run();
+use std::io;
+
+fn main(rt: HostRuntime) -> io::Result<()> {
+    lines::program::run(&rt)
 }

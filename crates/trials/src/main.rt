@@ -9,6 +9,7 @@ use builder::calls::build;
 use memory::{read16, sum};
 use model::{Answer, Division, Kind};
 use networks::{NO_ROADS, NO_WALK, Network, Total};
+use std::io;
 
 // Working words for 16 places.
 const WORK: usize = 128;
@@ -228,22 +229,24 @@ fn x_wrong() -> u32 {
 
 // ---- what is printed
 
-fn line(name: &[u8], x: u32) {
-    io::write_all(1, name);
-    io::print_decimal(1, x as u64);
-    io::write_all(1, b"\n");
+fn line(rt: &impl Print, name: &str, x: u32) -> io::Result<()> {
+    println!(rt; "{name}{x}")
 }
 
-fn print(tally: Tally) {
-    line(b"pairs: time, far answer and way ", tally.pairs);
-    line(b"far pairs ", tally.far);
-    line(b"pairs with no walk ", tally.none);
-    line(b"pairs of two places 0 seconds apart ", tally.zero);
-    line(b"wrong ", tally.wrong);
+fn print(rt: &impl Print, tally: Tally) -> io::Result<()> {
+    line(rt, "pairs: time, far answer and way ", tally.pairs)?;
+    line(rt, "far pairs ", tally.far)?;
+    line(rt, "pairs with no walk ", tally.none)?;
+    line(rt, "pairs of two places 0 seconds apart ", tally.zero)?;
+    line(rt, "wrong ", tally.wrong)
 }
 
-fn main() {
-    line(b"wrong among document 01's ", sum(line_wrong(), x_wrong()));
+fn main(rt: HostRuntime) -> io::Result<()> {
+    line(
+        &rt,
+        "wrong among document 01's ",
+        sum(line_wrong(), x_wrong()),
+    )?;
     let none = Tally {
         pairs: 0,
         far: 0,
@@ -251,5 +254,5 @@ fn main() {
         zero: 0,
         wrong: 0,
     };
-    print(check_networks(none, 2000));
+    print(&rt, check_networks(none, 2000))
 }

@@ -1,6 +1,5 @@
 -- `check_networks` meets its contract. Assumes nothing.
-use Rattle.std.proofs.Common.{◌-◌, rules}
-use Prim.{Unit, tt}
+use Prim.{tt}
 use Rattle.trials.proofs.check_networks.Goals as goal
 
 pub loop-i-init : goal.loop-i-init

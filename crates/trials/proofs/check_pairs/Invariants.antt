@@ -1,6 +1,6 @@
 -- `check_pairs` meets its contract. Assumes nothing.
-use Rattle.std.proofs.Common.{◌-◌, rules}
-use Prim.{Unit, tt}
+use Rattle.std.proofs.Common.{◌-◌}
+use Prim.{Unit}
 use Rattle.trials.proofs.check_pairs.Given as goal
 
 abbrev pub invariant-loop-i : goal.invariant-loop-i

@@ -1,6 +1,6 @@
 -- `sum_of` meets its contract. Assumes nothing.
-use Rattle.std.proofs.Common.{◌-◌, rules}
-use Prim.{Unit, tt}
+use Rattle.std.proofs.Common.{◌-◌}
+use Prim.{Unit}
 use Rattle.trials.proofs.sum_of.Given as goal
 
 abbrev pub invariant-loop-i : goal.invariant-loop-i

@@ -1,7 +1,6 @@
 -- `lines::write_answer` meets its contract. Assumes nothing.
 use Rattle.lines.proofs.Chains.{wrote_none}
-use Rattle.lines.proofs.Answers.{time_text_law, none_text_law, refused_text}
-use borrow.Author.Rules.{rules}
+use Rattle.lines.proofs.Parts.{time_text_law, none_text_law, refused_text}
 use Rattle.lines.proofs.lines.write_answer.Goals as goal
 
 pub write_time-requires : goal.write_time-requires

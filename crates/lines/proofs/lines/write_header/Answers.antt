@@ -1,8 +1,7 @@
 -- `lines::write_header` meets its contract. Assumes nothing.
 use Rattle.lines.proofs.Chains.{holds, room_first, room_second, wrote_both}
 use Rattle.model.specs.Listing.{line_feed}
-use Rattle.lines.proofs.Answers.{header_parts, after_places, after_count, after_transit}
-use borrow.Author.Rules.{rules}
+use Rattle.lines.proofs.Parts.{header_parts, after_places, after_count, after_transit}
 use Rattle.lines.proofs.lines.write_header.Goals as goal
 
 pub write_text-places-requires : goal.write_text-places-requires

@@ -1,6 +1,5 @@
 -- `lines::write_kind` meets its contract. Assumes nothing.
 use Rattle.model.specs.Listing.{kind_text}
-use borrow.Author.Rules.{rules}
 use Rattle.lines.proofs.lines.write_kind.Goals as goal
 
 pub write_text-requires : goal.write_text-requires

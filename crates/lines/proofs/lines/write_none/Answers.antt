@@ -2,7 +2,6 @@
 use Rattle.lines.proofs.Chains.{room_first, room_second, wrote_both}
 use Rattle.model.specs.Listing.{kind_text}
 use Rattle.lines.specs.Texts.{none_text}
-use borrow.Author.Rules.{rules}
 use Rattle.lines.proofs.lines.write_none.Goals as goal
 
 pub write_text-end-requires : goal.write_text-end-requires

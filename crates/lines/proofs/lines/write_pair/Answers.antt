@@ -1,10 +1,9 @@
 -- `lines::write_pair` meets its contract. Assumes nothing.
 use Rattle.lines.proofs.Chains.{room_first, room_second, wrote_both}
-use Rattle.lines.proofs.Answers.{pair_parts}
+use Rattle.lines.proofs.Parts.{pair_parts}
 use Rattle.lines.specs.Texts.{field_text}
 use Rattle.model.specs.Listing.{line_feed, answer_text}
 use mathlib.Core.List.{◌++◌}
-use borrow.Author.Rules.{rules}
 use Rattle.lines.proofs.lines.write_pair.Goals as goal
 
 pub write_field-first-requires : goal.write_field-first-requires

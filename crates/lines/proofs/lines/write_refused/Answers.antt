@@ -1,9 +1,8 @@
 -- `lines::write_refused` meets its contract. Assumes nothing.
 use Rattle.lines.proofs.Chains.{holds, room_first, room_second, wrote_both}
-use Rattle.lines.proofs.Answers.{refused_parts}
+use Rattle.lines.proofs.Parts.{refused_parts}
 use Rattle.model.specs.Listing.{decimal, line_feed}
 use mathlib.Core.List.{◌++◌}
-use borrow.Author.Rules.{rules}
 use Rattle.lines.proofs.lines.write_refused.Goals as goal
 
 pub write_text-refused-requires : goal.write_text-refused-requires

@@ -2,7 +2,6 @@
 use Rattle.lines.proofs.Chains.{room_first, room_second, wrote_both}
 use Rattle.model.specs.Listing.{kind_text}
 use Rattle.lines.specs.Texts.{time_text}
-use borrow.Author.Rules.{rules}
 use Rattle.lines.proofs.lines.write_time.Goals as goal
 
 pub write_field-end-requires : goal.write_field-end-requires

@@ -8,14 +8,14 @@ use Rattle.lines.proofs.program.print_listing.Goals as goal
 
 pub print_header-requires : goal.print_header-requires
 unfolding well_shaped
-print_header-requires c = (eq-eqb _ _ (sym c.shape_refusal-rule.ensures ∙ c.if-rule-ne0.false), search rules)
+print_header-requires g c = (eq-eqb _ _ (sym c.shape_refusal-rule.ensures ∙ c.if-rule-ne0.false), search rules)
 
 pub open_words-requires : goal.open_words-requires
 unfolding well_shaped
-open_words-requires c = (
+open_words-requires g c = (
   eq-eqb _ _ (sym c.shape_refusal-rule.ensures ∙ c.if-rule-ne0.false),
   words_enough _ _ c.requires.0,
 )
 
 pub print_rows-requires : goal.print_rows-requires
-print_rows-requires c = (c.open_words.ensures.opened, search rules)
+print_rows-requires g c = (c.open_words.ensures.opened, search rules)

@@ -1,24 +1,18 @@
 -- `program::print_rows` meets its contract. Assumes nothing.
-use Rattle.model.specs.Network.{node_count}
-use Rattle.model.specs.Contents.{node_body}
-use Rattle.opened.specs.Opened.{Opened}
-use lib.ListN.{length}
-use mathlib.Core.Path.{◌≡◌}
-use Prim.Native.Nat.{◌-◌}
 use borrow.Author.Rules.{rules}
 use Rattle.lines.proofs.program.print_rows.Goals as goal
 
 pub node_count-n-requires : goal.node_count-n-requires
-node_count-n-requires c = c.requires.0.shape
+node_count-n-requires g c = c.requires.0.shape
 
 pub loop-s-init : goal.loop-s-init
-loop-s-init c = (search rules, c.requires.0, search rules, search rules)
+loop-s-init g c = (search rules, c.requires.0, search rules, search rules)
 
 pub print_row-requires : goal.print_row-requires
-print_row-requires c = (c.loop-s.invariant.1, search rules, search rules)
+print_row-requires g c = (c.loop-s.invariant.1, search rules, search rules)
 
 pub loop-s-preserved : goal.loop-s-preserved
-loop-s-preserved c = (
+loop-s-preserved g c = (
   c.loop-s.invariant.0,
   c.print_row.ensures,
   search

@@ -3,7 +3,6 @@ use mathlib.Core.Path.{◌∙◌, sym}
 use Rattle.opened.proofs.SearchWords.{local_is, toward_word}
 use Rattle.theory.specs.Passed.{all_shaped}
 use Rattle.model.specs.Query.{time_answer, answer_of}
-use borrow.Author.Rules.{rules}
 use Rattle.lines.proofs.rows.answer_between.Goals as goal
 
 pub far_of-requires : goal.far_of-requires

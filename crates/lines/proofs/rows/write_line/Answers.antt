@@ -1,7 +1,6 @@
 -- `rows::write_line` meets its contract. Assumes nothing.
 use Rattle.lines.specs.Texts.{pair_text}
 use Rattle.model.specs.Listing.{pair_line}
-use borrow.Author.Rules.{rules}
 use Rattle.lines.proofs.rows.write_line.Goals as goal
 
 pub write_pair-requires : goal.write_pair-requires

@@ -1,12 +1,10 @@
 -- `rows::write_lines` meets its contract. Assumes nothing.
-use Rattle.lines.proofs.Turns.{Begun, begun_start, begun_fits, begun_next, begun_end}
+use Rattle.lines.proofs.Turns.{Begun}
 use Rattle.model.specs.Network.{node_count}
 use Rattle.model.specs.Contents.{node_body}
 use lib.ListN.{length}
 use mathlib.Core.Path.{◌≡◌}
-use native.Mathlib.Omega.{arith}
 use Prim.Native.Nat.{◌-◌}
-use borrow.Author.Rules.{rules}
 use Rattle.lines.proofs.rows.write_lines.Given as goal
 
 abbrev pub invariant-loop-t : goal.invariant-loop-t

@@ -1,7 +1,6 @@
 -- `text::write_byte` meets its contract. Assumes nothing.
 use Rattle.lines.proofs.Chains.{wrote_byte}
 use native.Mathlib.Omega.{arith}
-use borrow.Author.Rules.{rules}
 use Rattle.lines.proofs.text.write_byte.Goals as goal
 
 pub bounds-out-at : goal.bounds-out-at

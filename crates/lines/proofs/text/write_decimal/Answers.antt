@@ -1,6 +1,5 @@
 -- `text::write_decimal` meets its contract. Assumes nothing.
 use Rattle.model.specs.Listing.{decimal}
-use borrow.Author.Rules.{rules}
 use Rattle.lines.proofs.text.write_decimal.Goals as goal
 
 pub write_digits-requires : goal.write_digits-requires

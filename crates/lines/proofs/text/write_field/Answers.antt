@@ -2,7 +2,6 @@
 use Rattle.lines.proofs.Chains.{room_first, room_second, wrote_both}
 use Rattle.model.specs.Listing.{blank}
 use Rattle.lines.specs.Texts.{field_text}
-use borrow.Author.Rules.{rules}
 use Rattle.lines.proofs.text.write_field.Goals as goal
 
 pub write_decimal-end-requires : goal.write_decimal-end-requires

@@ -1,7 +1,6 @@
 -- `text::write_text` meets its contract. Assumes nothing.
 use Rattle.lines.proofs.Chains.{wrote_part}
 use native.Mathlib.Omega.{arith}
-use borrow.Author.Rules.{rules}
 use Rattle.lines.proofs.text.write_text.Goals as goal
 
 pub overflow_add-end : goal.overflow_add-end

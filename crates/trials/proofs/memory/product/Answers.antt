@@ -1,5 +1,5 @@
 -- `memory::product` meets its contract. Assumes nothing.
-use Rattle.std.proofs.Common.{mul-le-mul, arith, rules}
+use Rattle.std.proofs.Common.{mul-le-mul, arith}
 use Rattle.trials.proofs.memory.product.Goals as goal
 
 pub overflow_mul-result : goal.overflow_mul-result

@@ -1,6 +1,5 @@
 -- `networks::leg` meets its contract. Assumes nothing.
-use Rattle.std.proofs.Common.{◌-◌, rules}
-use Prim.{Unit, tt}
+use Prim.{tt}
 use Rattle.trials.proofs.networks.leg.Goals as goal
 
 pub loop-i-init : goal.loop-i-init

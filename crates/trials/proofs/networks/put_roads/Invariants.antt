@@ -1,5 +1,5 @@
 -- `networks::put_roads` meets its contract. Assumes nothing.
-use Rattle.std.proofs.Common.{◌≡◌, ◌-◌, length, rules}
+use Rattle.std.proofs.Common.{◌≡◌, ◌-◌, length}
 use Rattle.trials.proofs.networks.put_roads.Given as goal
 
 abbrev pub invariant-loop-i : goal.invariant-loop-i
