@@ -29,7 +29,7 @@ loop-j-init c =
     (omega arith, opened_kept _ _ _ c.requires.0 (search rules) back, wants, refl, refl)
 
 pub overflow_cast-ends : goal.overflow_cast-ends
-overflow_cast-ends c = omega (arith, c.shared_slice_known-in-loop-j-1.given c.loop-j.j)
+overflow_cast-ends c = omega arith
 
 pub want_end-left-requires : goal.want_end-left-requires
 want_end-left-requires c = (c.loop-j.invariant.1, c.requires.1, c.requires.2, named_there _ _ _ c.loop-j-test.true c.requires.3)

@@ -36,4 +36,4 @@ loop-i-preserved c = (
 pub returns : goal.returns
 returns c =
     let a = c.args in
-    record { keys = c.loop-i.invariant.1 ∙ ap (λ (c.loop-i : List ℕ). block_by (time_word a.o.now) c.loop-i a.ends.now) (take_all c.loop-i.i a.starts.now (omega arith)); others = c.loop-i.invariant.3 }
+    record { keys = c.loop-i.invariant.1 ∙ ap (λ (l : List ℕ). block_by (time_word a.o.now) l a.ends.now) (take_all c.loop-i.i a.starts.now (omega arith)); others = c.loop-i.invariant.3 }

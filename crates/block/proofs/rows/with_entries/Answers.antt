@@ -22,7 +22,7 @@ loop-j-init c =
 )
 
 pub overflow_cast-ends : goal.overflow_cast-ends
-overflow_cast-ends c = omega (arith, c.shared_slice_known-in-loop-j-1.given c.loop-j.j)
+overflow_cast-ends c = omega arith
 
 pub entry_of-requires : goal.entry_of-requires
 entry_of-requires c = (c.requires.opened.0, c.requires.opened.1, named_there _ _ _ c.loop-j-test.true c.requires.opened.2, c.requires.near_times.0 _ c.loop-j-test.true)

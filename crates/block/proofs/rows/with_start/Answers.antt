@@ -24,7 +24,7 @@ returns-then-k-i c =
           c.requires.starts_len_bound.2 (omega (arith, c.requires.starts_len_bound.0))); others = refl }
 
 pub overflow_cast-starts : goal.overflow_cast-starts
-overflow_cast-starts c = omega (arith, c.shared_slice_known-4-1.given c.args.i)
+overflow_cast-starts c = omega arith
 
 pub with_row-requires : goal.with_row-requires
 with_row-requires c =
