@@ -4,7 +4,6 @@ use Rattle.block.proofs.Entries.{local_told}
 use native.Mathlib.Omega.{arith}
 use mathlib.Core.Bool.{true≢false}
 use mathlib.Core.Path.{refl, sym, ◌∙◌}
-use borrow.Author.Rules.{rules}
 use Rattle.block.proofs.near.want_end.Goals as goal
 
 pub has-requires : goal.has-requires

@@ -1,10 +1,8 @@
 -- `parts::parts_of` meets its contract: row by row.
-use Prim.Native.Nat.{◌-◌, ◌≤◌}
 use native.Mathlib.Omega.{arith}
-use mathlib.Core.Path.{◌≡◌, ◌∙◌}
+use mathlib.Core.Path.{◌∙◌}
 use mathlib.Core.List.{[], map}
-use lib.ListN.{length, take}
-use Rattle.block.specs.Block.{max_names, twelve, unused_row}
+use Rattle.block.specs.Block.{unused_row}
 use Rattle.block.specs.Twelve.{twelve_more}
 use Rattle.block.specs.Parts.{part_of, parts_of}
 use Rattle.block.proofs.PartLaws.{none_yet, all_done}
@@ -20,8 +18,7 @@ row_parts-requires c = c.requires c.loop-i.i (omega arith)
 
 pub loop-i-preserved : goal.loop-i-preserved
 loop-i-preserved c =
-    let a = c.args in
-    (
+    let a = c.args in (
       omega arith,
       c.loop-i.invariant.1,
       rw (c.loop-i.invariant.2, c.row_parts.ensures)

@@ -1,10 +1,6 @@
 -- `parts::row_parts` meets its contract: square by square.
-use Prim.Native.Nat.{◌-◌, ◌≤◌}
 use native.Mathlib.Omega.{arith}
-use mathlib.Core.Path.{◌≡◌, ◌∙◌}
-use mathlib.Core.List.{map}
-use lib.ListN.{length, take}
-use Rattle.block.specs.Block.{max_names, twelve}
+use mathlib.Core.Path.{◌∙◌}
 use Rattle.block.specs.Twelve.{twelve_more}
 use Rattle.block.specs.Parts.{part_of}
 use Rattle.block.proofs.PartLaws.{none_yet, all_done}
