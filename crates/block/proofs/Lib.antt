@@ -6,3 +6,6 @@ mod Fill
 mod Entries
 mod NearLaws
 mod Squared
+pub mod Kept
+pub mod Theorems
+pub mod Trials

@@ -8,7 +8,7 @@ use lib.Dec.{ltb}
 use borrow.Author.Tests.{eq-eqb, ne_eqb, le-ltb}
 use Rattle.model.specs.Bytes.{Bytes}
 use Rattle.model.specs.Query.{time_word}
-use Rattle.model.specs.Rules.{rule, first_broken, network_rules, shape_rules, work_too_small, words_needed}
+use Rattle.model.specs.Rules.{first_broken, network_rules, shape_rules, work_too_small, words_needed}
 use Rattle.model.specs.Calls.{clears, cleared}
 use Rattle.checks.specs.RuleLists.{named_rules}
 use Rattle.checks.proofs.AfterCall.{unclearing, words_kept, words_cleared}
@@ -18,7 +18,7 @@ use Rattle.words.specs.Frames.{KeptFrom}
 use Rattle.block.specs.Block.{max_names, names_broken, sides_rules, block_rules, block_by, given, refused, block_refusal, block_after, BlockCall}
 use Rattle.block.specs.Parts.{parts_of}
 use Rattle.block.proofs.PartLaws.{seconds_block, hops_block}
-use Rattle.block.specs.Kept.{BlockKept, block_kept}
+use Rattle.block.proofs.Kept.{BlockKept, block_kept}
 use Rattle.block.specs.declared.Block.{Block}
 
 -- ---- rule 17

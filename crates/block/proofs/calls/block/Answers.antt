@@ -3,8 +3,7 @@ use mathlib.Core.Path.{sym, ◌∙◌}
 use Rattle.opened.proofs.OpenLaws.{stays}
 use Rattle.block.proofs.Named.{block_refused, block_given}
 use Rattle.block.proofs.PartLaws.{keys_small}
-use Rattle.block.specs.Kept.{block_kept}
-use borrow.Author.Rules.{rules}
+use Rattle.block.proofs.Kept.{block_kept}
 use Rattle.block.proofs.calls.block.Goals as goal
 
 pub returns-then-rule-ne0 : goal.returns-then-rule-ne0

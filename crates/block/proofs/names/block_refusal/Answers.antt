@@ -1,10 +1,9 @@
 -- `names::block_refusal` meets its contract.
 use mathlib.Core.Path.{sym, ◌∙◌}
-use Rattle.block.specs.Kept.{sides_counted, sides_kept}
+use Rattle.block.proofs.Kept.{sides_counted, sides_kept}
 use Rattle.block.specs.Block.{block_rules}
 use Rattle.checks.proofs.NameLists.{named_kept}
 use Rattle.checks.proofs.CheckOrder.{sooner, decides}
-use borrow.Author.Rules.{rules}
 use Rattle.block.proofs.names.block_refusal.Goals as goal
 
 pub returns-then-r-ne0 : goal.returns-then-r-ne0

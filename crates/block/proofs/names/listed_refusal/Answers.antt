@@ -5,7 +5,6 @@ use Rattle.checks.specs.RuleLists.{named_rules}
 use Rattle.checks.proofs.RulesKept.{shaped}
 use Rattle.checks.proofs.CheckOrder.{sooner}
 use mathlib.Core.Path.{sym, ◌∙◌}
-use borrow.Author.Rules.{rules}
 use Rattle.block.proofs.names.listed_refusal.Goals as goal
 
 pub returns-then-r-ne0 : goal.returns-then-r-ne0

@@ -3,7 +3,6 @@ use mathlib.Core.Path.{sym, ◌∙◌, refl}
 use Rattle.block.specs.Block.{sides_rules}
 use Rattle.checks.proofs.NameLists.{named_counted}
 use Rattle.checks.proofs.CheckOrder.{sooner, decides, first_part, second_part}
-use borrow.Author.Rules.{rules}
 use Rattle.block.proofs.names.sides_refusal.Goals as goal
 
 pub returns-then-r-ne0 : goal.returns-then-r-ne0

@@ -4,7 +4,6 @@ use Rattle.theory.specs.Passed.{all_shaped}
 use Rattle.theory.specs.Sound.{node_bytes}
 use Rattle.block.proofs.NearLaws.{stopped_times}
 use native.Mathlib.Omega.{arith}
-use borrow.Author.Rules.{rules}
 use Rattle.block.proofs.near.search_until.Goals as goal
 
 pub search_wanted-requires : goal.search_wanted-requires

@@ -4,7 +4,6 @@ use Rattle.block.proofs.Entries.{local_told}
 use native.Mathlib.Omega.{arith}
 use mathlib.Core.Bool.{true≢false}
 use mathlib.Core.Path.{refl, sym, ◌∙◌}
-use borrow.Author.Rules.{rules}
 use Rattle.block.proofs.near.want_end.Goals as goal
 
 pub has-requires : goal.has-requires
@@ -18,10 +17,9 @@ put-requires c = (omega (arith, c.node_count-n.ensures), want_fits _ _ c.node_co
 
 pub returns-then-is_local : goal.returns-then-is_local
 returns-then-is_local c =
-    let start = b in
-    let a = start.args in
+    let a = c.args in
     let local = local_told _ _ _ _ _ c.kind_in.ensures c.is_local.ensures ∙ c.if-is_local.true in
-    let new = want_lacks _ _ c.node_count-n.ensures _ _ start.requires.3 (sym c.has.ensures ∙ c.if-has.false) in record { wants = wants_put _ _ _ _ local (rw (wanted_size a.o.now a.work.now) start.requires.3) new _ (want_put _ _ c.node_count-n.ensures _ _ a.t c.put.ensures.members); others = want_only _ _ c.node_count-n.ensures _ _ c.put.ensures.others }
+    let new = want_lacks _ _ c.node_count-n.ensures _ _ c.requires.3 (sym c.has.ensures ∙ c.if-has.false) in record { wants = wants_put _ _ _ _ local (rw (wanted_size a.o.now a.work.now) c.requires.3) new _ (want_put _ _ c.node_count-n.ensures _ _ a.t c.put.ensures.members); others = want_only _ _ c.node_count-n.ensures _ _ c.put.ensures.others }
 
 pub returns : goal.returns
 returns c =

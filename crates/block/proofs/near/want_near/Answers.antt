@@ -1,18 +1,11 @@
 -- `near::want_near` meets its contract: s first, then end by end.
 use Rattle.checks.proofs.NameLists.{named_there}
-use Rattle.words.specs.Frames.{KeptFrom}
-use Rattle.block.specs.Near.{wanted_in, Wants}
 use Rattle.block.proofs.NearLaws.{wants_all, want_fits, want_only, want_first}
-use Rattle.model.specs.Contents.{node_body}
-use Rattle.model.specs.Network.{node_count}
-use Rattle.opened.specs.Opened.{Opened}
 use Rattle.opened.proofs.OpenLaws.{opened_kept}
 use native.Mathlib.Omega.{arith}
 use lib.ListN.{length}
 use mathlib.Core.Path.{◌≡◌, refl, ◌∙◌}
-use Prim.Native.Nat.{◌-◌, ◌≤◌}
 use borrow.Author.Rules.{rules}
-use Rattle.words.specs.Regions.{grid_at}
 use Rattle.block.proofs.near.want_near.Goals as goal
 
 pub clear-requires : goal.clear-requires
@@ -29,7 +22,7 @@ loop-j-init c =
     (omega arith, opened_kept _ _ _ c.requires.0 (search rules) back, wants, refl, refl)
 
 pub overflow_cast-ends : goal.overflow_cast-ends
-overflow_cast-ends c = omega (arith, c.shared_slice_known-in-loop-j-1.given c.loop-j.j)
+overflow_cast-ends c = omega arith
 
 pub want_end-left-requires : goal.want_end-left-requires
 want_end-left-requires c = (c.loop-j.invariant.1, c.requires.1, c.requires.2, named_there _ _ _ c.loop-j-test.true c.requires.3)

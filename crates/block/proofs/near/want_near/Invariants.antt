@@ -1,17 +1,12 @@
 -- `near::want_near` meets its contract: s first, then end by end.
-use Rattle.checks.proofs.NameLists.{named_there}
 use Rattle.words.specs.Frames.{KeptFrom}
 use Rattle.block.specs.Near.{wanted_in, Wants}
-use Rattle.block.proofs.NearLaws.{wants_all, want_fits, want_only, want_first}
 use Rattle.model.specs.Contents.{node_body}
 use Rattle.model.specs.Network.{node_count}
 use Rattle.opened.specs.Opened.{Opened}
-use Rattle.opened.proofs.OpenLaws.{opened_kept}
-use native.Mathlib.Omega.{arith}
 use lib.ListN.{length}
-use mathlib.Core.Path.{◌≡◌, refl, ◌∙◌}
+use mathlib.Core.Path.{◌≡◌}
 use Prim.Native.Nat.{◌-◌, ◌≤◌}
-use borrow.Author.Rules.{rules}
 use Rattle.words.specs.Regions.{grid_at}
 use Rattle.block.proofs.near.want_near.Given as goal
 

@@ -1,6 +1,5 @@
 -- `parts::given_block` meets its contract.
 use mathlib.Core.Path.{◌∙◌}
-use borrow.Author.Rules.{rules}
 use Rattle.block.proofs.parts.given_block.Goals as goal
 
 pub returns : goal.returns

@@ -1,6 +1,5 @@
 -- `parts::part_of` meets its contract.
 use Rattle.block.specs.Parts.{part_of}
-use borrow.Author.Rules.{rules}
 use Rattle.block.proofs.parts.part_of.Goals as goal
 
 pub returns-then-hops : goal.returns-then-hops

@@ -1,14 +1,10 @@
 -- `parts::parts_of` meets its contract: row by row.
 use Prim.Native.Nat.{◌-◌, ◌≤◌}
-use native.Mathlib.Omega.{arith}
-use mathlib.Core.Path.{◌≡◌, ◌∙◌}
-use mathlib.Core.List.{[], map}
+use mathlib.Core.Path.{◌≡◌}
+use mathlib.Core.List.{map}
 use lib.ListN.{length, take}
 use Rattle.block.specs.Block.{max_names, twelve, unused_row}
-use Rattle.block.specs.Twelve.{twelve_more}
-use Rattle.block.specs.Parts.{part_of, parts_of}
-use Rattle.block.proofs.PartLaws.{none_yet, all_done}
-use borrow.Author.Rules.{rules}
+use Rattle.block.specs.Parts.{part_of}
 use Rattle.block.proofs.parts.parts_of.Given as goal
 
 abbrev pub invariant-loop-i : goal.invariant-loop-i

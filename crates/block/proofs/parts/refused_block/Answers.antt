@@ -1,6 +1,5 @@
 -- `parts::refused_block` meets its contract.
 use Rattle.block.specs.Block.{refused}
-use borrow.Author.Rules.{rules}
 use Rattle.block.proofs.parts.refused_block.Goals as goal
 
 pub returns : goal.returns

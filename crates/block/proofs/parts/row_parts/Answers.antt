@@ -1,10 +1,6 @@
 -- `parts::row_parts` meets its contract: square by square.
-use Prim.Native.Nat.{◌-◌, ◌≤◌}
 use native.Mathlib.Omega.{arith}
-use mathlib.Core.Path.{◌≡◌, ◌∙◌}
-use mathlib.Core.List.{map}
-use lib.ListN.{length, take}
-use Rattle.block.specs.Block.{max_names, twelve}
+use mathlib.Core.Path.{◌∙◌}
 use Rattle.block.specs.Twelve.{twelve_more}
 use Rattle.block.specs.Parts.{part_of}
 use Rattle.block.proofs.PartLaws.{none_yet, all_done}
@@ -13,7 +9,7 @@ use Rattle.block.proofs.parts.row_parts.Goals as goal
 
 pub loop-j-init : goal.loop-j-init
 loop-j-init c =
-    let a = c.args in (omega arith, search rules, none_yet (part_of a.hops) 0 a.t2)
+    let a = c.args in (omega arith, search rules, none_yet (part_of a.hops) 0 a.row)
 
 pub part_of-requires : goal.part_of-requires
 part_of-requires c = c.requires c.loop-j.j (omega arith)
@@ -21,9 +17,9 @@ part_of-requires c = c.requires c.loop-j.j (omega arith)
 pub loop-j-preserved : goal.loop-j-preserved
 loop-j-preserved c =
     let a = c.args in
-    (omega arith, c.loop-j.invariant.1, rw (c.loop-j.invariant.2, c.part_of.ensures) (twelve_more (part_of a.hops) 0 0 a.t2 c.loop-j.j (omega (arith, c.loop-j.invariant.1)) (omega arith)))
+    (omega arith, c.loop-j.invariant.1, rw (c.loop-j.invariant.2, c.part_of.ensures) (twelve_more (part_of a.hops) 0 0 a.row c.loop-j.j (omega (arith, c.loop-j.invariant.1)) (omega arith)))
 
 pub returns : goal.returns
 returns c =
     let a = c.args in
-    c.loop-j.invariant.2 ∙ all_done (part_of a.hops) 0 a.t2 c.loop-j.j c.loop-j.invariant.1 (omega arith)
+    c.loop-j.invariant.2 ∙ all_done (part_of a.hops) 0 a.row c.loop-j.j c.loop-j.invariant.1 (omega arith)

@@ -1,14 +1,10 @@
 -- `parts::row_parts` meets its contract: square by square.
 use Prim.Native.Nat.{◌-◌, ◌≤◌}
-use native.Mathlib.Omega.{arith}
-use mathlib.Core.Path.{◌≡◌, ◌∙◌}
+use mathlib.Core.Path.{◌≡◌}
 use mathlib.Core.List.{map}
 use lib.ListN.{length, take}
 use Rattle.block.specs.Block.{max_names, twelve}
-use Rattle.block.specs.Twelve.{twelve_more}
 use Rattle.block.specs.Parts.{part_of}
-use Rattle.block.proofs.PartLaws.{none_yet, all_done}
-use borrow.Author.Rules.{rules}
 use Rattle.block.proofs.parts.row_parts.Given as goal
 
 abbrev pub invariant-loop-j : goal.invariant-loop-j

@@ -3,13 +3,16 @@ use Rattle.block.proofs.Named.{sides_there, opened_refused, opened_given}
 use Rattle.block.proofs.PartLaws.{keys_small}
 use Rattle.opened.proofs.OpenLaws.{stays}
 use mathlib.Core.Path.{refl}
-use borrow.Author.Rules.{rules}
 use Rattle.block.proofs.questions.block.Goals as goal
 
 pub returns-then-rule-ne0 : goal.returns-then-rule-ne0
 returns-then-rule-ne0 c =
-    let a = c.args in record { result = opened_refused a.o.now a.starts.now a.ends.now a.work.now c.requires _ c.sides_refusal-rule.ensures
-          c.refused_block.result c.if-rule-ne0.true c.refused_block.ensures; opened = c.requires; rest = refl }
+    let a = c.args in record {
+      result = opened_refused a.o.now a.starts.now a.ends.now a.work.now c.requires _ c.sides_refusal-rule.ensures
+          c.refused_block.result c.if-rule-ne0.true c.refused_block.ensures;
+      opened = c.requires;
+      rest = refl;
+    }
 
 pub keys_between-keys-requires : goal.keys_between-keys-requires
 keys_between-keys-requires c =
@@ -27,5 +30,9 @@ pub returns : goal.returns
 returns c =
     let a = c.args in
     let k = stays a.o.now a.work.now _ c.requires c.keys_between-keys.auto.work c.keys_between-keys.ensures.others in
-    let (number, times, hops) = c.given_block.ensures in record { result = opened_given a.o.now a.starts.now a.ends.now a.work.now c.requires _ c.sides_refusal-rule.ensures c.given_block.result c.if-rule-ne0.false
-          (record { keys = c.keys_between-keys.result; number = number; times = times; hops = hops; are = c.keys_between-keys.ensures.keys }); opened = k.opened; rest = k.rest }
+    let (number, times, hops) = c.given_block.ensures in record {
+      result = opened_given a.o.now a.starts.now a.ends.now a.work.now c.requires _ c.sides_refusal-rule.ensures c.given_block.result c.if-rule-ne0.false
+          (record { keys = c.keys_between-keys.result; number = number; times = times; hops = hops; are = c.keys_between-keys.ensures.keys });
+      opened = k.opened;
+      rest = k.rest;
+    }

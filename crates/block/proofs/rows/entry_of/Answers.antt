@@ -4,7 +4,6 @@ use Rattle.block.proofs.NearLaws.{want_fits}
 use Rattle.block.proofs.Entries.{bit_told, entry_far, entry_local}
 use native.Mathlib.Omega.{arith}
 use mathlib.Core.Path.{◌∙◌}
-use borrow.Author.Rules.{rules}
 use Rattle.block.proofs.rows.entry_of.Goals as goal
 
 pub has-requires : goal.has-requires

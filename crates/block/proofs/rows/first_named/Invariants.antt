@@ -1,8 +1,5 @@
 -- `rows::first_named` meets its contract.
-use Rattle.block.proofs.FirstNamed.{stands_before}
-use native.Mathlib.Omega.{arith}
 use Prim.Native.Nat.{◌-◌, ◌≤◌}
-use borrow.Author.Rules.{rules}
 use Rattle.block.proofs.rows.first_named.Given as goal
 
 abbrev pub invariant-loop-k : goal.invariant-loop-k

@@ -1,19 +1,14 @@
 -- `rows::keys_between` meets its contract: start by start, and the oracle stays opened.
 use Rattle.model.specs.Query.{time_word}
-use Rattle.words.specs.Frames.{KeptFrom}
 use Rattle.block.proofs.Fill.{no_rows}
 use Rattle.block.specs.Block.{block_by}
-use Rattle.model.specs.Contents.{node_body}
-use Rattle.model.specs.Network.{node_count}
 use Rattle.opened.proofs.OpenLaws.{opened_kept}
 use native.Mathlib.Omega.{arith}
 use lib.Seq.{take_all}
-use lib.ListN.{length, take}
 use mathlib.Core.List.{List}
-use mathlib.Core.Path.{◌≡◌, refl, ◌∙◌, ap}
-use Prim.Native.Nat.{ℕ, ◌-◌, ◌≤◌}
+use mathlib.Core.Path.{refl, ◌∙◌, ap}
+use Prim.Native.Nat.{ℕ}
 use borrow.Author.Rules.{rules}
-use Rattle.words.specs.Regions.{grid_at}
 use Rattle.block.proofs.rows.keys_between.Goals as goal
 
 pub loop-i-init : goal.loop-i-init
@@ -36,4 +31,4 @@ loop-i-preserved c = (
 pub returns : goal.returns
 returns c =
     let a = c.args in
-    record { keys = c.loop-i.invariant.1 ∙ ap (λ (c.loop-i : List ℕ). block_by (time_word a.o.now) c.loop-i a.ends.now) (take_all c.loop-i.i a.starts.now (omega arith)); others = c.loop-i.invariant.3 }
+    record { keys = c.loop-i.invariant.1 ∙ ap (λ (l : List ℕ). block_by (time_word a.o.now) l a.ends.now) (take_all c.loop-i.i a.starts.now (omega arith)); others = c.loop-i.invariant.3 }

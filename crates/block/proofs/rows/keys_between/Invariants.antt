@@ -1,18 +1,12 @@
 -- `rows::keys_between` meets its contract: start by start, and the oracle stays opened.
 use Rattle.model.specs.Query.{time_word}
 use Rattle.words.specs.Frames.{KeptFrom}
-use Rattle.block.proofs.Fill.{no_rows}
 use Rattle.block.specs.Block.{block_by}
 use Rattle.model.specs.Contents.{node_body}
 use Rattle.model.specs.Network.{node_count}
-use Rattle.opened.proofs.OpenLaws.{opened_kept}
-use native.Mathlib.Omega.{arith}
-use lib.Seq.{take_all}
 use lib.ListN.{length, take}
-use mathlib.Core.List.{List}
-use mathlib.Core.Path.{◌≡◌, refl, ◌∙◌, ap}
-use Prim.Native.Nat.{ℕ, ◌-◌, ◌≤◌}
-use borrow.Author.Rules.{rules}
+use mathlib.Core.Path.{◌≡◌}
+use Prim.Native.Nat.{◌-◌, ◌≤◌}
 use Rattle.words.specs.Regions.{grid_at}
 use Rattle.block.proofs.rows.keys_between.Given as goal
 

@@ -4,33 +4,32 @@ use Rattle.checks.proofs.NameLists.{named_there}
 use Rattle.block.proofs.Fill.{row_store, row_is, row_more, no_entries}
 use Rattle.block.specs.Block.{row_by}
 use native.Mathlib.Omega.{arith}
-use lib.ListN.{length, take, set}
+use lib.ListN.{set}
 use lib.Seq.{take_all}
 use mathlib.Core.List.{List}
-use mathlib.Core.Path.{◌≡◌, ◌∙◌, ap}
-use Prim.Native.Nat.{ℕ, ◌-◌, ◌≤◌}
+use mathlib.Core.Path.{◌∙◌, ap}
+use Prim.Native.Nat.{ℕ}
 use borrow.Author.Rules.{rules}
 use Rattle.block.proofs.rows.with_entries.Goals as goal
 
 pub loop-j-init : goal.loop-j-init
 loop-j-init c =
     let a = c.args in (
-  omega arith,
-  search rules,
-  row_is _ _ _
-      (c.requires.near_times.2 ∙ no_entries (time_word a.o.now) a.s),
-)
+      omega arith,
+      search rules,
+      row_is _ _ _
+          (c.requires.near_times.2 ∙ no_entries (time_word a.o.now) a.s),
+    )
 
 pub overflow_cast-ends : goal.overflow_cast-ends
-overflow_cast-ends c = omega (arith, c.shared_slice_known-in-loop-j-1.given c.loop-j.j)
+overflow_cast-ends c = omega arith
 
 pub entry_of-requires : goal.entry_of-requires
 entry_of-requires c = (c.requires.opened.0, c.requires.opened.1, named_there _ _ _ c.loop-j-test.true c.requires.opened.2, c.requires.near_times.0 _ c.loop-j-test.true)
 
 pub loop-j-preserved : goal.loop-j-preserved
 loop-j-preserved c =
-    let a = c.args in
-    (
+    let a = c.args in (
       omega arith,
       c.loop-j.invariant.1,
       rw (c.loop-j.invariant.2, c.entry_of.ensures)

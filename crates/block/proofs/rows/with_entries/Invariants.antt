@@ -1,15 +1,9 @@
 -- `rows::with_entries` meets its contract.
 use Rattle.model.specs.Query.{time_word}
-use Rattle.checks.proofs.NameLists.{named_there}
-use Rattle.block.proofs.Fill.{row_store, row_is, row_more, no_entries}
 use Rattle.block.specs.Block.{row_by}
-use native.Mathlib.Omega.{arith}
 use lib.ListN.{length, take, set}
-use lib.Seq.{take_all}
-use mathlib.Core.List.{List}
-use mathlib.Core.Path.{◌≡◌, ◌∙◌, ap}
-use Prim.Native.Nat.{ℕ, ◌-◌, ◌≤◌}
-use borrow.Author.Rules.{rules}
+use mathlib.Core.Path.{◌≡◌}
+use Prim.Native.Nat.{◌-◌, ◌≤◌}
 use Rattle.block.proofs.rows.with_entries.Given as goal
 
 abbrev pub invariant-loop-j : goal.invariant-loop-j
