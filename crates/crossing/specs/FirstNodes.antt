@@ -12,7 +12,7 @@ use Rattle.theory.specs.Transit.{filter_same}
 use Rattle.crossing.specs.Cells.{first_of_cell, first_found}
 use Rattle.theory.specs.Tests.{same_test}
 
-index_at : {A : Type 0} (d : A) {l : List A} {x : A} → Memᴰ x l → (i : ℕ) × (i < length l) × (get_or l i d ≡ x)
+index_at : {A : Type 0} (d : A) {x : A} {l : List A} → Memᴰ x l → (i : ℕ) × (i < length l) × (get_or l i d ≡ x)
 index_at d (Memᴰ.head e) = (0, omega arith, sym e)
 index_at d (Memᴰ.tail m) = let (i, h, e) = index_at d m in (suc i, omega arith, e)
 

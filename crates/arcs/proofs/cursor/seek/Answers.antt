@@ -16,26 +16,26 @@ within_block-s-requires c = c.loop-s.invariant.seeking
 
 pub returns-then-s : goal.returns-then-s
 returns-then-s c =
-    let t = onward_then _ _ _ _ _ _ _ c.loop-s.invariant c.Within-block.ensures in
+    let t = onward_then _ _ _ _ _ _ _ c.loop-s.invariant c.within_block-s.ensures in
     sought_found _ _ _ _ c.requires.at_value.3 _ _ t c.if-s.true
 
 pub returns-then-s-n : goal.returns-then-s-n
 unfolding edge_count
 returns-then-s-n c =
-    let t = onward_then _ _ _ _ _ _ _ c.loop-s.invariant c.Within-block.ensures in
+    let t = onward_then _ _ _ _ _ _ _ c.loop-s.invariant c.within_block-s.ensures in
     sought_none _ _ _ _ c.requires.at_value.3 _ _ t c.if-s.false
     c.if-s-n.true
 
 pub block_at-b-requires : goal.block_at-b-requires
 block_at-b-requires c =
-    let s = c.Within-block.ensures.seeking in
+    let s = c.within_block-s.ensures.seeking in
     (c.requires.at_value.0, c.requires.at_value.1, c.requires.at_value.2, link_inside _ _ _ _ c.requires.indexed_edges c.requires.at_value.3 _ s c.if-s-n.false, size_small _ _ _ _ c.requires.indexed_edges c.requires.at_value.3 _ s)
 
 pub loop-s-smaller : goal.loop-s-smaller
 unfolding edge_count
 loop-s-smaller c =
     let a = c.args in
-    let t = c.Within-block.ensures in
+    let t = c.within_block-s.ensures in
     omega (
       arith,
       ap (rank a.edges.now) (c.block_at-b.ensures ∙ same_block a.edges.now a.n a.work.now a.u c.requires.indexed_edges c.requires.at_value.3 _ t.seeking _),
@@ -47,7 +47,7 @@ pub loop-s-preserved : goal.loop-s-preserved
 unfolding edge_count
 loop-s-preserved c =
     let a = c.args in
-    let t = onward_then _ _ _ _ _ _ _ c.loop-s.invariant c.Within-block.ensures in
+    let t = onward_then _ _ _ _ _ _ _ c.loop-s.invariant c.within_block-s.ensures in
     let is = c.block_at-b.ensures ∙ same_block a.edges.now a.n a.work.now a.u c.requires.indexed_edges c.requires.at_value.3 _ t.seeking _ in
     subst (λ (z : Cursor). Onward a.edges.now a.n a.work.now a.u a.c z) (sym is)
     (block_on a.edges.now a.n a.work.now a.u c.requires.indexed_edges c.requires.at_value.3 _ t.seeking c.if-s.false c.if-s-n.false _ t).0

@@ -10,4 +10,4 @@ pub returns-then-lines-eq0 : goal.returns-then-lines-eq0
 returns-then-lines-eq0 c = rw (no_bytes c.args.lines.now c.if-lines-eq0.true) c.next_arc.ensures
 
 pub returns : goal.returns
-returns c = c.left_After.ensures
+returns c = c.left_after.ensures

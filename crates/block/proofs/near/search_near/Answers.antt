@@ -22,8 +22,10 @@ returns-then-left-eq0 c =
     let a = c.args in
     let n = node_count (node_body a.o.now) in
     let back = store_kept n a.s 0 _ c.requires.2 (grid_at n) (omega arith) ∙ c.want_near-left.ensures.others in
-    let all = rw (c.store_time.ensures, c.node_count.ensures)
-    (itself_times _ _ _ _ _ c.want_near-left.ensures.wants c.requires.3 c.if-left-eq0.true c.requires.0.shape c.requires.2 (omega (arith, c.requires.0.room)), back) in record { times = all.0; others = all.1 }
+    record {
+      times = rw (c.store_time.ensures, c.node_count.ensures) (itself_times _ _ _ _ _ c.want_near-left.ensures.wants c.requires.3 c.if-left-eq0.true c.requires.0.shape c.requires.2 (omega (arith, c.requires.0.room)));
+      others = rw (c.store_time.ensures, c.node_count.ensures) back;
+    }
 
 pub search_until-requires : goal.search_until-requires
 search_until-requires c = record { opened = (opened_kept _ _ _ c.requires.0 (search rules) c.want_near-left.ensures.others, c.requires.2, want_two _ _ _ _ _ c.want_near-left.ensures.wants c.if-left-eq0.false); o_bound = want_lacking _ _ _ _ _ c.want_near-left.ensures.wants }

@@ -4,5 +4,8 @@ use borrow.Author.Rules.{rules}
 use Rattle.contents.proofs.Bodies.{in_file, its_part}
 use Rattle.contents.proofs.Contents.body.Goals as goal
 
+pub slice_bounds-result-end : goal.slice_bounds-result-end
+slice_bounds-result-end c = omega (arith, in_file _ _ _ c.requires)
+
 pub returns : goal.returns
 returns c = its_part _ _ _ c.requires

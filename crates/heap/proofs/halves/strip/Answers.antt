@@ -9,8 +9,9 @@ use lib.Seq.{take-length, drop-length}
 use Rattle.heap.specs.Words.{low}
 use Rattle.heap.proofs.FillLaws.{change_more}
 use Rattle.heap.proofs.halves.strip.Goals as goal
+use Rattle.heap.proofs.halves.strip.Goals.{In-loop-i}
 
-again : (c : goal.In-loop-i) → set c.loop-i.s c.loop-i.i (low (get_or c.loop-i.s c.loop-i.i 0))
+again : (c : In-loop-i) → set c.loop-i.s c.loop-i.i (low (get_or c.loop-i.s c.loop-i.i 0))
     ≡ map low (take (c.loop-i.i + 1) c.args.s.now) ++ drop (c.loop-i.i + 1) c.args.s.now
 again c =
     let h : c.loop-i.i < length c.args.s.now = omega arith in
@@ -18,7 +19,7 @@ again c =
 
 pub loop-i-preserved : goal.loop-i-preserved
 unfolding low
-loop-i-preserved c = (search rules, search rules, simp length-set (omega arith), again c)
+loop-i-preserved c = (search rules, search rules, simp length-set (omega arith), again (goal.at.loop-i-preserved c).In-loop-i)
 
 pub returns : goal.returns
 returns c =

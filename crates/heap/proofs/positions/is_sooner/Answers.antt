@@ -4,4 +4,4 @@ use mathlib.Core.Path.{◌∙◌}
 use Rattle.heap.proofs.positions.is_sooner.Goals as goal
 
 pub returns : goal.returns
-returns c = rw (c.Node-at.ensures.0, c.node_at-v.ensures.0) at c.is_less.ensures
+returns c = rw (c.node_at-u.ensures.0, c.node_at-v.ensures.0) at c.is_less.ensures

@@ -7,7 +7,7 @@ pub returns : goal.returns
 returns c =
     let a = c.args in
     swap_read a.n a.i a.j a.w.now _ _
-    c.Node-at.ensures.0
+    c.node_at-a.ensures.0
     c.node_at-b.ensures.0
     _ _ _ _ c.put_node.ensures
     c.put_node-2.ensures

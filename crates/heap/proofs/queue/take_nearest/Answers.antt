@@ -26,4 +26,4 @@ returns c =
     take_done a.n a.k a.e a.w.now c.requires.0 c.requires.1 _
     c.swap.ensures _
     c.swap-2.ensures _ c.down.ensures _
-    c.Node-at.ensures.0
+    c.node_at-u.ensures.0

@@ -12,4 +12,4 @@ pub block_of-requires : goal.block_of-requires
 block_of-requires c = c.requires c.if-h-n.false
 
 pub returns : goal.returns
-returns c = λ e. (search rules, omega (arith, c.Block-of.ensures.0, eqb-true c.Block-of.result c.args.q e))
+returns c = λ e. (search rules, omega (arith, c.block_of.ensures.0, eqb-true c.block_of.result c.args.q e))

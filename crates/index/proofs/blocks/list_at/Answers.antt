@@ -18,6 +18,6 @@ returns c =
     let a = c.args in
     now_listed a.ix.now a.n a.k a.x a.q _
     c.next_of-h.ensures.0 _ _ _
-    c.Block-of.ensures.0
+    c.block_of-s.ensures.0
     c.put_link.ensures c.put_link-2.ensures (search rules) (search rules)
     (search rules) (search rules) c.requires.growing

@@ -17,4 +17,4 @@ pub returns : goal.returns
 returns c =
     let a = c.args in
     let two = of_two a.n a.work.now c.requires.2 a.p c.requires.3 in
-    read_there a.n a.work.now c.requires.2 a.p c.requires.3 _ _ _ (c.requires.0 ∙ omega (arith, two)) c.Block-of.ensures c.next_of.ensures.0
+    read_there a.n a.work.now c.requires.2 a.p c.requires.3 _ _ _ (c.requires.0 ∙ omega (arith, two)) c.block_of.ensures c.next_of.ensures.0

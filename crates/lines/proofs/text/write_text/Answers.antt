@@ -7,6 +7,9 @@ use Rattle.lines.proofs.text.write_text.Goals as goal
 pub overflow_add-end : goal.overflow_add-end
 overflow_add-end c = omega (arith, c.requires.fits)
 
+pub slice_bounds-copy-end : goal.slice_bounds-copy-end
+slice_bounds-copy-end c = omega (arith, c.requires.fits)
+
 pub returns : goal.returns
 returns c =
     let a = c.args in

@@ -11,7 +11,8 @@ returns c =
     let zs = c.fill.new.s in
     let size = c.blank.auto.work ∙ c.requires.2 in
     let r = rw c.queue_words-m.ensures at c.fill.ensures in
-    let all = rw c.queue_words-m.ensures (
-      clear_holds n c.requires.0 c.blank.new.work ys zs size c.blank.ensures c.number.ensures r c.requires.1,
-      (clear_times n c.requires.0 c.blank.new.work ys zs size c.blank.ensures c.number.ensures, clear_settled n c.requires.0 c.blank.new.work ys zs size c.blank.ensures c.number.ensures r),
-    ) in record { holds = all.0; times = all.1.0; settled = all.1.1 }
+    record {
+      holds = rw c.queue_words-m.ensures (clear_holds n c.requires.0 c.blank.new.work ys zs size c.blank.ensures c.number.ensures r c.requires.1);
+      times = rw c.queue_words-m.ensures (clear_times n c.requires.0 c.blank.new.work ys zs size c.blank.ensures c.number.ensures);
+      settled = rw c.queue_words-m.ensures (clear_settled n c.requires.0 c.blank.new.work ys zs size c.blank.ensures c.number.ensures r);
+    }

@@ -74,7 +74,7 @@ returns c =
     c.edge_second.ensures.0
     c.other_end-v.ensures
     c.cost_left-cost.ensures
-    c.if-cost-eq-NO_WALK.false in let all = rw c.search_words-front.ensures (
-      offered a.n a.e a.u a.d a.work.now a.k c.requires.holds.0 _ _ _ x c.offer_in.new.work _ l k (rw c.search_words-front.ensures at c.offer_in.ensures),
-      front_others a.work.now c.offer_in.new.work (search_words a.n) l k,
-    ) in record { relaxed = all.0; others = all.1 }
+    c.if-cost-eq-NO_WALK.false in record {
+      relaxed = rw c.search_words-front.ensures (offered a.n a.e a.u a.d a.work.now a.k c.requires.holds.0 _ _ _ x c.offer_in.new.work _ l k (rw c.search_words-front.ensures at c.offer_in.ensures));
+      others = rw c.search_words-front.ensures (front_others a.work.now c.offer_in.new.work (search_words a.n) l k);
+    }

@@ -22,4 +22,9 @@ returns c =
     let a = c.args in
     let x = begun a.n a.work.now c.reset.new.work (search rules) (rw c.search_words-m.ensures at c.reset.auto.work) _ _ c.reset.ensures.holds c.reset.ensures.times
     c.reset.ensures.settled in
-    let all = rw c.search_words-m.ensures (x.0, (x.1, (x.2, x.3))) in record { holds = all.0; times = all.1.0; settled = all.1.1.0; others = all.1.1.1 }
+    record {
+      holds = rw c.search_words-m.ensures x.0;
+      times = rw c.search_words-m.ensures x.1;
+      settled = rw c.search_words-m.ensures x.2;
+      others = rw c.search_words-m.ensures x.3;
+    }

@@ -20,4 +20,4 @@ returns c =
     let a = c.args in
     let x = finished a.n a.work.now c.plain_order.new.work (search rules) (rw c.search_words-m.ensures at c.plain_order.auto.work)
     a.e _ _ (rw c.search_words-m.ensures at c.plain_order.ensures.times) (rw c.search_words-m.ensures at c.plain_order.ensures.order) in
-    let all = rw c.search_words-m.ensures (x.0, (x.1, x.2)) in record { times = all.0; order = all.1.0; others = all.1.1 }
+    record { times = rw c.search_words-m.ensures x.0; order = rw c.search_words-m.ensures x.1; others = rw c.search_words-m.ensures x.2 }

@@ -25,7 +25,7 @@ pub loop-k-preserved : goal.loop-k-preserved
 loop-k-preserved c =
     let a = c.args in
     let step = from_step a.lines.now a.i a.end c.loop-k.k (effect_in c.loop-k.x) c.loop-k-test.true in
-    (omega (arith, c.loop-k.invariant.0), ap (from a.lines.now a.i a.end (c.loop-k.k + 1)) c.after_Line.ensures ∙ (sym step ∙ c.loop-k.invariant.1))
+    (omega (arith, c.loop-k.invariant.0), ap (from a.lines.now a.i a.end (c.loop-k.k + 1)) c.after_line-x.ensures ∙ (sym step ∙ c.loop-k.invariant.1))
 
 pub returns : goal.returns
 returns c =

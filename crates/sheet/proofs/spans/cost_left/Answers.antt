@@ -14,18 +14,18 @@ edge_key-cost-requires c = omega (arith, c.requires.i_bound)
 pub returns-then-x-eq0 : goal.returns-then-x-eq0
 returns-then-x-eq0 c =
     let a = c.args in
-    let Span-of = c.Span-of in
-    let all = spanned_in a.lines.now (spans_in a.n a.work.now) Span-of.result a.i
-    c.requires.le_n.3 Span-of.ensures in
+    let span_of = c.span_of-x in
+    let all = spanned_in a.lines.now (spans_in a.n a.work.now) span_of.result a.i
+    c.requires.le_n.3 span_of.ensures in
     as_was (holds (lines_in a.lines.now) a.i) _ (edge a.edges.now a.i)
-    (nothing_held a.lines.now Span-of.result a.i c.if-x-eq0.true all) c.edge_key-cost.ensures.0
+    (nothing_held a.lines.now span_of.result a.i c.if-x-eq0.true all) c.edge_key-cost.ensures.0
 
 pub effect_in-added-requires : goal.effect_in-added-requires
 effect_in-added-requires c =
     let a = c.args in
-    let Span-of = c.Span-of in
-    spanned_in a.lines.now (spans_in a.n a.work.now) Span-of.result a.i
-    c.requires.le_n.3 Span-of.ensures
+    let span_of = c.span_of-x in
+    spanned_in a.lines.now (spans_in a.n a.work.now) span_of.result a.i
+    c.requires.le_n.3 span_of.ensures
 
 pub returns-then-added-ge-SHUT : goal.returns-then-added-ge-SHUT
 returns-then-added-ge-SHUT c = by_shut _ _ _ c.effect_in-added.ensures c.if-added-ge-SHUT.true

@@ -13,6 +13,10 @@ pub line_edge-requires : goal.line_edge-requires
 unfolding line_count
 line_edge-requires c = omega (arith, c.requires.1)
 
+pub nonzero_div-k : goal.nonzero_div-k
+unfolding block_lines
+nonzero_div-k c = omega (arith, c.requires.0)
+
 pub offset_bounds-spans-j : goal.offset_bounds-spans-j
 offset_bounds-spans-j c =
     let a = c.args in

@@ -12,6 +12,9 @@ overflow_add-e c = omega (arith, c.requires.1, spans_room _ c.requires.0 _ _ c.s
 pub offset_bounds-work-a : goal.offset_bounds-work-a
 offset_bounds-work-a c = omega (arith, c.requires.1, spans_room _ c.requires.0 _ _ c.spans_at-a.ensures c.span_count.ensures.0)
 
+pub slice_bounds-note_all-end : goal.slice_bounds-note_all-end
+slice_bounds-note_all-end c = omega (arith, c.requires.2, spans_room _ c.requires.0 _ _ c.spans_at-a.ensures c.span_count.ensures.0)
+
 pub returns : goal.returns
 returns c =
     let a = c.args in

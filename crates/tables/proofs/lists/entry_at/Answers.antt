@@ -7,21 +7,17 @@ use Rattle.model.specs.Oracle.{entry_size, access_at}
 use Rattle.tables.specs.Entries.{entry_within}
 use Rattle.tables.proofs.lists.entry_at.Goals as goal
 
--- The entry stands in the body.
-within : (c : goal.Start) → access_at c.args.access.now c.args.u c.args.i + entry_size ≤ length c.args.access.now
-within c = entry_within _ _ _ c.requires.0.1 _ c.requires.1
-
 pub overflow_add-result : goal.overflow_add-result
 unfolding access_at
-overflow_add-result c = omega (arith, within c)
+overflow_add-result c = omega (arith, entry_within _ _ _ c.requires.0.1 _ c.requires.1)
 
 pub overflow_mul-result : goal.overflow_mul-result
 unfolding access_at
-overflow_mul-result c = omega (arith, within c)
+overflow_mul-result c = omega (arith, entry_within _ _ _ c.requires.0.1 _ c.requires.1)
 
 pub overflow_add-result-2 : goal.overflow_add-result-2
 unfolding access_at
-overflow_add-result-2 c = omega (arith, within c)
+overflow_add-result-2 c = omega (arith, entry_within _ _ _ c.requires.0.1 _ c.requires.1)
 
 pub returns : goal.returns
 unfolding access_at

@@ -8,6 +8,9 @@ use Rattle.tables.proofs.lists.list_part.Goals as goal
 pub overflow_add-end : goal.overflow_add-end
 overflow_add-end c = omega (arith, list_within _ _ _ c.requires.1)
 
+pub slice_bounds-result-end : goal.slice_bounds-result-end
+slice_bounds-result-end c = omega (arith, list_within _ _ _ c.requires.1)
+
 pub returns : goal.returns
 returns c = part_between _ _ _ _ c.list_start-start.ensures
     (omega (arith, c.list_count.ensures.0, c.list_size.ensures))

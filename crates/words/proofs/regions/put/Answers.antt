@@ -7,5 +7,7 @@ pub returns : goal.returns
 returns c =
     let a = c.args in
     let w = a.work.now in
-    let all = rw (c.insert_at.ensures, c.region_at.ensures)
-    (inserted a.n a.k a.v w c.requires.0 c.requires.1, inserted_only a.n a.k a.v w c.requires.0) in record { members = all.0; others = all.1 }
+    record {
+      members = rw (c.insert_at.ensures, c.region_at.ensures) (inserted a.n a.k a.v w c.requires.0 c.requires.1);
+      others = rw (c.insert_at.ensures, c.region_at.ensures) (inserted_only a.n a.k a.v w c.requires.0);
+    }

@@ -21,4 +21,4 @@ returns c =
     let a = c.args in
     let known : (i : ℕ) → get_or a.work.now i 0 < 4294967296 = λ i. omega (arith, c.shared_slice_known-2-1.given i) in
     let e = lowers_hops a.n a.work.now known a.v a.x c.if-a-b.false in
-    let all = rw c.half_of.ensures.0 (e, lowers_small a.n a.work.now known a.v a.x _ e) in record { less = all.0; small = all.1 }
+    record { less = rw c.half_of.ensures.0 e; small = rw c.half_of.ensures.0 (lowers_small a.n a.work.now known a.v a.x _ e) }
