@@ -89,7 +89,7 @@ fn check_before(shown: &str, what: &str) {
 /// A repository with a toolchain that proves nothing, slowly.
 fn repository(name: &str, rt: &str) -> Folder {
     let f = Folder::new(name);
-    for folder in ["crates/model", "host", "bin"] {
+    for folder in ["crates/model", "crates/capi_c", "crates/opened_capi_c", "host", "bin"] {
         std::fs::create_dir_all(f.0.join(folder)).unwrap();
     }
     f.write("crates/model/source", b"");
@@ -115,19 +115,19 @@ fn build(f: &Folder, path: &Path) -> (std::process::Output, String) {
 
 #[test]
 fn the_first_build_shows_the_crate_that_it_proves() {
-    let rt = "PATH=/usr/bin:/bin; mkdir -p target/log target/staticlib
-        for name in model theory; do [ -e target/log/$name.say ] || { : > target/log/$name.say; sleep 0.4; echo proved >> target/log/$name.say; sleep 0.4; }; done
-        : > target/log/$2.say; echo $* > target/staticlib/lib$2.a";
+    let rt = "PATH=/usr/bin:/bin; this=$(basename $PWD); mkdir -p out ../../proved
+        for name in model theory $this; do [ -e ../../proved/$name ] || { echo \"rt: chose --jobs 2 for $name\"; sleep 0.4; : > ../../proved/$name; sleep 0.4; }; done
+        echo $* > out/lib$this.a";
     let f = repository("terminal_first_build", rt);
     let (done, shown) = build(&f, &f.0.join("bin"));
     assert!(done.status.success(), "{}", String::from_utf8_lossy(&done.stderr));
     for library in ["capi", "opened_capi"] {
-        assert_eq!(f.read(&format!("target/staticlib/lib{library}.a")), format!("staticlib {library}\n").as_bytes());
+        assert_eq!(f.read(&format!("target/staticlib/lib{library}.a")), b"lib\n");
     }
     let lines: Vec<&str> = shown.split_inclusive('\n').collect();
     let line = |what: &str| format!("\r\x1b[K     Proving {what}\r\n");
-    let first = ["the core (`rt staticlib capi`; some minutes the first time)", "model", "theory", "capi"];
-    let second = ["the core (`rt staticlib opened_capi`; some minutes the first time)", "opened_capi"];
+    let first = ["the core (`rt lib` in crates/capi_c; some minutes the first time)", "model", "theory", "capi_c"];
+    let second = ["the core (`rt lib` in crates/opened_capi_c; some minutes the first time)", "opened_capi_c"];
     assert_eq!(lines, [&first[..], &second[..]].concat().into_iter().map(line).collect::<Vec<_>>());
     // What is made already is not made again, and nothing is shown.
     let (done, shown) = build(&f, &f.0.join("bin"));
@@ -139,7 +139,7 @@ fn the_first_build_shows_the_crate_that_it_proves() {
 fn a_first_build_that_fails() {
     let f = repository("terminal_no_build", "exit 3");
     let (done, _) = build(&f, &f.0.join("bin"));
-    assert!(!done.status.success() && String::from_utf8_lossy(&done.stderr).contains("`rt staticlib capi` ended with exit status: 3"));
+    assert!(!done.status.success() && String::from_utf8_lossy(&done.stderr).contains("`rt lib` in crates/capi_c ended with exit status: 3"));
     let (done, shown) = build(&f, &f.0.join("host"));
     let text = String::from_utf8_lossy(&done.stderr);
     assert!(!done.status.success() && text.contains("`rt` comes with the Rattle toolchain, and has to be on the PATH"), "{text}");

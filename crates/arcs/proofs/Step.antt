@@ -24,6 +24,7 @@ use Rattle.arcs.specs.Seeking.{ending, AtEntry, From, Seeking, FoundFrom}
 
 -- ---- members of a list with one more
 mem_left : {x : ℕ} (xs ys : List ℕ) → Memᴰ x xs → Memᴰ x (xs ++ ys)
+mem_left [] ys m = absurd (Memᴰ.not-nil m)
 mem_left (y ∷ xs) ys (Memᴰ.head e) = Memᴰ.head e
 mem_left (y ∷ xs) ys (Memᴰ.tail m) = Memᴰ.tail (mem_left xs ys m)
 

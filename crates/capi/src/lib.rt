@@ -1,4 +1,4 @@
-// The C interface: the entry points as functions that other languages link, none of which requires anything. A slice crosses as a pointer and a length.
+// The C interface: the entry points in types that cross to other languages, none of which requires anything. `capi_c` exports each under its name.
 #![tactic(auto)]
 
 pub mod building;

@@ -80,23 +80,20 @@ pub fn reply_of(a: Answer) -> Reply
     }
 }
 
-#[unsafe(no_mangle)]
-pub extern "C" fn jukesogbi_time(o: &[u8], s: u32, t: u32, work: &mut [u32]) -> Reply
+pub fn jukesogbi_time(o: &[u8], s: u32, t: u32, work: &mut [u32]) -> Reply
     ensures result { result ≡ reply (time_result o.now s t work.old) }
     ensures words { work.new ≡ work_after (time_refusal o.now s t work.old) o.now work.old }
 {
     reply_of(calls::time(o, s, t, work))
 }
 
-#[unsafe(no_mangle)]
-pub extern "C" fn jukesogbi_far(o: &[u8], s: u32, t: u32) -> Reply
+pub fn jukesogbi_far(o: &[u8], s: u32, t: u32) -> Reply
     ensures { result ≡ reply (far_result o.now s t) }
 {
     reply_of(calls::far(o, s, t))
 }
 
-#[unsafe(no_mangle)]
-pub extern "C" fn jukesogbi_list_rule(o: &[u8], u: u32) -> u32
+pub fn jukesogbi_list_rule(o: &[u8], u: u32) -> u32
     ensures { result ≡ list_refusal o.now u }
 {
     calls::list_rule(o, u)
@@ -114,8 +111,7 @@ fn list_span(o: &[u8], u: usize) -> Part
 }
 
 // The access list of u as a part of the oracle, its count included; empty, at 0, where it is refused.
-#[unsafe(no_mangle)]
-pub extern "C" fn jukesogbi_list(o: &[u8], u: u32) -> Part
+pub fn jukesogbi_list(o: &[u8], u: u32) -> Part
     ensures { result ≡ list_reply (list_refusal o.now u) o.now u }
 {
     if calls::list_rule(o, u) != 0 {
@@ -124,22 +120,19 @@ pub extern "C" fn jukesogbi_list(o: &[u8], u: u32) -> Part
     list_span(o, u as usize)
 }
 
-#[unsafe(no_mangle)]
-pub extern "C" fn jukesogbi_way(o: &[u8], s: u32, t: u32, work: &mut [u32], out: &mut [u8]) -> Route
+pub fn jukesogbi_way(o: &[u8], s: u32, t: u32, work: &mut [u32], out: &mut [u8]) -> Route
     ensures { WayCall o.now s t work.old out.old result work.new out.new }
 {
     calls::way(o, s, t, work, out)
 }
 
-#[unsafe(no_mangle)]
-pub extern "C" fn jukesogbi_block(o: &[u8], starts: &[u32], ends: &[u32], work: &mut [u32]) -> Block
+pub fn jukesogbi_block(o: &[u8], starts: &[u32], ends: &[u32], work: &mut [u32]) -> Block
     ensures { BlockCall o.now starts.now ends.now work.old result work.new }
 {
     blocks::block(o, starts, ends, work)
 }
 
-#[unsafe(no_mangle)]
-pub extern "C" fn jukesogbi_wages(o: &[u8], legs: &[u8], work: &mut [u32], out: &mut [u8]) -> Output
+pub fn jukesogbi_wages(o: &[u8], legs: &[u8], work: &mut [u32], out: &mut [u8]) -> Output
     ensures { WagesCall o.now legs.now work.old out.old result work.new out.new }
 {
     wages(o, legs, work, out)

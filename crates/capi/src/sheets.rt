@@ -8,14 +8,7 @@ use crate::oracles::{Reply, reply_of};
 use model::Route;
 use under::calls;
 
-#[unsafe(no_mangle)]
-pub extern "C" fn jukesogbi_time_under(
-    o: &[u8],
-    sheet: &[u8],
-    s: u32,
-    t: u32,
-    work: &mut [u32],
-) -> Reply
+pub fn jukesogbi_time_under(o: &[u8], sheet: &[u8], s: u32, t: u32, work: &mut [u32]) -> Reply
     ensures result { result ≡ reply (time_under_result o.now sheet.now s t work.old) }
     ensures words { work.new ≡ work_after (time_under_refusal o.now sheet.now s t work.old) o.now
         work.old }
@@ -23,8 +16,7 @@ pub extern "C" fn jukesogbi_time_under(
     reply_of(calls::time_under(o, sheet, s, t, work))
 }
 
-#[unsafe(no_mangle)]
-pub extern "C" fn jukesogbi_way_under(
+pub fn jukesogbi_way_under(
     o: &[u8],
     sheet: &[u8],
     s: u32,

@@ -1,6 +1,7 @@
 // The questions over an opened oracle, for the host's `Oracle` alone: one check, many answers. They are no entry points and stand in no header. Each
 // requires `Opened`: the oracle and the first 8 N words are as `jukesogbi_open` or the last question left them. Nothing checks that across the interface. It is
-// the duty of host/src/oracle.rs, which keeps bytes and words to itself. For C there are the calls of `capi`, which require nothing.
+// the duty of host/src/oracle.rs, which keeps bytes and words to itself. For C there are the calls of `capi`, which require nothing. `opened_capi_c` exports
+// each under its name.
 #![tactic(auto)]
 
 ghost use Rattle.std.specs.Prelude.{◌≡◌, drop};
@@ -26,15 +27,13 @@ use under::questions as sheets;
 use wages::questions::wages;
 
 // Checks an oracle and opens it: 0, or the number of the broken rule, where nothing is written.
-#[unsafe(no_mangle)]
-pub extern "C" fn jukesogbi_open(o: &[u8], work: &mut [u32]) -> u32
+pub fn jukesogbi_open(o: &[u8], work: &mut [u32]) -> u32
     ensures { OpenCall o.now work.old result work.new }
 {
     questions::open(o, work)
 }
 
-#[unsafe(no_mangle)]
-pub extern "C" fn jukesogbi_opened_time(o: &[u8], s: u32, t: u32, work: &mut [u32]) -> Reply
+pub fn jukesogbi_opened_time(o: &[u8], s: u32, t: u32, work: &mut [u32]) -> Reply
     requires { Opened o.now work.old }
     ensures result { result ≡ reply (time_result o.now s t work.old) }
     ensures opened { Opened o.now work.new }
@@ -43,22 +42,14 @@ pub extern "C" fn jukesogbi_opened_time(o: &[u8], s: u32, t: u32, work: &mut [u3
     reply_of(questions::time(o, s, t, work))
 }
 
-#[unsafe(no_mangle)]
-pub extern "C" fn jukesogbi_opened_far(o: &[u8], s: u32, t: u32, work: &[u32]) -> Reply
+pub fn jukesogbi_opened_far(o: &[u8], s: u32, t: u32, work: &[u32]) -> Reply
     requires { Opened o.now work.now }
     ensures { result ≡ reply (far_result o.now s t) }
 {
     reply_of(questions::far(o, s, t, work))
 }
 
-#[unsafe(no_mangle)]
-pub extern "C" fn jukesogbi_opened_way(
-    o: &[u8],
-    s: u32,
-    t: u32,
-    work: &mut [u32],
-    out: &mut [u8],
-) -> Route
+pub fn jukesogbi_opened_way(o: &[u8], s: u32, t: u32, work: &mut [u32], out: &mut [u8]) -> Route
     requires { Opened o.now work.old }
     ensures result { result ≡ route_after (way_refusal o.now s t work.old out.old) (way (network o.now) s t) }
     ensures bytes { out.new ≡ output_after (way_refusal o.now s t work.old out.old)
@@ -69,13 +60,7 @@ pub extern "C" fn jukesogbi_opened_way(
     questions::way(o, s, t, work, out)
 }
 
-#[unsafe(no_mangle)]
-pub extern "C" fn jukesogbi_opened_block(
-    o: &[u8],
-    starts: &[u32],
-    ends: &[u32],
-    work: &mut [u32],
-) -> Block
+pub fn jukesogbi_opened_block(o: &[u8], starts: &[u32], ends: &[u32], work: &mut [u32]) -> Block
     requires { Opened o.now work.old }
     ensures result { result ≡ block_after (block_refusal o.now starts.now ends.now work.old)
         o.now starts.now ends.now }
@@ -85,13 +70,7 @@ pub extern "C" fn jukesogbi_opened_block(
     blocks::block(o, starts, ends, work)
 }
 
-#[unsafe(no_mangle)]
-pub extern "C" fn jukesogbi_opened_wages(
-    o: &[u8],
-    legs: &[u8],
-    work: &mut [u32],
-    out: &mut [u8],
-) -> Output
+pub fn jukesogbi_opened_wages(o: &[u8], legs: &[u8], work: &mut [u32], out: &mut [u8]) -> Output
     requires { Opened o.now work.old }
     ensures result { result ≡ size_after (wages_refusal o.now legs.now work.old out.old)
         (wages_bytes o.now legs.now) }
@@ -102,8 +81,7 @@ pub extern "C" fn jukesogbi_opened_wages(
     wages(o, legs, work, out)
 }
 
-#[unsafe(no_mangle)]
-pub extern "C" fn jukesogbi_opened_time_under(
+pub fn jukesogbi_opened_time_under(
     o: &[u8],
     sheet: &[u8],
     s: u32,
@@ -117,8 +95,7 @@ pub extern "C" fn jukesogbi_opened_time_under(
     reply_of(sheets::time_under(o, sheet, s, t, work))
 }
 
-#[unsafe(no_mangle)]
-pub extern "C" fn jukesogbi_opened_way_under(
+pub fn jukesogbi_opened_way_under(
     o: &[u8],
     sheet: &[u8],
     s: u32,

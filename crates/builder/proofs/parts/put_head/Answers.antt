@@ -14,7 +14,7 @@ slice_bounds-write_head-end-3 c = sym (length-take-le oracle_head c.args.out.now
 pub write_head-requires : goal.write_head-requires
 write_head-requires c =
     let a = c.args in
-    let seven : length a.t1 ≡ oracle_entries = search rules in
+    let seven : length a.sizes ≡ oracle_entries = search rules in
     let front : length (take oracle_head a.out.now) ≡ entry_at oracle_entries =
     unfold entry_at in length-take-le oracle_head a.out.now (search rules) in
     rw seven (omega arith, omega arith, c.requires.0, front)

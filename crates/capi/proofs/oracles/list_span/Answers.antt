@@ -21,10 +21,10 @@ read32-requires c = omega (arith, c.entry_at.ensures, long _ (all_shaped _ c.req
 
 pub list_start-requires : goal.list_start-requires
 list_start-requires c = rw c.oracle_body-access.ensures (
-      _,
-      has_list _ (all_shaped _ c.requires.0) _
-          c.requires.1,
-    )
+  _,
+  has_list _ (all_shaped _ c.requires.0) _
+      c.requires.1,
+)
 
 pub overflow_add-start : goal.overflow_add-start
 overflow_add-start c = omega (

@@ -11,5 +11,4 @@ returns-then-lines-eq0 c = record { relaxed = rw (no_bytes c.args.lines.now c.if
       c.relax_plain.ensures.relaxed; others = c.relax_plain.ensures.others }
 
 pub returns : goal.returns
-returns c =
-    let all = c.relax_under.ensures in record { relaxed = all.0; others = all.1 }
+returns c = record { relaxed = c.relax_under.ensures.relaxed; others = c.relax_under.ensures.others }

@@ -13,6 +13,7 @@ use Rattle.arcs.proofs.Kept.{edges_kept}
 use Rattle.search.proofs.Turns.{standing_first, first}
 use Rattle.words.specs.Regions.{front_in, want_in, search_words}
 use Rattle.search.proofs.wanted.search_wanted_under.Goals as goal
+use Rattle.search.proofs.wanted.search_wanted_under.Goals.{then-loop-k-test+else-lacking-gt0, else-loop-k-test}
 
 pub loop-k-init : goal.loop-k-init
 loop-k-init c =
@@ -51,7 +52,7 @@ left_then-lacking-requires c =
     (
       c.requires.n_le_max_nodes.0,
       omega (arith, h.held, h.room, c.loop-k-test.true),
-      ltb-true 0 c.loop-k.lacking c.if-lacking-gt0.true,
+      c.if-lacking-gt0.true,
       search rules,
       node_inside _ a.n a.s c.requires.n_le_max_nodes.0 c.requires.n_le_max_nodes.1 (arcs_bounded _ _ _ _ c.requires.edges_under) c.loop-k.k c.loop-k.e _ _ _ _ c.loop-k-test.true (c.round-k.ensures.others ∙ c.loop-k.invariant.1)
           c.loop-k.invariant.2 _ c.round-k.ensures.round,
@@ -81,5 +82,4 @@ pub returns : goal.returns
 returns c =
     let a = c.args in
     let b = c.begin-k.ensures.others in record { found = stop_wanted _ a.n a.s c.requires.n_le_max_nodes.0 c.requires.n_le_max_nodes.1 (arcs_bounded _ _ _ _ c.requires.edges_under) c.loop-k.k c.loop-k.e _ a.work.now _ b _ c.loop-k.invariant.2
-          (⊎_elim (λ z. inr (omega (arith, ltb-false 0 c.loop-k.lacking z.1.left))) (λ z. inl (omega (arith, z.left)))
-          c.loop-k-test.branch) _ c.finish.ensures.times c.finish.ensures.order; others = c.finish.ensures.others ∙ (c.loop-k.invariant.1 ∙ b) }
+          (elim c.loop-k-test.branch [ then-loop-k-test+else-lacking-gt0 w ↦ inr (omega arith) | else-loop-k-test w ↦ inl (omega arith) ]) _ c.finish.ensures.times c.finish.ensures.order; others = c.finish.ensures.others ∙ (c.loop-k.invariant.1 ∙ b) }
