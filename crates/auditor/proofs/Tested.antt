@@ -3,7 +3,8 @@ use Prim.Native.Nat.{ℕ, ◌+◌, ◌≤◌, ◌<◌}
 use native.Mathlib.Omega.{arith}
 use mathlib.Core.Path.{◌≡◌, ◌∙◌, ap}
 use mathlib.Core.Bool.{Bool, true, false, not, ◌||◌, or-true}
-use mathlib.Core.List.{List, ◌∷◌, Memᴰ}
+use mathlib.Core.List.Memᴰ
+use mathlib.Core.List.{List, [], ◌∷◌, Memᴰ}
 use Rattle.model.specs.Lists.{all, up_to}
 use Rattle.model.specs.Bytes.{Bytes}
 use Rattle.model.specs.Network.{node_count}
@@ -20,6 +21,7 @@ use Rattle.auditor.specs.Same.{same_list, same_beside, same_of_cell, same_lists}
 module _ (p : ℕ → Bool) where
   all→ : (l : List ℕ) → all p l ≡ true → {x : ℕ} → Memᴰ x l → p x ≡ true
   unfolding all
+  all→ [] h m = absurd (Memᴰ.not-nil m)
   all→ (y ∷ l) h (Memᴰ.head e) = rw e (both {b = p y} h).0
   all→ (y ∷ l) h (Memᴰ.tail m) = all→ l (both {b = p y} h).1 m
 

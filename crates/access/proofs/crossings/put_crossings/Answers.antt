@@ -11,6 +11,7 @@ use Rattle.access.proofs.Squares.{Inside, inside_first, inside_next, outside_nex
 use Rattle.words.proofs.Stays.{only_then}
 use Rattle.index.proofs.Laid.{roads_only}
 use Rattle.access.proofs.crossings.put_crossings.Goals as goal
+use Rattle.access.proofs.crossings.put_crossings.Goals.{then-has, else-has}
 
 pub clear-requires : goal.clear-requires
 clear-requires c = omega (arith, c.requires.n_value.2, c.requires.n_value.3, c.requires.n_value.4)
@@ -29,13 +30,16 @@ put_crossings_at-requires c =
           (only_then _ _ a.work.now _ c.loop-v.work c.clear.ensures.others c.loop-v.invariant.1.others) c.requires.indexed_edges }
 
 pub loop-v-preserved : goal.loop-v-preserved
-loop-v-preserved c = (
-      ⊎_elim (λ w. ap length w.5 ∙ (w.2.kept.1.1.1.1.1.1.0 ∙ c.loop-v.invariant.0)) (λ w. ap length w.1 ∙ c.loop-v.invariant.0) c.if-has.branch,
-      ⊎_elim
-          (λ w. rw w.5 (inside_next _ _ _ _ _ _ c.loop-v.v c.loop-v.work c.loop-v.invariant.1 _ w.2.ensures))
-          (λ w. rw w.1 (outside_next _ _ _ _ _ _ c.loop-v.v c.loop-v.work c.loop-v.invariant.1 (sym w.0.left ∙ c.has.ensures)))
-          c.if-has.branch,
-    )
+loop-v-preserved c = elim c.if-has.branch [
+      then-has w ↦ (
+        ap length w.work-is ∙ (w.put_crossings_at.auto.work ∙ c.loop-v.invariant.0),
+        rw w.work-is (inside_next _ _ _ _ _ _ c.loop-v.v c.loop-v.work c.loop-v.invariant.1 _ w.put_crossings_at.ensures),
+      )
+      | else-has w ↦ (
+        ap length w.work-is ∙ c.loop-v.invariant.0,
+        rw w.work-is (outside_next _ _ _ _ _ _ c.loop-v.v c.loop-v.work c.loop-v.invariant.1 (sym w.if-has.false ∙ c.has.ensures)),
+      )
+    ]
 
 pub returns : goal.returns
 returns c =

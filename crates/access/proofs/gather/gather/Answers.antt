@@ -23,7 +23,7 @@ gather_from-requires c =
           (roads_only a.edges.now a.n a.work.now _ _ _ (omega arith) c.clear.ensures.others c.requires.indexed_edges) }
 
 pub loop-p-preserved : goal.loop-p-preserved
-loop-p-preserved c = next _ _ _ c.loop-p.p c.loop-p.work c.loop-p.invariant (search rules) _ (search rules) c.gather_from.ensures
+loop-p-preserved c = next _ _ _ c.loop-p.p c.loop-p.work c.loop-p.invariant (search rules) _ (search rules) (c.gather_from.ensures.members, c.gather_from.ensures.others)
 
 pub returns : goal.returns
 returns c =

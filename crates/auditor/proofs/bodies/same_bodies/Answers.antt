@@ -33,7 +33,7 @@ same_lists-requires c =
 
 pub returns-then-not-same_lists : goal.returns-then-not-same_lists
 returns-then-not-same_lists c =
-    let p = c.pre in
+    let p = c.requires in
     let a = c.args in
     let first = first_same a.nodes.now a.edges.now a.grid a.n p.1 a.transit.now a.access.now a.table.now _
     c.mark_transit.ensures.members (sym c.same_transit.ensures ∙ c.if-not-same_transit.false) in record { same = second_differs a.nodes.now a.edges.now a.grid a.n p.1 a.transit.now a.access.now a.table.now _
@@ -45,7 +45,7 @@ overflow_mul-size c =
     let a = c.args in
     omega (
       arith,
-      c.pre.2,
+      c.requires.2,
       few_body a.n _ a.transit.now (sym c.same_transit.ensures ∙ c.if-not-same_transit.false),
     )
 
@@ -66,12 +66,12 @@ same_table-requires c =
 
 pub returns : goal.returns
 returns c =
-    let p = c.pre in
+    let p = c.requires in
     let build_index =
     c.build_index in
     let a = c.args in
     let first = first_same a.nodes.now a.edges.now a.grid a.n p.1 a.transit.now a.access.now a.table.now _
     c.mark_transit.ensures.members (sym c.same_transit.ensures ∙ c.if-not-same_transit.false) in record { same = third_tells a.nodes.now a.edges.now a.grid a.n p.1 a.transit.now a.access.now a.table.now _
           (transit_kept a.n _ _ c.same_lists.ensures.others ∙ c.mark_transit.ensures.members) first
-          (sym c.same_lists.ensures.same ∙ c.if-not-same_lists.false) _ c.same_table.ensures.same; rest = rest_last a.edges.now a.n p.5 a.work.now _ _ build_index.ensures.0 build_index.ensures.1.1
+          (sym c.same_lists.ensures.same ∙ c.if-not-same_lists.false) _ c.same_table.ensures.same; rest = rest_last a.edges.now a.n p.5 a.work.now _ _ build_index.ensures.roads build_index.ensures.behind
           c.mark_transit.ensures.others _ c.same_lists.ensures.others _ c.same_table.ensures.others }

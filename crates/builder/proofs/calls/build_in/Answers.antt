@@ -11,8 +11,9 @@ use Rattle.builder.proofs.Oracles.{transits_are, long, joined, size_is, size_sma
 use Rattle.builder.proofs.Planning.{laid_some, behind_regions, pass_requires, sizes_requires, planned}
 use Rattle.builder.specs.Plan.{whole_size, Planned}
 use Rattle.builder.proofs.calls.build_in.Goals as goal
+use Rattle.builder.proofs.calls.build_in.Goals.{After-access_size-a}
 
-bytes : (c : goal.After-access_size-a) →
+bytes : (c : After-access_size-a) →
     let a = c.args in
     AreBytes a.network.now
 bytes c i = omega (
@@ -21,7 +22,7 @@ bytes c i = omega (
       i,
 )
 
-plan : (c : goal.After-access_size-a) →
+plan : (c : After-access_size-a) →
     let a = c.args in
     Planned a.nodes.now a.edges.now a.grid a.n
     c.count-t.result c.access_size-a.result c.prepare.new.work
@@ -31,7 +32,7 @@ plan c =
     (omega (arith, c.requires.1, c.prepare.auto.work)) c.prepare.ensures.members c.prepare.ensures.counted c.prepare.ensures.roads _ _
     c.count-t.ensures c.access_size-a.ensures
 
-sized : (c : goal.After-access_size-a) →
+sized : (c : After-access_size-a) →
     let a = c.args in
     whole_size (length a.network.now) c.count-t.result c.access_size-a.result ≡ length (oracle a.network.now a.dv)
 sized c =
@@ -39,7 +40,7 @@ sized c =
     size_is a.network.now a.dv a.nodes.now a.edges.now a.grid a.n c.requires.0 (bytes c) _ _ (plan c).transits
     (plan c).access
 
-small : (c : goal.After-access_size-a) →
+small : (c : After-access_size-a) →
     let a = c.args in
     whole_size (length a.network.now) c.count-t.result c.access_size-a.result < 4294967296
 small c =
@@ -75,31 +76,31 @@ whole_size-size-requires c =
 
 pub returns-then-out-size : goal.returns-then-out-size
 returns-then-out-size c =
-    let a = c.args in record { given = given_short a.network.now a.dv a.out.now (omega (arith, c.if-out-size.true, c.whole_size-size.ensures, sized c)); rest = c.prepare.ensures.behind }
+    let a = c.args in record { given = given_short a.network.now a.dv a.out.now (omega (arith, c.if-out-size.true, c.whole_size-size.ensures, sized (goal.at.returns-then-out-size c).After-access_size-a)); rest = c.prepare.ensures.behind }
 
 pub write_oracle-requires : goal.write_oracle-requires
 write_oracle-requires c =
-    let a = c.args in record { planned = (plan (start), joined a.network.now a.dv a.nodes.now a.edges.now a.grid a.n c.requires.0 (bytes (start))); a_in_bounds = (omega (arith, c.if-out-size.false, c.whole_size-size.ensures), small (start)) }
+    let a = c.args in record { planned = (plan (goal.at.write_oracle-requires c).After-access_size-a, joined a.network.now a.dv a.nodes.now a.edges.now a.grid a.n c.requires.0 (bytes (goal.at.write_oracle-requires c).After-access_size-a)); a_in_bounds = (omega (arith, c.if-out-size.false, c.whole_size-size.ensures), small (goal.at.write_oracle-requires c).After-access_size-a) }
 
 pub overflow_cast-result : goal.overflow_cast-result
 overflow_cast-result c = omega (
       arith,
       c.whole_size-size.ensures,
-      small c,
+      small (goal.at.overflow_cast-result c).After-access_size-a,
     )
 
 pub overflow_cast-result-2 : goal.overflow_cast-result-2
 unfolding whole_size
-overflow_cast-result-2 c = omega (arith, small c)
+overflow_cast-result-2 c = omega (arith, small (goal.at.overflow_cast-result-2 c).After-access_size-a)
 
 pub returns : goal.returns
 returns c =
-    let pre = c.pre in
+    let pre = c.requires in
     let a = c.args in
-    let p = plan (start) in record { given = given_built a.network.now a.dv a.out.now _ _ _ (c.whole_size-size.ensures ∙ sized (start))
+    let p = plan (goal.at.returns c).After-access_size-a in record { given = given_built a.network.now a.dv a.out.now _ _ _ (c.whole_size-size.ensures ∙ sized (goal.at.returns c).After-access_size-a)
           (p.transits ∙ ap length (transits_are a.network.now a.dv a.nodes.now a.edges.now a.grid a.n pre.0))
-          (omega (arith, c.if-out-size.false, c.whole_size-size.ensures, sized (start)))
-          (oracle_written a.network.now a.dv a.nodes.now a.edges.now a.grid a.n pre.0 (bytes (start)) _ _
+          (omega (arith, c.if-out-size.false, c.whole_size-size.ensures, sized (goal.at.returns c).After-access_size-a))
+          (oracle_written a.network.now a.dv a.nodes.now a.edges.now a.grid a.n pre.0 (bytes (goal.at.returns c).After-access_size-a) _ _
           p.transits p.access c.write_oracle.ensures.bytes); rest = behind_regions a.network.now a.dv a.nodes.now a.edges.now
           a.grid a.n pre.0 _ _ c.write_oracle.ensures.others ∙
           c.prepare.ensures.behind }

@@ -24,7 +24,7 @@ node_count-n-requires c = (c.requires.0.contents, c.requires.0.bodies)
 pub build_in-requires : goal.build_in-requires
 unfolding words_needed
 build_in-requires c = (
-      record { passed = c.requires.0; of_nodes = c.body-nodes.ensures; of_edges = c.body-edges.ensures; made = c.over-grid.ensures; count = c.node_count-n.ensures ∙ sym (ap c.node_count-n c.body-nodes.ensures) },
+      record { passed = c.requires.0; of_nodes = c.body-nodes.ensures; of_edges = c.body-edges.ensures; made = c.over-grid.ensures; count = c.node_count-n.ensures ∙ sym (ap node_count c.body-nodes.ensures) },
       omega (arith, c.node_count-n.ensures, c.requires.1),
     )
 

@@ -35,13 +35,13 @@ pub write_byte-requires : goal.write_byte-requires
 write_byte-requires c =
     let a = c.args in
     room_second _ line_feed (room_second _ (after_transit a.transit) (room_second _ (after_count a.transit)
-    (room_second _ (after_places a.n a.transit) (rw header_parts at c.pre)
+    (room_second _ (after_places a.n a.transit) (rw header_parts at c.requires)
     c.write_text-places.ensures) c.write_field-first.ensures)
     c.write_text-second.ensures) c.write_decimal-end.ensures
 
 pub returns : goal.returns
 returns c =
-    let p = c.pre in
+    let p = c.requires in
     let a = c.args in
     let write_text =
     c.write_text-places in

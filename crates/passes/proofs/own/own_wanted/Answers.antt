@@ -9,7 +9,7 @@ use Rattle.passes.proofs.own.own_wanted.Goals as goal
 
 pub own_access-requires : goal.own_access-requires
 own_access-requires c =
-    let all = c.requires in record { ground = all.0; indexed_edges = all.1 }
+    record { ground = c.requires.ground; indexed_edges = c.requires.indexed_edges }
 
 pub returns : goal.returns
 returns c =

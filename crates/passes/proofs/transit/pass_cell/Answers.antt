@@ -23,8 +23,7 @@ put_counts-requires c =
 pub returns-then-first_of_cell : goal.returns-then-first_of_cell
 returns-then-first_of_cell c =
     let a = c.args in
-    let p = c.pre in
-    let all = passed_next a.nodes.now a.edges.now a.grid a.n a.u p.0.3 a.work.now _ _ _ p.1.0 c.own_access.ensures.members
+    let all = passed_next a.nodes.now a.edges.now a.grid a.n a.u c.requires.ground.3 a.work.now _ _ _ c.requires.cells_passed.0 c.own_access.ensures.members
     c.own_access.ensures.others c.unite.ensures.members c.unite.ensures.others _ c.count-k.ensures
     c.put_counts.ensures.counted c.put_counts.ensures.others in record { passed = all.0; others = all.1 }
 

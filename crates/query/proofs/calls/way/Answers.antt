@@ -22,5 +22,5 @@ way_of-route-requires c =
 pub returns : goal.returns
 returns c =
     let answer = c.way_of-route in
-    let k = stays _ _ _ c.open_words.ensures.opened answer.auto.1.1.1.0 answer.ensures.1 in
-    way_given _ _ _ _ _ c.time_refusal-rule.ensures _ _ _ _ _ c.if-rule-ne0.false answer.ensures.0 (k.rest ∙ c.open_words.ensures.rest) c.zero_words.ensures
+    let k = stays _ _ _ c.open_words.ensures.opened answer.auto.work answer.ensures.others in
+    way_given _ _ _ _ _ c.time_refusal-rule.ensures _ _ _ _ _ c.if-rule-ne0.false answer.ensures.given (k.rest ∙ c.open_words.ensures.rest) c.zero_words.ensures

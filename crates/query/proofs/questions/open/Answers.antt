@@ -11,4 +11,4 @@ pub open_words-requires : goal.open_words-requires
 open_words-requires c = room_kept _ _ (sym c.room_refusal-rule.ensures ∙ c.if-rule-ne0.false)
 
 pub returns : goal.returns
-returns c = record { rule = sym c.if-rule-ne0.false ∙ c.room_refusal-rule.ensures; c.open_words.ensures = λ e. c.open_words.ensures.opened; unwritten = λ n. absurd (n refl); rest = c.open_words.ensures.rest }
+returns c = record { rule = sym c.if-rule-ne0.false ∙ c.room_refusal-rule.ensures; opened = λ e. c.open_words.ensures.opened; unwritten = λ n. absurd (n refl); rest = c.open_words.ensures.rest }

@@ -20,6 +20,6 @@ pub returns : goal.returns
 returns c =
     let a = c.args in
     let answer = c.way_of in
-    let m = stays _ _ _ c.requires answer.auto.1.1.1.0 answer.ensures.1 in
-    let k = way_given _ _ _ _ _ (as_time _ _ _ _ c.requires _ c.named_pair_refusal-rule.ensures) _ _ a.work.now _ _ c.if-rule-ne0.false answer.ensures.0 refl refl in
+    let m = stays _ _ _ c.requires answer.auto.work answer.ensures.others in
+    let k = way_given _ _ _ _ _ (as_time _ _ _ _ c.requires _ c.named_pair_refusal-rule.ensures) _ _ a.work.now _ _ c.if-rule-ne0.false answer.ensures.given refl refl in
     record { result = k.result; bytes = k.bytes; opened = m.opened; rest = m.rest }
