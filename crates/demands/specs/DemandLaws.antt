@@ -15,7 +15,7 @@ use Rattle.model.specs.Grid.{Cell, division}
 use Rattle.model.specs.Access.{access_nodes}
 use Rattle.model.specs.Oracle.{AccessEntry, oracle, transit_of, transit_count, access_list, list_size, list_start, list_count, list_part, table_entry}
 use Rattle.model.specs.Query.{rule_of, distance_of, kind_between, answer_of, time_answer, far_answer, local_answer, way, list_span, list_of}
-use Rattle.model.specs.Meanings.{meaning_injective}
+use Rattle.model.proofs.Meanings.{meaning_injective}
 use Rattle.model.specs.Rules.{accepted, well_shaped, words_needed, first_broken, shape_rules, build_rules, audit_rules, time_rules, far_rules, list_rules, way_rules}
 use Rattle.model.specs.Rules.{no_such_node, work_words}
 use Rattle.model.specs.Calls.{cleared, work_after, output_after, answer_after, build_refusal, built_after, Build, audit_refusal, Audit, time_refusal, time_result}
@@ -31,7 +31,8 @@ use Rattle.theory.specs.Members.{map→, index_of_law}
 use Rattle.theory.specs.Joined.{list_within}
 use Rattle.theory.specs.ReadLaws.{entry_of}
 use Rattle.theory.specs.PairModel.{distance_pair}
-use Rattle.theory.specs.AccessLaws.{AccessNode, access_exact}
+use Rattle.theory.specs.AccessLaws.{AccessNode}
+use Rattle.theory.proofs.AccessExact.{access_exact}
 use Rattle.theory.specs.Transit.{all_cells, transit_all}
 use Rattle.theory.specs.Firsts.{split}
 use Rattle.theory.specs.Passed.{all_passed, all_shaped, shape_counted}

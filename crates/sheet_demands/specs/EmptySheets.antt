@@ -12,7 +12,7 @@ use Rattle.model.specs.Walk.{PairWalk}
 use Rattle.model.specs.Distance.{Distance, unreachable, finite}
 use Rattle.model.specs.Network.{network, timed_arcs, arcs, distance}
 use Rattle.model.specs.Query.{answer, rule_of, kind_between, answer_of, time_answer, far_answer, local_answer, way}
-use Rattle.model.specs.Meanings.{meaning_injective}
+use Rattle.model.proofs.Meanings.{meaning_injective}
 use Rattle.model.specs.Rules.{first_broken, time_rules}
 use Rattle.model.specs.Calls.{answer_after, time_refusal, time_result, TimeCall, way_refusal, WayCall}
 use Rattle.model.specs.declared.Kind.{Kind}

@@ -14,7 +14,7 @@ use mathlib.Core.List.{
 }
 use Rattle.model.specs.Lists.{any, filter}
 use Rattle.model.specs.Bytes.{Bytes}
-use Rattle.model.specs.Meanings.{meaning_injective}
+use Rattle.model.proofs.Meanings.{meaning_injective}
 use Rattle.model.specs.declared.Answer.{Answer}
 use Rattle.model.specs.declared.Route.{Route}
 use Rattle.theory.specs.Members.{any→}

@@ -7,7 +7,8 @@ use Rattle.model.specs.Walk.{Arc, Walk, PairWalk, Least}
 use Rattle.model.specs.Distance.{Distance, unreachable, finite, IsLeast, IsLeastPair}
 use Rattle.model.specs.Network.{Edge, Network, order, timed_arcs, arcs, max_nodes}
 use Rattle.theory.specs.Keys.{keyed, Keyed, key_of_pair}
-use Rattle.theory.specs.PairModel.{least_pair, pair_least, none_timed}
+use Rattle.theory.specs.PairModel.{least_pair, none_timed}
+use Rattle.theory.proofs.PairLaws.{pair_least}
 use Rattle.sheet_demands.specs.SheetOutcomes.{Between, Again, Driven}
 
 -- ---- distances

@@ -11,7 +11,7 @@ use Rattle.model.specs.Walk.{PairWalk, LeastPair}
 use Rattle.model.specs.Distance.{IsLeastPair}
 use Rattle.model.specs.Network.{Network, network, node_count, order, timed_arcs, arcs, distance, max_nodes}
 use Rattle.model.specs.Query.{rule_of, distance_of, kind_between, time_answer, local_answer, way}
-use Rattle.model.specs.Meanings.{meaning_injective}
+use Rattle.model.proofs.Meanings.{meaning_injective}
 use Rattle.model.specs.Rules.{first_broken, well_shaped, words_needed}
 use Rattle.model.specs.Calls.{output_after, answer_after, route_after, Build, TimeCall, way_refusal, WayCall}
 use Rattle.model.specs.declared.Division.{Division}

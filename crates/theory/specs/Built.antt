@@ -186,32 +186,7 @@ module _ (f : Bytes) (dv : Division) (good : Good f dv) where
       soonest_same _ _ (access_of f dv s) (λ a ma. soonest_map _ (entry_of d (transit_of f dv) t) (access_of f dv t) ∙
       soonest_same _ _ (access_of f dv t) (λ b mb. sum_built s t hs ht a b ma mb)))
 
-  pub far_distance_law : (s t : ℕ) → s < N → t < N → Apart (col (network f) good.ends (cells_of f dv) (count_cells f dv))
-      (row (network f) good.ends (cells_of f dv) (count_cells f dv)) (grid_of f dv).outer s t →
-      far_distance (table_body o) (transit_count (transit_body o)) (access_list (access_body o) s) (access_list (access_body o) t) ≡ d s t
-  far_distance_law s t hs ht apart = far_sum s t hs ht ∙ far_model (network f) good.ends (cells_of f dv) (count_cells f dv) (grid_of f dv) good.wide s t hs ht
-      apart
-
   -- ---- the time
-
-  apart : (s t : ℕ) → kind_of (grid_of f dv) (cell_at (cells_of f dv) s) (cell_at (cells_of f dv) t) ≡ Far
-      → Apart (col (network f) good.ends (cells_of f dv) (count_cells f dv)) (row (network f) good.ends (cells_of f dv) (count_cells f dv))
-      (grid_of f dv).outer s t
-  apart s t e = (far_gap (grid_of f dv) (cell_at (cells_of f dv) s) (cell_at (cells_of f dv) t)).0 e
-
-  pub time_far : (s t : ℕ) → s < N → t < N → kind_between o s t ≡ Far → time_answer o s t ≡ answer Far (length (access_of f dv s) * length (access_of f dv t))
-      (d s t)
-  unfolding time_answer far_answer answer_of
-  time_far s t hs ht k =
-      rw (
-        k,
-        far_distance_law s t hs ht (apart s t (sym (same_kind s t) ∙ k)),
-        list_built s hs,
-        list_built t ht,
-        length-map (access_of f dv s)
-            (entry_of d (transit_of f dv) s),
-        length-map (access_of f dv t) (entry_of d (transit_of f dv) t),
-      )
 
   pub time_local : (s t : ℕ) → kind_between o s t ≡ Local → time_answer o s t ≡ answer Local 0 (d s t)
   unfolding time_answer local_answer answer_of
