@@ -1,19 +1,17 @@
 -- That Dijkstra's method keeps what holds between its steps, and what its end tells. Assumes nothing.
-use Rattle.std.specs.Prelude.{ℕ, zero, suc, ◌+◌, ◌-◌, ◌*◌, ◌≤◌, ◌<◌, min, ◌≡◌, ◌⊎◌, ◌↔◌, List, [], ◌∷◌, ◌++◌, length, get_or, set, replicate}
-use Rattle.std.proofs.Common.{add_assoc, zero-add, arith, sym, ap, ◌∙◌, inl, inr, length-set, get_or-set_same, get_or-set_other, ext_get_or}
+use Rattle.std.specs.Prelude.{ℕ, ◌+◌, ◌-◌, ◌*◌, ◌≤◌, ◌<◌, min, ◌≡◌, ◌⊎◌, ◌↔◌, List, [], ◌∷◌, length, set}
+use Rattle.std.proofs.Common.{arith, sym, ap, ◌∙◌, inl, inr, length-set, get_or-set_same, ext_get_or}
 use Rattle.std.proofs.Math.Nat.{min-eq_left, min-eq_right}
-use Rattle.std.proofs.Math.Decide.{dec_le, ℕ_discrete}
+use Rattle.std.proofs.Math.Decide.{dec_le}
 use Rattle.std.proofs.Math.Path.{refl}
 use Rattle.std.proofs.Math.Logic.{⊎_elim}
 use mathlib.Core.List.Memᴰ
-use Rattle.std.proofs.lemmas.List.{length-replicate, get_or-replicate}
-use Rattle.std.proofs.Math.Seq.{set_out}
-use Rattle.model.specs.Walk.{Arc, Mem, Walk, stay, go, Least}
+use Rattle.model.specs.Walk.{Arc, Mem, Walk, Least}
 use Rattle.model.specs.Distance.{Distance, unreachable, finite, dist}
 use Rattle.model.specs.Oracle.{no_walk, coded}
 use Rattle.theory.specs.Walks.{Within, Costs, along}
 use Rattle.theory.specs.Exact.{time_least, none_no_walk, dist_bound}
-use Rattle.algorithms.specs.Dijkstra.{at, relax, relax_all, relax_append, length_relax, length_relax_all, at_set, Inv, Nearest, Out, from_start}
+use Rattle.algorithms.specs.Dijkstra.{at, relax, relax_all, length_relax_all, at_set, Inv, Nearest, Out, from_start}
 
 -- A word after `relax` is the word before, or the way by the arc.
 relax_from : (P : ℕ → ℕ → Type 0) (c : ℕ) (a : Arc) (d : List ℕ) → P a.to (c + a.cost) → ((v : ℕ) → P v (at d v)) → (v : ℕ) → P v (at (relax c a d) v)

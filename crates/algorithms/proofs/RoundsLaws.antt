@@ -1,7 +1,7 @@
 -- What the rounds of a search keep, and what is found when no reached node is left. Assumes nothing.
-use Rattle.std.specs.Prelude.{ℕ, zero, suc, ◌+◌, ◌-◌, ◌*◌, ◌≤◌, ◌<◌, ◌≡◌, refl, set, replicate}
+use Rattle.std.specs.Prelude.{ℕ, ◌-◌, ◌*◌, ◌≤◌, ◌<◌, ◌≡◌, set, replicate}
 use Rattle.std.proofs.Math.Decide.{dec_le}
-use Rattle.std.proofs.Common.{not-suc-le-zero, zero-add, arith, ap, ◌∙◌}
+use Rattle.std.proofs.Common.{zero-add, arith, ◌∙◌}
 use Rattle.std.proofs.Math.Path.{sym}
 use mathlib.Core.List.{List, [], ◌∷◌, map, Memᴰ}
 use Rattle.std.proofs.Math.ListN.{length, length-map}
@@ -12,12 +12,12 @@ use Rattle.model.specs.Distance.{dist}
 use Rattle.model.specs.Oracle.{no_walk, coded}
 use Rattle.theory.specs.Walks.{Within, Costs}
 use Rattle.theory.specs.RangeLaws.{length-range, get_d_map_range}
-use Rattle.algorithms.specs.Dijkstra.{at, Inv, Nearest, Out, relax_all}
+use Rattle.algorithms.specs.Dijkstra.{at, Nearest, Out, relax_all}
 use Rattle.algorithms.specs.Dijkstra.{start_inv}
 use Rattle.algorithms.proofs.DijkstraLaws.{settle_inv, finish}
-use Rattle.algorithms.specs.Settle.{Falling, Kept, kept_start}
+use Rattle.algorithms.specs.Settle.{kept_start}
 use Rattle.algorithms.proofs.SettleLaws.{kept_settle}
-use Rattle.algorithms.specs.Rounds.{distance_words, Found, zeros, zeros_set, zeros_all, State}
+use Rattle.algorithms.specs.Rounds.{distance_words, Found, zeros_set, zeros_all, State}
 
 pub state_first : (arcs : List Arc) (N s : ℕ) → s < N → State arcs N s (set (replicate N no_walk) s 0) (replicate N 0) []
 state_first arcs N s s_in = record { inv = start_inv arcs N s s_in; kept = kept_start N (set (replicate N no_walk) s 0); filled = omega (arith, zeros_all N) }

@@ -1,13 +1,11 @@
 -- To settle a nearest node puts it in front of the order. Assumes nothing.
-use Rattle.std.specs.Prelude.{ℕ, zero, suc, ◌≤◌, ◌<◌, ◌≡◌, length, set, replicate}
-use Rattle.std.proofs.Math.Decide.{ℕ_discrete}
-use Rattle.std.proofs.Common.{arith, get_or-set_same, get_or-set_other}
+use Rattle.std.specs.Prelude.{ℕ, ◌≤◌, ◌<◌, ◌≡◌, length, set}
+use Rattle.std.proofs.Common.{arith}
 use Rattle.std.proofs.Math.Path.{refl}
 use Rattle.std.proofs.Math.Logic.{⊎_elim}
 use mathlib.Core.List.Memᴰ
 use mathlib.Core.List.{List, [], ◌∷◌, Memᴰ}
 use Rattle.model.specs.Walk.{Arc}
-use Rattle.model.specs.Oracle.{no_walk}
 use Rattle.theory.specs.Walks.{Within}
 use Rattle.algorithms.specs.Dijkstra.{at, Inv, Nearest, Out, relax_all}
 use Rattle.algorithms.proofs.DijkstraLaws.{same, was_settled}

@@ -1,17 +1,16 @@
 -- A turn of the pass: the next node of the order is marked for a reason, or passed over for want of one. Assumes nothing.
-use Rattle.std.specs.Prelude.{ℕ, ◌+◌, ◌<◌, ◌≡◌, refl, ◌⊎◌, ◌↔◌, length, set, replicate}
+use Rattle.std.specs.Prelude.{ℕ, ◌+◌, ◌<◌, ◌≡◌, refl, ◌⊎◌, length, set}
 use Rattle.std.proofs.Math.Decide.{ℕ_discrete}
 use Rattle.std.proofs.Common.{arith, sym, subst, inl, inr, length-set, get_or-set_other}
 use Rattle.std.proofs.Math.Path.{ap}
 use Rattle.std.proofs.Math.Logic.{⊎_elim}
 use mathlib.Core.List.Memᴰ
-use mathlib.Core.List.{List, [], ◌∷◌, Memᴰ}
-use Rattle.std.proofs.lemmas.List.{length-replicate}
-use Rattle.model.specs.Walk.{Arc, Mem}
+use mathlib.Core.List.{List, ◌∷◌, Memᴰ}
+use Rattle.model.specs.Walk.{Arc}
 use Rattle.theory.specs.Walks.{Positive}
 use Rattle.algorithms.specs.Dijkstra.{at}
-use Rattle.algorithms.specs.Settle.{Falling, flag_here, flag_stays, blank}
-use Rattle.algorithms.specs.Marks.{Marked, ends, leads, marked_reached}
+use Rattle.algorithms.specs.Settle.{Falling, flag_here, flag_stays}
+use Rattle.algorithms.specs.Marks.{ends, leads}
 use Rattle.algorithms.specs.Pass.{Reason, wanted, onward, Is, Upto}
 
 -- A mark after a store of a mark.

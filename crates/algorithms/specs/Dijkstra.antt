@@ -1,19 +1,15 @@
 -- Dijkstra's method (document 002, 2.1) on a list of words and a list of flags: what holds between its steps, and that each step keeps it.
 -- Any way to find a nearest node serves. Assumes nothing.
-use Rattle.std.specs.Prelude.{ℕ, zero, suc, ◌+◌, ◌-◌, ◌*◌, ◌≤◌, ◌<◌, min, ◌≡◌, ◌⊎◌, ◌↔◌, List, [], ◌∷◌, ◌++◌, length, get_or, set, replicate}
-use Rattle.std.proofs.Common.{add_assoc, zero-add, arith, sym, ap, ◌∙◌, inl, inr, length-set, get_or-set_same, get_or-set_other, ext_get_or}
-use Rattle.std.proofs.Math.Nat.{min-eq_left, min-eq_right}
+use Rattle.std.specs.Prelude.{ℕ, zero, suc, ◌+◌, ◌≤◌, ◌<◌, min, ◌≡◌, ◌⊎◌, List, [], ◌∷◌, ◌++◌, length, get_or, set, replicate}
+use Rattle.std.proofs.Common.{add_assoc, zero-add, arith, inl, inr, length-set, get_or-set_same, get_or-set_other}
 use Rattle.std.proofs.Math.Decide.{dec_le, ℕ_discrete}
 use Rattle.std.proofs.Math.Path.{refl}
 use Rattle.std.proofs.Math.Logic.{⊎_elim}
-use mathlib.Core.List.Memᴰ
 use Rattle.std.proofs.lemmas.List.{length-replicate, get_or-replicate}
 use Rattle.std.proofs.Math.Seq.{set_out}
 use Rattle.model.specs.Walk.{Arc, Mem, Walk, stay, go, Least}
-use Rattle.model.specs.Distance.{Distance, unreachable, finite, dist}
-use Rattle.model.specs.Oracle.{no_walk, coded}
-use Rattle.theory.specs.Walks.{Within, Costs, along}
-use Rattle.theory.specs.Exact.{time_least, none_no_walk, dist_bound}
+use Rattle.model.specs.Oracle.{no_walk}
+use Rattle.theory.specs.Walks.{Within}
 
 -- The word of a node.
 abbrev pub at : List ℕ → ℕ → ℕ

@@ -1,17 +1,13 @@
 -- The marks, found by one pass over the settle order from the farthest node to the nearest. Assumes nothing.
-use Rattle.std.specs.Prelude.{ℕ, ◌+◌, ◌<◌, ◌≡◌, refl, ◌⊎◌, ◌↔◌, length, set, replicate}
-use Rattle.std.proofs.Math.Decide.{ℕ_discrete}
-use Rattle.std.proofs.Common.{arith, sym, subst, inl, inr, length-set, get_or-set_other}
-use Rattle.std.proofs.Math.Path.{ap}
-use Rattle.std.proofs.Math.Logic.{⊎_elim}
+use Rattle.std.specs.Prelude.{ℕ, ◌+◌, ◌<◌, ◌≡◌, ◌↔◌, length, replicate}
+use Rattle.std.proofs.Common.{arith}
 use mathlib.Core.List.Memᴰ
-use mathlib.Core.List.{List, [], ◌∷◌, Memᴰ}
+use mathlib.Core.List.{List, [], Memᴰ}
 use Rattle.std.proofs.lemmas.List.{length-replicate}
 use Rattle.model.specs.Walk.{Arc, Mem}
-use Rattle.theory.specs.Walks.{Positive}
 use Rattle.algorithms.specs.Dijkstra.{at}
-use Rattle.algorithms.specs.Settle.{Falling, flag_here, flag_stays, blank}
-use Rattle.algorithms.specs.Marks.{Marked, ends, leads, marked_reached}
+use Rattle.algorithms.specs.Settle.{blank}
+use Rattle.algorithms.specs.Marks.{Marked, marked_reached}
 
 -- Why `v` is to be marked, by the marks so far: it is wanted itself, or an arc leads from it, tight, to a marked node.
 pub data Reason (arcs : List Arc) (D : ℕ → ℕ) (Q : ℕ → Type 0) (m : List ℕ) (v : ℕ) : Type 0 where

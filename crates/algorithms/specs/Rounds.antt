@@ -1,19 +1,14 @@
 -- The rounds of a search: what holds between them, and what is found when no reached node is left. Assumes nothing.
-use Rattle.std.specs.Prelude.{ℕ, zero, suc, ◌+◌, ◌-◌, ◌*◌, ◌≤◌, ◌<◌, ◌≡◌, refl, set, replicate}
-use Rattle.std.proofs.Math.Decide.{dec_le}
-use Rattle.std.proofs.Common.{not-suc-le-zero, zero-add, arith, ap, ◌∙◌}
-use Rattle.std.proofs.Math.Path.{sym}
+use Rattle.std.specs.Prelude.{ℕ, zero, suc, ◌+◌, ◌<◌, ◌≡◌, refl, set, replicate}
+use Rattle.std.proofs.Common.{not-suc-le-zero, arith, ap}
 use mathlib.Core.List.{List, [], ◌∷◌, map, Memᴰ}
-use Rattle.std.proofs.Math.ListN.{length, length-map}
-use Rattle.std.proofs.Math.Seq.{ext_get_or}
+use Rattle.std.proofs.Math.ListN.{length}
 use Rattle.model.specs.Lists.{up_to}
 use Rattle.model.specs.Walk.{Arc}
 use Rattle.model.specs.Distance.{dist}
 use Rattle.model.specs.Oracle.{no_walk, coded}
-use Rattle.theory.specs.Walks.{Within, Costs}
-use Rattle.theory.specs.RangeLaws.{length-range, get_d_map_range}
-use Rattle.algorithms.specs.Dijkstra.{at, Inv, Nearest, Out, relax_all}
-use Rattle.algorithms.specs.Settle.{Falling, Kept, kept_start}
+use Rattle.algorithms.specs.Dijkstra.{at, Inv}
+use Rattle.algorithms.specs.Settle.{Falling, Kept}
 
 -- The words of the distances from s to each of N nodes.
 unfoldable pub distance_words : List Arc → ℕ → ℕ → List ℕ

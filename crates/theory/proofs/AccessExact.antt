@@ -1,20 +1,17 @@
 -- The listed access nodes are exactly those of the paper's words. Assumes nothing.
-use Rattle.std.specs.Prelude.{ℕ, ◌+◌, ◌≤◌, ◌<◌, ◌≡◌, refl, ◌↔◌, Bool, ◌&&◌, length}
+use Rattle.std.specs.Prelude.{ℕ, ◌+◌, ◌≤◌, ◌<◌, ◌≡◌, ◌↔◌, Bool, ◌&&◌, length}
 use native.Mathlib.Omega.{arith}
-use Rattle.std.proofs.Common.{sym, ap, true≢false}
 use Rattle.std.proofs.Math.Path.{subst}
 use Rattle.std.proofs.Math.Bool.{true}
 use mathlib.Core.List.{List, Memᴰ}
 use Rattle.model.specs.Lists.{any, member, up_to}
 use Rattle.model.specs.Pair.{Pair, add, hop_base, pair_of, hops_of}
-use Rattle.model.specs.Walk.{Arc, Least, LeastPair}
-use Rattle.model.specs.Distance.{Distance, unreachable, finite, plus, agree}
+use Rattle.model.specs.Walk.{Least, LeastPair}
 use Rattle.model.specs.Network.{Edge, Network, order, timed_arcs, arcs, distance, max_nodes}
 use Rattle.model.specs.Grid.{Grid, Cell}
-use Rattle.model.specs.Access.{crossing_end, crosses, crossings, between, access_nodes}
-use Rattle.theory.specs.Tests.{and, both, eqb-true, true-eqb}
-use Rattle.theory.specs.Members.{filter→, →filter, any→, →any, map→, member→, →member, →up_to}
-use Rattle.theory.specs.FarModel.{exact, distance_least}
+use Rattle.model.specs.Access.{crossings, between, access_nodes}
+use Rattle.theory.specs.Tests.{and, both}
+use Rattle.theory.specs.Members.{filter→, →filter, any→, →any, member→, →member, →up_to}
 use Rattle.theory.specs.Keys.{key_of, key_sum}
 use Rattle.theory.specs.PairModel.{least_pair}
 use Rattle.theory.proofs.PairLaws.{pair_least}

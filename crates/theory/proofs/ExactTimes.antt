@@ -1,25 +1,22 @@
 -- The time that a built oracle answers is the distance, for every accepted network, grid and pair. Assumes nothing.
 use Rattle.std.specs.Prelude.{ℕ, ◌<◌, ◌≡◌, refl, true}
-use Rattle.std.proofs.Common.{◌∙◌, ap, le-leb, arith}
+use Rattle.std.proofs.Common.{◌∙◌, ap}
 use Rattle.model.specs.Bytes.{Bytes}
 use Rattle.model.specs.Walk.{PairWalk}
-use Rattle.model.specs.Distance.{IsLeastPair, finite}
+use Rattle.model.specs.Distance.{IsLeastPair}
 use Rattle.model.specs.Network.{network, order, timed_arcs, distance}
 use Rattle.model.specs.Oracle.{oracle}
-use Rattle.model.specs.Query.{distance_of, kind_between, time_answer, answer}
+use Rattle.model.specs.Query.{distance_of, kind_between, time_answer}
 use Rattle.model.specs.Rules.{accepted}
 use Rattle.model.specs.declared.Division.{Division}
 use Rattle.model.specs.declared.Kind.{Kind}
 use Rattle.model.specs.declared.Kind.TheVariants.{Far, Local}
-use Rattle.theory.specs.FarModel.{distance_itself}
 use Rattle.theory.specs.PairModel.{distance_pair}
-use Rattle.theory.specs.Built.{Good, time_local, same_kind, grid_of, cells_of}
+use Rattle.theory.specs.Built.{Good, time_local}
 use Rattle.theory.proofs.FarTimes.{time_far}
 use Rattle.theory.specs.Passed.{all_passed}
 use Rattle.theory.specs.Accepted.{good}
 use Rattle.theory.specs.Given.{distance_of_law}
-use Rattle.model.specs.Grid.{Grid, Cell, kind_of, within, gap, cell_at}
-use Rattle.model.specs.declared.Answer.TheVariants.{Time}
 
 module _ (f : Bytes) (dv : Division) (ok : accepted f dv ≡ true) (s t : ℕ) (hs : s < order (network f)) (ht : t < order (network f)) where
   sound : Good f dv

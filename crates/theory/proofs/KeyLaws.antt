@@ -1,15 +1,13 @@
 -- What rests on the sum of keys, and on a least pair having few hops. Assumes nothing.
-use Prim.Native.Nat.{ℕ, suc, ◌+◌, ◌≤◌, ◌<◌}
+use Prim.Native.Nat.{ℕ, ◌+◌, ◌≤◌, ◌<◌}
 use native.Mathlib.Omega.{arith}
-use Rattle.std.proofs.Math.Decide.{dec_le}
-use Rattle.std.specs.Prelude.{◌≡◌, ◌⊎◌, ◌↔◌, List, ◌∷◌}
+use Rattle.std.specs.Prelude.{◌≡◌, ◌⊎◌, ◌↔◌, List}
 use Rattle.std.proofs.Math.Path.{refl, ap, subst}
 use Rattle.std.proofs.Common.{sym, ◌∙◌}
 use Rattle.std.proofs.Math.Logic.{inl, inr}
-use Rattle.model.specs.Pair.{Pair, NoMore, add, LeastPairOf, hop_base, key, pair_of, seconds_of, hops_of}
-use Rattle.model.specs.Walk.{Arc, Mem, Walk, stay, go, hops, PairWalk, LeastPair, Least, nodes_after}
+use Rattle.model.specs.Pair.{Pair, NoMore, add, hop_base, key, pair_of, hops_of}
+use Rattle.model.specs.Walk.{Arc, Walk, hops, LeastPair, Least}
 use Rattle.theory.specs.Walks.{Within}
-use Rattle.theory.specs.Shorten.{Short, shorten}
 use Rattle.theory.specs.Keys.{key_of, key_of_pair, key_sum, Keyed, keyed_walk, timed_walk, few_hops}
 
 -- "d(p, a) + d(a, q) = d(p, q)": in pairs and in keys.

@@ -1,17 +1,13 @@
 -- A least pair has fewer hops than there are nodes, and is the least total by keys. Assumes nothing.
-use Rattle.std.specs.Prelude.{ℕ, ◌≤◌, ◌<◌, ◌≡◌, refl, ◌⊎◌, ◌↔◌}
-use Rattle.std.proofs.Common.{arith, ap, inl, inr}
-use mathlib.Core.List.Memᴰ
-use mathlib.Core.List.{[], ◌∷◌, Memᴰ}
-use Rattle.model.specs.Lists.{concat_map}
-use Rattle.model.specs.Pair.{Pair, hop_base, key, pair_of, hops_of}
-use Rattle.model.specs.Walk.{Arc, Mem, Walk, Least, PairWalk, LeastPair}
-use Rattle.model.specs.Distance.{Distance, unreachable, finite, IsLeast, IsLeastPair}
-use Rattle.model.specs.Network.{Edge, Network, order, timed_of, timed_arcs, arcs_of, arcs, distance, max_nodes}
-use Rattle.theory.specs.Members.{concat_map→, →concat_map}
-use Rattle.theory.specs.Keys.{key_of, keyed, Keyed, pair_of_least, few_hops, decoded_no_walk}
+use Rattle.std.specs.Prelude.{ℕ, ◌≤◌, ◌<◌}
+use Rattle.std.proofs.Common.{arith}
+use mathlib.Core.List.{Memᴰ}
+use Rattle.model.specs.Pair.{Pair, hop_base}
+use Rattle.model.specs.Walk.{Least, LeastPair}
+use Rattle.model.specs.Network.{Edge, Network, order, timed_arcs, arcs, max_nodes}
+use Rattle.theory.specs.Keys.{key_of, few_hops}
 use Rattle.theory.proofs.KeyLaws.{least_of_pair}
-use Rattle.theory.specs.FarModel.{inside, exact}
+use Rattle.theory.specs.FarModel.{inside}
 use Rattle.theory.specs.PairModel.{same_arcs}
 
 module _ (net : Network) (ends : (e : Edge) → Memᴰ e net.edges → (e.first < order net) × (e.second < order net)) (few : order net ≤ max_nodes) where

@@ -1,21 +1,10 @@
 -- A least walk takes an edge once at the most, so that a least total rises by no more than that edge does. Assumes nothing.
-use Rattle.std.specs.Prelude.{ℕ, ◌+◌, ◌*◌, ◌≤◌, ◌≡◌, ◌⊎◌, ◌↔◌, Bool, ◌&&◌, ◌||◌, cond}
+use Rattle.std.specs.Prelude.{ℕ, ◌+◌, ◌≤◌}
 use native.Mathlib.Omega.{arith}
-use Rattle.std.proofs.Math.Path.{refl, sym}
-use Rattle.std.proofs.Common.{◌∙◌, ap}
-use Rattle.std.proofs.Math.Logic.{inl, inr}
-use Rattle.std.proofs.Math.Bool.{true, false, or-true}
-use mathlib.Core.List.{List, ◌∷◌, Memᴰ}
-use Rattle.std.proofs.Math.Dec.{eqb}
-use Rattle.model.specs.Lists.{Distinct, concat_map}
-use Rattle.model.specs.Pair.{hop_base, key}
-use Rattle.model.specs.Walk.{Arc, Mem, Walk, stay, go, Least, nodes_after, nodes_of}
-use Rattle.model.specs.Network.{Edge, arcs_of}
-use Rattle.theory.specs.Tests.{both, eqb-true, true-eqb}
-use Rattle.theory.specs.Members.{→concat_map}
+use mathlib.Core.List.{List}
+use Rattle.model.specs.Walk.{Arc, Walk, Least}
 use Rattle.theory.specs.Walks.{Positive}
 use Rattle.theory.specs.Simple.{distinct}
-use Rattle.theory.specs.Sound.{arc_of}
 use Rattle.theory.specs.Slower.{Rising, rise, Slower, between, walked_again, was_walked, once}
 
 module _ (x y : ℕ) where

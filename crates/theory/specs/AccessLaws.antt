@@ -1,22 +1,18 @@
 -- Access nodes in terms of walks: the listed ones are exactly those of document 01's words. Assumes nothing.
-use Rattle.std.specs.Prelude.{ℕ, ◌+◌, ◌≤◌, ◌<◌, ◌≡◌, refl, ◌↔◌, Bool, ◌&&◌, length}
+use Rattle.std.specs.Prelude.{ℕ, ◌+◌, ◌<◌, ◌≡◌, refl, ◌↔◌}
 use native.Mathlib.Omega.{arith}
 use Rattle.std.proofs.Common.{sym, ap, true≢false}
-use Rattle.std.proofs.Math.Path.{subst}
 use Rattle.std.proofs.Math.Bool.{true}
 use mathlib.Core.List.{List, Memᴰ}
-use Rattle.model.specs.Lists.{any, member, up_to}
-use Rattle.model.specs.Pair.{Pair, add, hop_base, pair_of, hops_of}
+use Rattle.model.specs.Pair.{Pair, add}
 use Rattle.model.specs.Walk.{Arc, Least, LeastPair}
 use Rattle.model.specs.Distance.{Distance, unreachable, finite, plus, agree}
-use Rattle.model.specs.Network.{Edge, Network, order, timed_arcs, arcs, distance, max_nodes}
+use Rattle.model.specs.Network.{Edge, Network, order, timed_arcs, arcs, distance}
 use Rattle.model.specs.Grid.{Grid, Cell}
-use Rattle.model.specs.Access.{crossing_end, crosses, crossings, between, access_nodes}
-use Rattle.theory.specs.Tests.{and, both, eqb-true, true-eqb}
-use Rattle.theory.specs.Members.{filter→, →filter, any→, →any, map→, member→, →member, →up_to}
+use Rattle.model.specs.Access.{crossing_end, crosses, crossings, between}
+use Rattle.theory.specs.Tests.{eqb-true, true-eqb}
+use Rattle.theory.specs.Members.{filter→, map→}
 use Rattle.theory.specs.FarModel.{exact, distance_least}
-use Rattle.theory.specs.Keys.{key_of, key_sum}
-use Rattle.theory.specs.PairModel.{least_pair}
 
 -- a lies on a least walk from p to q: the pairs are d(p, a), d(a, q) and their sum d(p, q). Arcs cost their seconds.
 pub record OnLeastPair (timed : List Arc) (p q a : ℕ) : Type 0 where

@@ -1,6 +1,6 @@
 -- What a built oracle answers: the distance, over the access nodes for a far pair. Assumes nothing.
 use Rattle.std.specs.Prelude.{ℕ, zero, suc, ◌*◌, ◌≤◌, ◌<◌, ◌≡◌, refl, length, get_or}
-use Rattle.std.proofs.Common.{arith, sym, ◌∙◌, ap, subst}
+use Rattle.std.proofs.Common.{arith, ◌∙◌, ap, subst}
 use Rattle.std.proofs.Math.Nat.{le_trans}
 use mathlib.Core.List.{List, [], ◌∷◌, map, Memᴰ}
 use Rattle.std.proofs.Math.ListN.{length-map}
@@ -12,17 +12,15 @@ use Rattle.model.specs.Network.{Edge, network, order, distance}
 use Rattle.model.specs.Grid.{Grid, Cell, cells, cell_at, cell_of, grid_over, division, division_bytes, kind_of}
 use Rattle.model.specs.Access.{access_nodes, access_lists, transit_nodes}
 use Rattle.model.specs.Oracle.{oracle, access_list, access_bytes, table_bytes, transit_count}
-use Rattle.model.specs.Query.{sum_by, far_distance, far_answer, local_answer, kind_between, answer, answer_of, time_answer}
+use Rattle.model.specs.Query.{sum_by, far_distance, local_answer, kind_between, answer, answer_of, time_answer}
 use Rattle.theory.specs.RangeLaws.{length-range}
 use Rattle.theory.specs.FileLaws.{body_file, length_file, concat_bound}
 use Rattle.theory.specs.ReadLaws.{Small, entry_of, list_read, table_read, length_numbers}
 use Rattle.model.specs.declared.Division.{Division}
-use Rattle.model.specs.declared.Kind.TheVariants.{Far, Local}
+use Rattle.model.specs.declared.Kind.TheVariants.{Local}
 use Rattle.theory.specs.Members.{length-filter, →filter, →any, →member, →up_to, get_d_mem, index_of_law}
-use Rattle.theory.specs.GridLaws.{far_gap}
 use Rattle.theory.specs.FarOver.{over}
-use Rattle.theory.specs.FarGrid.{Apart}
-use Rattle.theory.specs.FarModel.{far_model, both_ways, access_node, col, row}
+use Rattle.theory.specs.FarModel.{both_ways, access_node}
 
 -- ---- lists
 

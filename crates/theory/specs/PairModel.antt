@@ -9,7 +9,7 @@ use Rattle.model.specs.Walk.{Arc, Mem, Walk, Least, PairWalk, LeastPair}
 use Rattle.model.specs.Distance.{Distance, unreachable, finite, IsLeast, IsLeastPair}
 use Rattle.model.specs.Network.{Edge, Network, order, timed_of, timed_arcs, arcs_of, arcs, distance, max_nodes}
 use Rattle.theory.specs.Members.{concat_map→, →concat_map}
-use Rattle.theory.specs.Keys.{key_of, keyed, Keyed, pair_of_least, few_hops, decoded_no_walk}
+use Rattle.theory.specs.Keys.{keyed, Keyed, pair_of_least, decoded_no_walk}
 use Rattle.theory.specs.FarModel.{inside, exact}
 
 -- The arcs that distances go by are the timed arcs with their pairs.

@@ -1,19 +1,12 @@
 -- The way in pairs: T-07's "A way is the first by place numbers among the least walks of this order". Assumes nothing.
-use Prim.Native.Nat.{ℕ, suc, ◌≤◌, ◌<◌}
-use Rattle.std.proofs.Common.{arith, ◌∙◌, inl, inr}
+use Prim.Native.Nat.{ℕ, suc}
 use Rattle.std.specs.Prelude.{◌≡◌, ◌⊎◌}
-use Rattle.std.proofs.Math.Path.{refl, sym, ap, subst}
-use mathlib.Core.List.{List, [], ◌∷◌}
 use Rattle.std.proofs.Math.ListN.{length}
 use Rattle.model.specs.Lists.{Distinct}
-use Rattle.model.specs.Pair.{Pair, NoMore, key}
-use Rattle.model.specs.Walk.{Walk, hops, PairWalk, LeastPair, nodes_after, nodes_of, Before}
-use Rattle.model.specs.Network.{Network, order, timed_arcs, arcs, max_nodes}
+use Rattle.model.specs.Pair.{Pair}
+use Rattle.model.specs.Walk.{PairWalk, nodes_of, Before}
+use Rattle.model.specs.Network.{Network, timed_arcs}
 use Rattle.model.specs.Query.{way}
-use Rattle.theory.specs.Keys.{key_of, Timed, keyed_walk, timed_walk}
-use Rattle.theory.specs.PairModel.{same_arcs, none_timed}
-use Rattle.theory.specs.Simple.{nodes_count, distinct}
-use Rattle.theory.specs.NetWays.{Sane, way_least, way_earliest, way_empty}
 
 -- The way from u to t is the nodes of a walk with the pair p, so that it has as many roads as p has hops, it passes no node twice, and each walk with that
 -- pair has the same nodes or comes after it by node numbers.

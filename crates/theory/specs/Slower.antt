@@ -15,7 +15,6 @@ use Rattle.model.specs.Network.{Edge, arcs_of}
 use Rattle.theory.specs.Tests.{both, eqb-true, true-eqb}
 use Rattle.theory.specs.Members.{→concat_map}
 use Rattle.theory.specs.Walks.{Positive}
-use Rattle.theory.specs.Simple.{distinct}
 use Rattle.theory.specs.Sound.{arc_of}
 
 -- ---- the same nodes over other arcs
