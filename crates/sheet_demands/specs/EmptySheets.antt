@@ -22,11 +22,8 @@ use Rattle.model.specs.declared.Answer.TheVariants.{Time, None, Refused}
 use Rattle.model.specs.declared.Route.{Route}
 use Rattle.theory.specs.Passed.{all_shaped}
 use Rattle.theory.specs.Sound.{count_nodes}
-use Rattle.theory.specs.BuiltCalls as plain
 use Rattle.demands.specs.Outcomes.{timed}
 use Rattle.demands.specs.CallLaws as laws
-use Rattle.demands.specs.Written as written
-use Rattle.demands.specs.DemandLaws as demands
 use Rattle.sheet.specs.Sheet.{effects, line_count, line_body, sheet_broken}
 use Rattle.sheet.specs.Under.{still_driven, isNone, old_stands, time_under}
 use Rattle.sheet.specs.SheetCalls.{time_under_rules, time_under_refusal, time_under_result, TimeUnderCall, way_under_refusal, WayUnderCall}
