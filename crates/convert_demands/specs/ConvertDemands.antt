@@ -3,6 +3,8 @@
 -- Convert. What an old network said (`old_network`), the oracle that was built from it (`old_oracle`) and the answers over it (`old_time`, `old_way`, and under
 -- a sheet `old_time_under`, `old_way_under`) are defined in `convert`, Old. The other words used here are defined in `ConvertOutcomes`. Assumes nothing.
 use Rattle.std.specs.Prelude.{ℕ, ◌+◌, ◌*◌, ◌≤◌, ◌<◌, ◌≡◌, refl, true, false, List, [], ◌∷◌, map, length}
+use Rattle.std.proofs.Common.{◌∙◌}
+use Rattle.std.proofs.Math.Path.{ap}
 use Rattle.model.specs.Lists.{any}
 use Rattle.model.specs.Bytes.{Bytes}
 use Rattle.model.specs.Contents.{node_body, edge_body, closed_body, network_edition, network_entries}
@@ -26,7 +28,8 @@ use Rattle.sheet.specs.Sheet.{Effect, lines_in, line_body, effects, sheet_broken
 use Rattle.sheet.specs.Under.{network_under, too_slow, slow_broken, time_under, way_under}
 use Rattle.sheet.specs.SheetCalls.{TimeUnderCall, WayUnderCall}
 use Rattle.convert.specs.Old.{closed_in, is_open, old_network, old_oracle, old_time, old_way, old_under, old_time_under, old_way_under}
-use Rattle.convert.specs.Convert.{edge_record, converted, new_number, kept_lines, converted_sheet, convert_rules, ConvertCall, convert_sheet_rules, ConvertSheetCall}
+use Rattle.convert.specs.Convert.{edge_record, converted, new_number, kept_lines, converted_sheet, convert_rules, convert_refusal, ConvertCall}
+use Rattle.convert.specs.Convert.{convert_sheet_rules, convert_sheet_refusal, ConvertSheetCall}
 use Rattle.convert.proofs.Counts as counts
 use Rattle.convert_demands.specs.ConvertOutcomes.{KeepsSeven, Writes, written, WritesNodes}
 use Rattle.convert_demands.specs.Converted as same
@@ -50,11 +53,17 @@ sheet_order f sheet room = refl
 
 -- What each call hands back and writes, for every input.
 pub convert_writes : {f out out' : Bytes} {r : Output} → ConvertCall f out r out' → Writes (convert_rules f (length out)) (converted f) r out out'
-convert_writes = laws.convert_writes
+unfolding convert_refusal
+convert_writes {f} {out} call =
+    let p = laws.parts (convert_rules f (length out)) (converted f) out call.result call.bytes in
+    record { first = p.0; no_size = p.1; untouched = p.2; size = p.3; bytes = p.4 }
 
 pub sheet_writes : {f sheet out out' : Bytes} {r : Output} → ConvertSheetCall f sheet out r out'
     → Writes (convert_sheet_rules f sheet (length out)) (converted_sheet f sheet) r out out'
-sheet_writes = laws.sheet_writes
+unfolding convert_sheet_refusal
+sheet_writes {f} {sheet} {out} call =
+    let p = laws.parts (convert_sheet_rules f sheet (length out)) (converted_sheet f sheet) out call.result call.bytes in
+    record { first = p.0; no_size = p.1; untouched = p.2; size = p.3; bytes = p.4 }
 
 -- An old network that keeps 1 to 7 is converted where the output has room, and so is a sheet that keeps 18 and 19 over it.
 pub convert_succeeds : {f out out' : Bytes} {r : Output} → ConvertCall f out r out' → KeepsSeven f → length (converted f) ≤ length out → r.rule ≡ 0
@@ -76,7 +85,9 @@ module _ (f : Bytes) (keeps : KeepsSeven f) where
   -- The road that had number i, if open, has its new number, byte for byte. New numbers stand in the old order, and each below the new count is taken ..
   module _ (i : ℕ) (h : i < edge_count (edge_body f)) (o : is_open (closed_in f) i ≡ true) where
     pub road_renumbered : edge (edge_body (converted f)) (new_number (closed_in f) i) ≡ edge (edge_body f) i
-    road_renumbered = same.edge_renumbered f sound i h o
+    road_renumbered =
+        let (below, at) = same.place f sound i h o in
+        same.edge_at f sound (new_number (closed_in f) i) below ∙ ap (edge (edge_body f)) at
 
     pub bytes_renumbered : edge_record (edge_body (converted f)) (new_number (closed_in f) i) ≡ edge_record (edge_body f) i
     bytes_renumbered = same.record_renumbered f sound i h o
@@ -171,7 +182,7 @@ module _ (f : Bytes) (keeps : KeepsSeven f) (sheet : Bytes) (are : AreBytes shee
   lines_kept = sheets.lines_same f (sound f keeps) sheet are
 
   pub effect_renumbered : (i : ℕ) → is_open (closed_in f) i ≡ true → effects (converted_sheet f sheet) (new_number (closed_in f) i) ≡ effects sheet i
-  effect_renumbered = sheets.effect_renumbered f (sound f keeps) sheet are
+  effect_renumbered = sheets.effect_kept f (sound f keeps) sheet are
 
   pub roads_same : network_under (effects (converted_sheet f sheet)) (converted f) ≡ old_under (effects sheet) f
   roads_same = sheets.under_same f (sound f keeps) sheet are

@@ -1,5 +1,5 @@
 -- The proofs of what `ConvertDemands` states over the calls. Assumes nothing.
-use Rattle.std.specs.Prelude.{ℕ, ◌*◌, ◌≤◌, ◌<◌, ◌≡◌, refl, true, false, length}
+use Rattle.std.specs.Prelude.{ℕ, ◌*◌, ◌≤◌, ◌<◌, ◌≡◌, refl, true, false, length, drop}
 use Rattle.std.proofs.Common.{arith, ◌∙◌, le-ltb, ne_eqb}
 use Rattle.std.proofs.Math.Path.{sym, ap}
 use mathlib.Core.List.{List, [], ◌∷◌, ◌++◌}
@@ -23,7 +23,7 @@ use Rattle.model.specs.declared.Route.{Route}
 use Rattle.theory.specs.Firsts.{first_append, split, stops, goes, none, one_kept}
 use Rattle.theory.specs.Passed.{Rest, Sound, network_passed, network_counted, all_passed}
 use Rattle.theory.specs.BuiltCalls as calls
-use Rattle.demands.specs.Outcomes.{handed}
+use Rattle.demands.specs.Outcomes.{FirstOf, handed}
 use Rattle.demands.specs.CallLaws as outcomes
 use Rattle.demands.specs.DemandLaws as demands
 use Rattle.sheet.specs.Sheet.{sheet_broken, names_broken}
@@ -52,29 +52,38 @@ module _ (rules : List Rule) (result out : Bytes) {r : Output} {out' : Bytes} (h
   pub number : r.rule ≡ k
   number = ap (λ (x : Output). x.rule) hands ∙ size_rule k result
 
-  pub writes : Writes rules result r out out'
+  -- What `Writes` says, clause by clause.
+  pub parts : FirstOf rules r.rule × ((r.rule ≡ 0 → ⊥) → r.size ≡ 0) × ((r.rule ≡ 0 → ⊥) → out' ≡ out) × (r.rule ≡ 0 → r.size ≡ length result)
+      × (r.rule ≡ 0 → out' ≡ result ++ drop (length result) out)
   unfolding size_after output_after
-  writes = record {
-    first = rw number (outcomes.first_of rules);
-    no_size = λ n. ap (λ (x : Output). x.size) hands ∙ rw (ne_eqb k 0 (λ e. n (number ∙ e)));
-    untouched = λ n. leaves ∙ rw (ne_eqb k 0 (λ e. n (number ∙ e)));
-    size = λ e. ap (λ (x : Output). x.size) hands ∙ rw (sym number ∙ e);
-    bytes = λ e. leaves ∙ rw (sym number ∙ e);
-  }
+  parts = (
+    rw number (outcomes.first_of rules),
+    λ n. ap (λ (x : Output). x.size) hands ∙ rw (ne_eqb k 0 (λ e. n (number ∙ e))),
+    λ n. leaves ∙ rw (ne_eqb k 0 (λ e. n (number ∙ e))),
+    λ e. ap (λ (x : Output). x.size) hands ∙ rw (sym number ∙ e),
+    λ e. leaves ∙ rw (sym number ∙ e),
+  )
+
+  pub writes : Writes rules result r out out'
+  writes = let p = parts in record { first = p.0; no_size = p.1; untouched = p.2; size = p.3; bytes = p.4 }
 
   pub written_is : r.rule ≡ 0 → written r out' ≡ result
   written_is e =
-      let w = writes in
-      rw (w.size e, leaves, sym number ∙ e) (outcomes.front_done result out)
+      let p = parts in
+      rw (p.3 e, leaves, sym number ∙ e) (outcomes.front_done result out)
 
 pub convert_writes : {f out out' : Bytes} {r : Output} → ConvertCall f out r out' → Writes (convert_rules f (length out)) (converted f) r out out'
 unfolding convert_refusal
-convert_writes {f} {out} call = writes (convert_rules f (length out)) (converted f) out call.result call.bytes
+convert_writes {f} {out} call =
+    let p = parts (convert_rules f (length out)) (converted f) out call.result call.bytes in
+    record { first = p.0; no_size = p.1; untouched = p.2; size = p.3; bytes = p.4 }
 
 pub sheet_writes : {f sheet out out' : Bytes} {r : Output} → ConvertSheetCall f sheet out r out'
     → Writes (convert_sheet_rules f sheet (length out)) (converted_sheet f sheet) r out out'
 unfolding convert_sheet_refusal
-sheet_writes {f} {sheet} {out} call = writes (convert_sheet_rules f sheet (length out)) (converted_sheet f sheet) out call.result call.bytes
+sheet_writes {f} {sheet} {out} call =
+    let p = parts (convert_sheet_rules f sheet (length out)) (converted_sheet f sheet) out call.result call.bytes in
+    record { first = p.0; no_size = p.1; untouched = p.2; size = p.3; bytes = p.4 }
 
 -- Where the rules before 15 are kept and the output has room, nothing is refused.
 pub convert_succeeds : {f out out' : Bytes} {r : Output} → ConvertCall f out r out' → KeepsSeven f → length (converted f) ≤ length out → r.rule ≡ 0

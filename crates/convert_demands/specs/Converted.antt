@@ -129,7 +129,7 @@ module _ (f : Bytes) (sound : Sound f) where
 
   -- "Gives each remaining road its old number less the closed ones before it."
   module _ (i : ℕ) (h : i < edge_count b) (o : is_open (closed_in f) i ≡ true) where
-    place : (new_number (closed_in f) i < length open_ones) × (get_or open_ones (new_number (closed_in f) i) 0 ≡ i)
+    pub place : (new_number (closed_in f) i < length open_ones) × (get_or open_ones (new_number (closed_in f) i) 0 ≡ i)
     unfolding open_in open_of
     place = has_number (closed_in f) rises (edge_count b) i h o
 

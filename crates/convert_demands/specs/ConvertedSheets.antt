@@ -135,12 +135,16 @@ module _ (f : Bytes) (sound : Sound f) (sheet : Bytes) (are : AreBytes sheet) wh
   unfolding open_in open_of
   number j h = kept_number closed rises m j h
 
-  pub effect_renumbered : (i : ℕ) → is_open closed i ≡ true → effects (converted_sheet f sheet) (new_number closed i) ≡ effects sheet i
+  -- What is done to an open edge, for the laws below. `effect_renumbered` states it once more: nothing rests on that one.
+  pub effect_kept : (i : ℕ) → is_open closed i ≡ true → effects (converted_sheet f sheet) (new_number closed i) ≡ effects sheet i
   unfolding effects
-  effect_renumbered i o = rw lines_same (lines.holds_alike closed rises old_lines i o)
+  effect_kept i o = rw lines_same (lines.holds_alike closed rises old_lines i o)
+
+  pub effect_renumbered : (i : ℕ) → is_open closed i ≡ true → effects (converted_sheet f sheet) (new_number closed i) ≡ effects sheet i
+  effect_renumbered = effect_kept
 
   effect_same : (j : ℕ) → j < length open_ones → effects (converted_sheet f sheet) j ≡ effects sheet (get_or open_ones j 0)
-  effect_same j h = ap (effects (converted_sheet f sheet)) (sym (number j h)) ∙ effect_renumbered (get_or open_ones j 0) (opened j h)
+  effect_same j h = ap (effects (converted_sheet f sheet)) (sym (number j h)) ∙ effect_kept (get_or open_ones j 0) (opened j h)
 
   edges_same : edges_under (effects (converted_sheet f sheet)) (edge_body (converted f)) ≡ concat_map (left_of (effects sheet) (edge_body f)) open_ones
   unfolding edges_under

@@ -1,11 +1,11 @@
--- The nodes of the legs one leg after the other, and what the rules of the legs give when none is broken. Assumes nothing.
+-- The nodes of the legs one leg after the other, and what the rules of the legs give when none is broken (with rule 14: `KeptLaws`). Assumes nothing.
 use Rattle.std.specs.Prelude.{ℕ, ◌≤◌, ◌<◌, ◌≡◌, refl, Bool, true, false, ◌||◌, List, [], ◌∷◌, ltb}
 use Rattle.std.proofs.Common.{arith, sym, ◌∙◌, ltb-false, leb-false}
 use Rattle.model.specs.Lists.{any, up_to, concat_map}
 use Rattle.model.specs.Bytes.{Bytes}
 use Rattle.model.specs.Contents.{node_body}
 use Rattle.model.specs.Network.{node_count}
-use Rattle.model.specs.Rules.{first_broken, network_rules, shape_rules, well_shaped, no_such_node, work_too_small, words_needed}
+use Rattle.model.specs.Rules.{first_broken, network_rules, shape_rules, well_shaped, no_such_node, words_needed}
 use Rattle.theory.specs.Firsts.{counted, split}
 use Rattle.theory.specs.Members.{none_any, →up_to, →map}
 use Rattle.theory.specs.Passed.{shape_counted, or-false}
@@ -65,9 +65,3 @@ legs_kept o b h =
 pub record OpenKept (o b : Bytes) (words : ℕ) : Type 0 where
   pub legs : LegsKept o b
   pub enough : words_needed o ≤ words
-
-pub open_kept : (o b : Bytes) (words : ℕ) → first_broken (open_rules o b words) ≡ 0 → OpenKept o b words
-unfolding open_rules work_too_small
-open_kept o b words h =
-    let p = split (legs_rules o b) 14 (work_too_small o words) (legs_counted o b) (omega arith) h in
-    record { legs = legs_kept o b p.0; enough = ltb-false words (words_needed o) p.1 }

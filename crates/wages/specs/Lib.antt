@@ -6,5 +6,4 @@ pub mod Trials
 pub mod Kept
 pub mod Tallies
 pub mod Sizes
-pub mod Written
 pub mod WagesLaws

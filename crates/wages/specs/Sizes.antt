@@ -1,6 +1,6 @@
 -- How long the sheet is: known from the legs alone. Assumes nothing.
-use Rattle.std.specs.Prelude.{ℕ, ◌+◌, ◌*◌, ◌≡◌, List, ◌++◌, map, length}
-use Rattle.std.proofs.Common.{◌∙◌, ap, append_assoc, length-append}
+use Rattle.std.specs.Prelude.{ℕ, ◌+◌, ◌*◌, ◌≡◌, refl, List, ◌++◌, map, length}
+use Rattle.std.proofs.Common.{arith, ◌∙◌, ap, append_assoc, length-append}
 use Rattle.std.proofs.lemmas.List.{length-map}
 use Rattle.model.specs.Lists.{up_to, concat_map}
 use Rattle.model.specs.Bytes.{Bytes, bytes16, bytes32, bytes64}
@@ -19,10 +19,11 @@ pub length_fours : (ts : List ℕ) → length (concat_map bytes32 ts) ≡ time_s
 length_fours ts = length_concat_map bytes32 time_size length_32 ts
 
 length_times : (ts : List ℕ) → length (times_bytes ts) ≡ time_size * length ts + tally_size
-unfolding bytes64 bytes32 bytes16
-length_times ts =
-    ap length (times_parts ts) ∙ (length-append (concat_map bytes32 ts) (bytes32 (marked ts) ++ bytes64 (total_of ts))
-    ∙ ap (λ (n : ℕ). n + tally_size) (length_fours ts))
+unfolding times_bytes bytes64 bytes32 bytes16
+length_times ts = whole _ _ _ (length_fours ts) refl
+  where
+    whole : (a c d : Bytes) → length a ≡ time_size * length ts → length c + length d ≡ tally_size → length (a ++ c ++ d) ≡ time_size * length ts + tally_size
+    whole a c d p q = omega (arith, length-append (a ++ c) d, length-append a c, p, q)
 
 pub count_times : (o b : Bytes) → length (leg_times o b) ≡ leg_count b
 unfolding leg_times legs

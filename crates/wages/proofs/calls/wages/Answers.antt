@@ -1,7 +1,7 @@
 -- `calls::wages` meets its contract.
 use mathlib.Core.Path.{◌∙◌, sym}
 use Rattle.opened.proofs.OpenLaws.{stays}
-use Rattle.wages.specs.Kept.{open_kept}
+use Rattle.wages.proofs.KeptLaws.{open_kept}
 use Rattle.wages.proofs.Results.{wages_refused, wages_given}
 use borrow.Author.Rules.{rules}
 use Rattle.wages.proofs.calls.wages.Goals as goal

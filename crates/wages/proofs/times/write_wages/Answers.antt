@@ -26,12 +26,12 @@ write_leg-tally-requires c =
 
 pub loop-i-preserved : goal.loop-i-preserved
 loop-i-preserved c = (
-      c.loop-i.invariant.0,
-      search rules,
-      c.write_leg-tally.ensures.others ∙ c.loop-i.invariant.2,
-      search rules,
-      paying_next _ _ _ c.requires.1 _ _ _ _ _ (omega (arith, c.loop-i.invariant.0, c.loop-i-test.true)) c.loop-i.invariant.4 c.write_leg-tally.ensures.tally c.write_leg-tally.ensures.bytes,
-    )
+  c.loop-i.invariant.0,
+  search rules,
+  c.write_leg-tally.ensures.others ∙ c.loop-i.invariant.2,
+  search rules,
+  paying_next _ _ _ c.requires.1 _ _ _ _ _ (omega (arith, c.loop-i.invariant.0, c.loop-i-test.true)) c.loop-i.invariant.4 c.write_leg-tally.ensures.tally c.write_leg-tally.ensures.bytes,
+)
 
 pub write_tally-requires : goal.write_tally-requires
 write_tally-requires c = omega (arith, c.loop-i.invariant.3, c.loop-i.invariant.4.far, c.requires.2)
