@@ -14,8 +14,11 @@ inner_square-requires c = bounded c.requires.ground.0.over
 pub put_crossings-requires : goal.put_crossings-requires
 put_crossings-requires c =
     let a = c.args in
-    record { n_value = (c.requires.ground.1, c.requires.ground.2, search rules, c.requires.ground.4, omega arith); indexed_edges = roads_from a.edges.now a.n a.work.now _ (region_at a.n transit) (omega arith)
-          c.cell_gather.ensures.others c.requires.indexed_edges }
+    record {
+      n_value = (c.requires.ground.1, c.requires.ground.2, search rules, c.requires.ground.4, omega arith);
+      indexed_edges = roads_from a.edges.now a.n a.work.now _ (region_at a.n transit) (omega arith)
+          c.cell_gather.ensures.others c.requires.indexed_edges;
+    }
 
 pub returns : goal.returns
 returns c =

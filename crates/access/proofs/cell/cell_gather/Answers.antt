@@ -19,8 +19,11 @@ outer_square-requires c = bounded c.requires.ground.0.over
 pub put_crossings-requires-2 : goal.put_crossings-requires-2
 put_crossings-requires-2 c =
     let a = c.args in
-    record { n_value = (c.requires.ground.1, c.requires.ground.2, search rules, c.requires.ground.4, omega arith); indexed_edges = roads_only a.edges.now a.n a.work.now _ _ _ (omega arith)
-          c.put_crossings.ensures.others c.requires.indexed_edges }
+    record {
+      n_value = (c.requires.ground.1, c.requires.ground.2, search rules, c.requires.ground.4, omega arith);
+      indexed_edges = roads_only a.edges.now a.n a.work.now _ _ _ (omega arith)
+          c.put_crossings.ensures.others c.requires.indexed_edges;
+    }
 
 pub gather-requires : goal.gather-requires
 gather-requires c =

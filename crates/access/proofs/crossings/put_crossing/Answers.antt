@@ -20,11 +20,14 @@ unfolding crossing_end
 put-requires c = (omega (arith, (edge_fine _ _ c.requires.1 c.args.i c.requires.2).first_in, c.crossing_end.ensures), search rules)
 
 pub returns-then-crosses_edge : goal.returns-then-crosses_edge
-returns-then-crosses_edge c = record { members = c.put.ensures.members ∙ rw (
+returns-then-crosses_edge c = record {
+  members = c.put.ensures.members ∙ rw (
     c.crossing_end.ensures,
     ← c.crosses_edge.ensures,
     c.if-crosses_edge.true,
-  ); others = c.put.ensures.others }
+  );
+  others = c.put.ensures.others;
+}
 
 pub returns-else-crosses_edge : goal.returns-else-crosses_edge
 returns-else-crosses_edge c = record { members = rw (← c.crosses_edge.ensures, c.if-crosses_edge.false); others = only_same _ _ _ }

@@ -26,20 +26,23 @@ has-requires c = omega (arith, c.requires.n_value.0)
 pub put_crossings_at-requires : goal.put_crossings_at-requires
 put_crossings_at-requires c =
     let a = c.args in
-    record { n_value = (c.requires.n_value.0, c.requires.n_value.1, omega (arith, c.loop-v.invariant.0, c.clear.auto.work, c.requires.n_value.2), search rules, c.requires.n_value.4); indexed_edges = roads_only a.edges.now a.n a.work.now c.loop-v.work _ _ c.requires.n_value.4
-          (only_then _ _ a.work.now _ c.loop-v.work c.clear.ensures.others c.loop-v.invariant.1.others) c.requires.indexed_edges }
+    record {
+      n_value = (c.requires.n_value.0, c.requires.n_value.1, omega (arith, c.loop-v.invariant.0, c.clear.auto.work, c.requires.n_value.2), search rules, c.requires.n_value.4);
+      indexed_edges = roads_only a.edges.now a.n a.work.now c.loop-v.work _ _ c.requires.n_value.4
+          (only_then _ _ a.work.now _ c.loop-v.work c.clear.ensures.others c.loop-v.invariant.1.others) c.requires.indexed_edges;
+    }
 
 pub loop-v-preserved : goal.loop-v-preserved
 loop-v-preserved c = elim c.if-has.branch [
-      then-has w ↦ (
-        ap length w.work-is ∙ (w.put_crossings_at.auto.work ∙ c.loop-v.invariant.0),
-        rw w.work-is (inside_next _ _ _ _ _ _ c.loop-v.v c.loop-v.work c.loop-v.invariant.1 _ w.put_crossings_at.ensures),
-      )
-      | else-has w ↦ (
-        ap length w.work-is ∙ c.loop-v.invariant.0,
-        rw w.work-is (outside_next _ _ _ _ _ _ c.loop-v.v c.loop-v.work c.loop-v.invariant.1 (sym w.if-has.false ∙ c.has.ensures)),
-      )
-    ]
+  | then-has w ↦ (
+    ap length w.work-is ∙ (w.put_crossings_at.auto.work ∙ c.loop-v.invariant.0),
+    rw w.work-is (inside_next _ _ _ _ _ _ c.loop-v.v c.loop-v.work c.loop-v.invariant.1 _ w.put_crossings_at.ensures),
+  )
+  | else-has w ↦ (
+    ap length w.work-is ∙ c.loop-v.invariant.0,
+    rw w.work-is (outside_next _ _ _ _ _ _ c.loop-v.v c.loop-v.work c.loop-v.invariant.1 (sym w.if-has.false ∙ c.has.ensures)),
+  )
+]
 
 pub returns : goal.returns
 returns c =

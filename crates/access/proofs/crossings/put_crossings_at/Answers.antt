@@ -24,11 +24,11 @@ loop-c-smaller c = c.next_edge-c.ensures.less
 
 pub loop-c-preserved : goal.loop-c-preserved
 loop-c-preserved c = (
-      c.loop-c.invariant.0,
-      search rules,
-      walked_next _ _ _ _ _ _ _ _ c.loop-c.work c.loop-c.invariant.2 c.requires.n_value.4 _ c.put_crossing.ensures.others c.requires.indexed_edges.ends
-          (omega (arith, c.loop-c.invariant.0)) c.put_crossing.ensures.members _ c.next_edge-c.ensures,
-    )
+  c.loop-c.invariant.0,
+  search rules,
+  walked_next _ _ _ _ _ _ _ _ c.loop-c.work c.loop-c.invariant.2 c.requires.n_value.4 _ c.put_crossing.ensures.others c.requires.indexed_edges.ends
+      (omega (arith, c.loop-c.invariant.0)) c.put_crossing.ensures.members _ c.next_edge-c.ensures,
+)
 
 pub returns : goal.returns
 returns c = walked_last _ _ _ _ _ _ _ _ _ c.loop-c.invariant.2 (omega (arith, c.loop-c.invariant.0))

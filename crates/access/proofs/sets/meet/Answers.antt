@@ -19,13 +19,13 @@ overflow_add-z c = omega (arith, c.region_at-z.ensures, c.set_words-m.ensures)
 
 pub meet_word-requires : goal.meet_word-requires
 meet_word-requires c = omega (
-      arith,
-      c.region_at-x.ensures,
-      c.region_at-y.ensures,
-      c.region_at-z.ensures,
-      c.set_words-m.ensures,
-      c.loop-i.invariant.size,
-    )
+  arith,
+  c.region_at-x.ensures,
+  c.region_at-y.ensures,
+  c.region_at-z.ensures,
+  c.set_words-m.ensures,
+  c.loop-i.invariant.size,
+)
 
 pub overflow_add-i : goal.overflow_add-i
 overflow_add-i c = omega (arith, c.set_words-m.ensures)
@@ -43,5 +43,8 @@ loop-i-preserved c =
 pub returns : goal.returns
 returns c =
     let a = c.args in
-    record { members = meet_last a.n a.a a.b a.into a.work.now c.loop-i.i c.loop-i.work c.loop-i.invariant
-          (omega (arith, c.set_words-m.ensures, c.loop-i-test.false)); others = c.loop-i.invariant.others }
+    record {
+      members = meet_last a.n a.a a.b a.into a.work.now c.loop-i.i c.loop-i.work c.loop-i.invariant
+          (omega (arith, c.set_words-m.ensures, c.loop-i-test.false));
+      others = c.loop-i.invariant.others;
+    }

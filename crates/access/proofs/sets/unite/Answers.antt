@@ -16,12 +16,12 @@ overflow_add-y c = omega (arith, c.region_at-y.ensures, c.set_words-m.ensures)
 
 pub unite_word-requires : goal.unite_word-requires
 unite_word-requires c = omega (
-      arith,
-      c.region_at-x.ensures,
-      c.region_at-y.ensures,
-      c.set_words-m.ensures,
-      c.loop-i.invariant.size,
-    )
+  arith,
+  c.region_at-x.ensures,
+  c.region_at-y.ensures,
+  c.set_words-m.ensures,
+  c.loop-i.invariant.size,
+)
 
 pub overflow_add-i : goal.overflow_add-i
 overflow_add-i c = omega (arith, c.set_words-m.ensures)
@@ -37,5 +37,8 @@ loop-i-preserved c =
 pub returns : goal.returns
 returns c =
     let a = c.args in
-    record { members = unite_last a.n a.from a.into a.work.now c.requires.2 c.loop-i.i c.loop-i.work c.loop-i.invariant
-          (omega (arith, c.set_words-m.ensures, c.loop-i-test.false)); others = c.loop-i.invariant.others }
+    record {
+      members = unite_last a.n a.from a.into a.work.now c.requires.2 c.loop-i.i c.loop-i.work c.loop-i.invariant
+          (omega (arith, c.set_words-m.ensures, c.loop-i-test.false));
+      others = c.loop-i.invariant.others;
+    }

@@ -19,8 +19,11 @@ loop-i-init c =
 pub mark_at-requires : goal.mark_at-requires
 mark_at-requires c =
     let a = c.args in
-    let k = c.clear.auto.work in record { n_le_max_nodes = (search rules, search rules, omega (arith, c.loop-i.invariant.size, k), node_in _ _ _ _ c.requires.n_le_max_nodes.4 (omega (arith, k)) c.loop-i.i c.loop-i.work c.loop-i.invariant (search rules)); indexed_edges = roads_only a.edges.now a.n a.work.now c.loop-i.work _ _ (omega arith)
-          (only_then _ _ a.work.now _ c.loop-i.work c.clear.ensures.others c.loop-i.invariant.others) c.requires.indexed_edges }
+    let k = c.clear.auto.work in record {
+      n_le_max_nodes = (search rules, search rules, omega (arith, c.loop-i.invariant.size, k), node_in _ _ _ _ c.requires.n_le_max_nodes.4 (omega (arith, k)) c.loop-i.i c.loop-i.work c.loop-i.invariant (search rules));
+      indexed_edges = roads_only a.edges.now a.n a.work.now c.loop-i.work _ _ (omega arith)
+          (only_then _ _ a.work.now _ c.loop-i.work c.clear.ensures.others c.loop-i.invariant.others) c.requires.indexed_edges;
+    }
 
 pub loop-i-preserved : goal.loop-i-preserved
 loop-i-preserved c =

@@ -1,7 +1,6 @@
 -- `cursor::block_at` meets its contract: the bounds of the block, cut at the last edge.
 use native.Mathlib.Nat.{mul-le-mul}
 use native.Mathlib.Omega.{arith}
-use borrow.Author.Rules.{rules}
 use Rattle.arcs.proofs.cursor.block_at.Goals as goal
 
 pub overflow_mul-start : goal.overflow_mul-start

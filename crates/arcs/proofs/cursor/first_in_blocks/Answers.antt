@@ -1,5 +1,4 @@
 -- `cursor::first_in_blocks` meets its contract: what is listed, or every edge where there are no chains.
-use borrow.Author.Rules.{rules}
 use Rattle.arcs.proofs.Step.{blocks_seeking, blocks_passing}
 use Rattle.arcs.proofs.cursor.first_in_blocks.Goals as goal
 

@@ -1,9 +1,6 @@
 -- `cursor::first_incident` meets its contract: every edge passed has no end at the node.
 use Prim.Native.Nat.{ℕ, ◌≤◌, ◌<◌, ◌-◌}
-use native.Mathlib.Omega.{arith}
-use borrow.Author.Rules.{rules}
 use Rattle.index.specs.Index.{Incident}
-use Rattle.arcs.proofs.Seek.{none_more}
 use Rattle.arcs.proofs.cursor.first_incident.Given as goal
 
 abbrev pub invariant-loop-r : goal.invariant-loop-r

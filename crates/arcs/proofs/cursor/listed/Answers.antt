@@ -1,7 +1,6 @@
 -- `cursor::listed` meets its contract: the entry tells its edge.
 use native.Mathlib.Omega.{arith}
 use mathlib.Core.Path.{refl}
-use borrow.Author.Rules.{rules}
 use Rattle.model.specs.Network.{edge_count}
 use Rattle.arcs.proofs.cursor.listed.Goals as goal
 

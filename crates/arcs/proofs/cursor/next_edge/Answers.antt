@@ -1,6 +1,5 @@
 -- `cursor::next_edge` meets its contract: what is listed from the next entry on, or what comes in the blocks.
 use native.Mathlib.Omega.{arith}
-use borrow.Author.Rules.{rules}
 use Rattle.model.specs.Network.{edge_count}
 use Rattle.arcs.proofs.Step.{seeking_on, next_inside, sought_next, stepped}
 use Rattle.arcs.proofs.cursor.next_edge.Goals as goal

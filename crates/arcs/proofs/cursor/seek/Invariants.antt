@@ -1,11 +1,6 @@
 -- `cursor::seek` meets its contract: no edge is left behind from block to block.
-use native.Mathlib.Omega.{arith}
-use mathlib.Core.Path.{subst, sym, ap, ◌∙◌}
-use Rattle.model.specs.Network.{edge_count}
-use Rattle.arcs.proofs.Seek.{size_small, link_inside, same_block, block_on, onward_self, onward_then, sought_none, sought_found}
 use Rattle.arcs.specs.Cursor.{rank}
 use Rattle.arcs.specs.Seeking.{Onward}
-use Rattle.arcs.specs.declared.cursor.Cursor.{Cursor}
 use Rattle.arcs.proofs.cursor.seek.Given as goal
 
 abbrev pub invariant-loop-s : goal.invariant-loop-s

@@ -1,5 +1,4 @@
 -- `cursor::within_block` meets its contract: what is passed in the block is not to come.
-use borrow.Author.Rules.{rules}
 use Rattle.arcs.proofs.Seek.{since_within}
 use Rattle.arcs.proofs.cursor.within_block.Goals as goal
 

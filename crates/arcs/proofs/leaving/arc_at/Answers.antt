@@ -1,7 +1,6 @@
 -- `leaving::arc_at` meets its contract: the edge has one arc that leaves u, to its other end.
 use Prim.Native.Nat.{◌<◌}
 use native.Mathlib.Omega.{arith}
-use borrow.Author.Rules.{rules}
 use Rattle.model.specs.Network.{edge_count}
 use Rattle.theory.specs.Sound.{edge_fine}
 use Rattle.arcs.proofs.Passes.{left_none, plain_some}

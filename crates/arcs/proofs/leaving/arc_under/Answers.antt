@@ -1,6 +1,5 @@
 -- `leaving::arc_under` meets its contract: without lines every edge is left as it is.
 use native.Mathlib.Omega.{arith}
-use borrow.Author.Rules.{rules}
 use Rattle.arcs.proofs.Passes.{no_bytes, first_arc_here}
 use Rattle.arcs.proofs.leaving.arc_under.Goals as goal
 

@@ -1,5 +1,4 @@
 -- `leaving::next_under` meets its contract: without lines the walk is the plain one.
-use borrow.Author.Rules.{rules}
 use Rattle.arcs.proofs.Passes.{no_bytes}
 use Rattle.arcs.proofs.leaving.next_under.Goals as goal
 

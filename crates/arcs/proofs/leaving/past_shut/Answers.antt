@@ -1,6 +1,6 @@
 -- `leaving::past_shut` meets its contract: the edges that are passed have no arc left.
 use native.Mathlib.Omega.{arith}
-use Rattle.arcs.specs.Leaving.{cursor_of, LeftAt, SkippedTo, arc_rank}
+use Rattle.arcs.specs.Leaving.{arc_rank}
 use Rattle.arcs.proofs.Passes.{shut_edge, skip_none, skip_more, first_arc}
 use Rattle.arcs.proofs.leaving.past_shut.Goals as goal
 

@@ -6,7 +6,6 @@ use Rattle.model.specs.Bytes.{Bytes}
 use Rattle.theory.specs.Passed.{all_shaped}
 use Rattle.checks.specs.Grids.{oracle_grid}
 use Rattle.checks.proofs.OracleGrid.{grid_size}
-use borrow.Author.Rules.{rules}
 use Rattle.checks.proofs.kinds.grid_of.Goals as goal
 
 pub read_division-dv-requires : goal.read_division-dv-requires

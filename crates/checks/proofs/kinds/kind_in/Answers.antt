@@ -2,7 +2,6 @@
 use mathlib.Core.Path.{◌∙◌}
 use Rattle.theory.specs.Passed.{all_shaped}
 use Rattle.checks.proofs.OracleGrid.{over_oracle, kind_is}
-use borrow.Author.Rules.{rules}
 use Rattle.checks.proofs.kinds.kind_in.Goals as goal
 
 pub cell-requires : goal.cell-requires

@@ -3,7 +3,6 @@ use mathlib.Core.Path.{sym, ◌∙◌, refl}
 use Rattle.checks.specs.RuleLists.{named_rules}
 use Rattle.checks.proofs.NameLists.{some_missing, two_lists}
 use Rattle.checks.proofs.CheckOrder.{decides_shaped, first_part, second_part}
-use borrow.Author.Rules.{rules}
 use Rattle.checks.proofs.names.named_lists_refusal.Goals as goal
 
 pub returns-then-some_missing : goal.returns-then-some_missing

@@ -1,13 +1,9 @@
 -- `names::some_missing` meets its contract.
 use native.Mathlib.Omega.{arith}
 use Rattle.checks.proofs.NameLists.{scan_found, scan_passed, scan_end}
-use Rattle.model.specs.Lists.{any}
 use borrow.Author.Tests.{le-leb, lt-leb}
 use lib.Dec.{leb}
-use lib.ListN.{length, drop}
-use mathlib.Core.Path.{◌≡◌, refl, sym, ◌∙◌}
-use Prim.Native.Nat.{◌-◌}
-use borrow.Author.Rules.{rules}
+use mathlib.Core.Path.{refl, sym, ◌∙◌}
 use Rattle.checks.proofs.names.some_missing.Goals as goal
 
 pub loop-i-init : goal.loop-i-init

@@ -5,7 +5,6 @@ use Rattle.theory.specs.Passed.{shape_counted}
 use Rattle.checks.proofs.RulesKept.{shaped}
 use Rattle.checks.proofs.NameLists.{missing_is}
 use Rattle.checks.proofs.CheckOrder.{sooner, decides}
-use borrow.Author.Rules.{rules}
 use Rattle.checks.proofs.refusals.list_refusal.Goals as goal
 
 pub returns-then-r-ne0 : goal.returns-then-r-ne0

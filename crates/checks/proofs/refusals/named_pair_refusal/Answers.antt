@@ -4,7 +4,6 @@ use borrow.Author.Tests.{le-leb, lt-leb}
 use Rattle.model.specs.Rules.{pair_rules}
 use Rattle.checks.proofs.NameLists.{missing_is}
 use Rattle.checks.proofs.CheckOrder.{decides_shaped, first_part, second_part}
-use borrow.Author.Rules.{rules}
 use Rattle.checks.proofs.refusals.named_pair_refusal.Goals as goal
 
 pub returns-then-n-s : goal.returns-then-n-s

@@ -3,7 +3,6 @@ use mathlib.Core.Path.{sym, ◌∙◌}
 use Rattle.model.specs.Rules.{pair_rules}
 use Rattle.checks.proofs.RulesKept.{shaped}
 use Rattle.checks.proofs.CheckOrder.{sooner}
-use borrow.Author.Rules.{rules}
 use Rattle.checks.proofs.refusals.pair_refusal.Goals as goal
 
 pub returns-then-r-ne0 : goal.returns-then-r-ne0

@@ -3,7 +3,6 @@ use Rattle.checks.proofs.RulesKept.{too_few}
 use Rattle.theory.specs.Sound.{node_bytes}
 use Rattle.theory.specs.Passed.{all_shaped}
 use native.Mathlib.Omega.{arith}
-use borrow.Author.Rules.{rules}
 use Rattle.checks.proofs.room.work_too_small.Goals as goal
 
 pub overflow_mul-result : goal.overflow_mul-result

@@ -5,7 +5,6 @@ use Rattle.model.specs.Rules.{words_needed}
 use Rattle.theory.specs.Sound.{node_bytes}
 use Rattle.theory.specs.Passed.{all_shaped}
 use Rattle.checks.proofs.AfterCall.{needed}
-use borrow.Author.Rules.{rules}
 use Rattle.checks.proofs.room.zero_words.Goals as goal
 
 pub overflow_mul-node_count : goal.overflow_mul-node_count

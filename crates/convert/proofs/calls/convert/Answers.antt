@@ -3,7 +3,6 @@ use native.Mathlib.Omega.{arith}
 use Rattle.theory.specs.Joined.{whole_contents}
 use Rattle.model.specs.Contents.{network_edition, network_entries}
 use Rattle.convert.proofs.Passing.{old_passed, old_contents, convert_refused, bodies_passed, convert_given}
-use borrow.Author.Rules.{rules}
 use Rattle.convert.proofs.calls.convert.Goals as goal
 
 pub returns-then-rule-ne0 : goal.returns-then-rule-ne0

@@ -4,7 +4,6 @@ use Rattle.theory.specs.Joined.{whole_contents}
 use Rattle.model.specs.Contents.{network_edition, network_entries}
 use Rattle.sheet.proofs.Forms.{kept_form}
 use Rattle.convert.proofs.Passing.{sheet_refused, lines_passed, closed_passed, sheet_given, lines_small}
-use borrow.Author.Rules.{rules}
 use Rattle.convert.proofs.calls.convert_sheet.Goals as goal
 
 pub returns-then-rule-ne0 : goal.returns-then-rule-ne0

@@ -2,7 +2,6 @@
 use native.Mathlib.Omega.{arith}
 use Rattle.convert.proofs.Leaving.{length_open}
 use Rattle.convert.proofs.Results.{length_network, given_short, given_whole}
-use borrow.Author.Rules.{rules}
 use Rattle.convert.proofs.network.leave_out.Goals as goal
 
 pub overflow_sub-left : goal.overflow_sub-left

@@ -1,10 +1,8 @@
 -- `network::write_edge` meets its contract. Assumes nothing.
 use Rattle.convert.proofs.Leaving.{wrote_none, edge_fits, edge_wrote}
 use mathlib.Core.Path.{sym, ◌∙◌}
-use borrow.Author.Tests.{not-true, not-false}
 use Rattle.model.specs.Bytes.{words16}
 use Rattle.convert.specs.Parts.{edge_left}
-use borrow.Author.Rules.{rules}
 use Rattle.convert.proofs.network.write_edge.Goals as goal
 
 pub returns-then-not-is_open : goal.returns-then-not-is_open

@@ -1,13 +1,8 @@
 -- `network::write_edges` meets its contract. The loop's invariant: the open edges from i on are left to write. Assumes nothing.
-use Prim.Native.Nat.{◌-◌}
-use mathlib.Core.Path.{◌≡◌, refl}
-use lib.ListN.{length}
-use Rattle.model.specs.Bytes.{words16}
+use mathlib.Core.Path.{refl}
 use Rattle.model.specs.Network.{edge_count}
-use Rattle.emit.proofs.Writing.{WrittenFrom, written_fits, from_start, from_next, from_end}
-use Rattle.convert.specs.Convert.{open_records}
-use Rattle.convert.specs.Parts.{edge_left}
-use Rattle.convert.proofs.Leaving.{left_from, left_step, left_end, edges_all}
+use Rattle.emit.proofs.Writing.{written_fits, from_start, from_next, from_end}
+use Rattle.convert.proofs.Leaving.{left_step, left_end, edges_all}
 use borrow.Author.Rules.{rules}
 use Rattle.convert.proofs.network.write_edges.Goals as goal
 

@@ -1,6 +1,5 @@
 -- `network::write_network` meets its contract. Assumes nothing.
 use Rattle.convert.proofs.Results.{network_written}
-use borrow.Author.Rules.{rules}
 use Rattle.convert.proofs.network.write_network.Goals as goal
 
 pub returns : goal.returns

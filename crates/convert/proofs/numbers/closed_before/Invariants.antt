@@ -1,10 +1,8 @@
 -- `numbers::closed_before` meets its contract: what is looked for stands neither below `low` nor from `high` on. Assumes nothing.
 use Prim.Native.Nat.{◌/◌, ◌≤◌, ◌-◌}
-use native.Mathlib.Omega.{arith}
 use lib.ListN.{length}
 use Rattle.model.specs.Bytes.{number_size, words16}
-use Rattle.convert.proofs.Finding.{Between, between_all, between_after, between_before, between_end}
-use borrow.Author.Rules.{rules}
+use Rattle.convert.proofs.Finding.{Between}
 use Rattle.convert.proofs.numbers.closed_before.Given as goal
 
 abbrev pub invariant-loop-low : goal.invariant-loop-low

@@ -1,7 +1,6 @@
 -- `numbers::is_open` meets its contract. Assumes nothing.
 use native.Mathlib.Omega.{arith}
 use Rattle.convert.proofs.Finding.{open_past, open_there}
-use borrow.Author.Rules.{rules}
 use Rattle.convert.proofs.numbers.is_open.Goals as goal
 
 pub returns-then-closed-at : goal.returns-then-closed-at

@@ -6,7 +6,6 @@ use Rattle.theory.specs.Firsts.{stops, goes, none}
 use Rattle.theory.specs.Joined.{whole_contents}
 use Rattle.sheet.proofs.Forms.{kept_form}
 use Rattle.convert.proofs.Passing.{old_passed, lines_sooner, lines_later, named_as}
-use borrow.Author.Rules.{rules}
 use Rattle.convert.proofs.refusals.lines_refusal.Goals as goal
 
 pub returns-then-r-ne0 : goal.returns-then-r-ne0

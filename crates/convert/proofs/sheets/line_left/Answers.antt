@@ -2,7 +2,6 @@
 use native.Mathlib.Omega.{arith}
 use mathlib.Core.Path.{sym, ◌∙◌}
 use Rattle.convert.proofs.Renumbering.{line_long, line_empty}
-use borrow.Author.Rules.{rules}
 use Rattle.convert.proofs.sheets.line_left.Goals as goal
 
 pub returns-then-is_open : goal.returns-then-is_open

@@ -1,14 +1,11 @@
 -- `sheets::lines_left` meets its contract. The loop's invariant: the kept lines from k on are left to count. Assumes nothing.
 use Prim.Native.Nat.{◌+◌, ◌-◌, ◌*◌, ◌≤◌}
-use native.Mathlib.Omega.{arith}
-use mathlib.Core.Path.{◌≡◌, refl, ap}
+use mathlib.Core.Path.{◌≡◌}
 use lib.ListN.{length}
 use Rattle.model.specs.Bytes.{words16}
 use Rattle.sheet.specs.Sheet.{line_count, line_size}
 use Rattle.convert.specs.Parts.{lines_left}
-use Rattle.convert.proofs.Leaving.{left_from, line_at, left_step, left_end, lines_all}
-use Rattle.convert.proofs.Renumbering.{counted_next}
-use borrow.Author.Rules.{rules}
+use Rattle.convert.proofs.Leaving.{left_from, line_at}
 use Rattle.convert.proofs.sheets.lines_left.Given as goal
 
 abbrev pub invariant-loop-k : goal.invariant-loop-k

@@ -2,7 +2,6 @@
 use native.Mathlib.Omega.{arith}
 use lib.ListN.{length-set}
 use Rattle.convert.proofs.Renumbering.{head_put}
-use borrow.Author.Rules.{rules}
 use Rattle.convert.proofs.sheets.put_head.Goals as goal
 
 pub bounds-out-1 : goal.bounds-out-1

@@ -2,7 +2,6 @@
 use native.Mathlib.Omega.{arith}
 use lib.ListN.{length-set}
 use Rattle.convert.proofs.Renumbering.{line_put}
-use borrow.Author.Rules.{rules}
 use Rattle.convert.proofs.sheets.put_line.Goals as goal
 
 pub write16-requires : goal.write16-requires

@@ -2,7 +2,6 @@
 use native.Mathlib.Omega.{arith}
 use Rattle.convert.proofs.Renumbering.{length_sheet}
 use Rattle.convert.proofs.Results.{given_short, given_whole}
-use borrow.Author.Rules.{rules}
 use Rattle.convert.proofs.sheets.renumber.Goals as goal
 
 pub returns-then-out-size : goal.returns-then-out-size

@@ -1,10 +1,8 @@
 -- `sheets::write_line` meets its contract. Assumes nothing.
 use native.Mathlib.Omega.{arith}
 use mathlib.Core.Path.{sym, ◌∙◌}
-use borrow.Author.Tests.{not-true, not-false}
 use Rattle.model.specs.Bytes.{words16}
 use Rattle.convert.proofs.Renumbering.{below_most, line_none, line_fits, line_wrote}
-use borrow.Author.Rules.{rules}
 use Rattle.convert.proofs.sheets.write_line.Goals as goal
 
 pub returns-then-not-is_open : goal.returns-then-not-is_open

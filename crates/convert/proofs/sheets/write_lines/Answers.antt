@@ -1,12 +1,8 @@
 -- `sheets::write_lines` meets its contract. The loop's invariant: the kept lines from k on are left to write. Assumes nothing.
-use Prim.Native.Nat.{◌-◌}
-use mathlib.Core.Path.{◌≡◌, refl}
-use lib.ListN.{length}
-use Rattle.model.specs.Bytes.{words16}
+use mathlib.Core.Path.{refl}
 use Rattle.sheet.specs.Sheet.{line_count}
-use Rattle.emit.proofs.Writing.{WrittenFrom, written_fits, from_start, from_next, from_end}
-use Rattle.convert.specs.Parts.{lines_left}
-use Rattle.convert.proofs.Leaving.{left_from, line_at, left_step, left_end, lines_all}
+use Rattle.emit.proofs.Writing.{written_fits, from_start, from_next, from_end}
+use Rattle.convert.proofs.Leaving.{left_step, left_end, lines_all}
 use borrow.Author.Rules.{rules}
 use Rattle.convert.proofs.sheets.write_lines.Goals as goal
 

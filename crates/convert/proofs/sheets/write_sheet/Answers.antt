@@ -1,7 +1,6 @@
 -- `sheets::write_sheet` meets its contract. Assumes nothing.
 use native.Mathlib.Omega.{arith}
 use Rattle.convert.proofs.Renumbering.{sheet_written}
-use borrow.Author.Rules.{rules}
 use Rattle.convert.proofs.sheets.write_sheet.Goals as goal
 
 pub returns : goal.returns

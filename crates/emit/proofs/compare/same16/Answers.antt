@@ -2,7 +2,6 @@
 use mathlib.Core.Path.{refl}
 use native.Mathlib.Omega.{arith}
 use Rattle.emit.proofs.Comparing.{too_short, low_other, high_other, both_same}
-use borrow.Author.Rules.{rules}
 use Rattle.emit.proofs.compare.same16.Goals as goal
 
 pub returns-then-b-at-lt-NUMBER_SIZE : goal.returns-then-b-at-lt-NUMBER_SIZE

@@ -2,7 +2,6 @@
 use mathlib.Core.Path.{sym, ◌∙◌}
 use Rattle.model.specs.Bytes.{bytes32}
 use Rattle.emit.proofs.Comparing.{same_within, then_same, then_different}
-use borrow.Author.Rules.{rules}
 use Rattle.emit.proofs.compare.same32.Goals as goal
 
 pub returns-in_default : goal.returns-in_default

@@ -3,7 +3,6 @@ use mathlib.Core.Path.{sym, ◌∙◌}
 use Rattle.theory.specs.FileLaws.{bytes_low}
 use Rattle.theory.specs.ReadLaws.{value_bytes_law}
 use Rattle.emit.proofs.Comparing.{same_within, then_same, then_different}
-use borrow.Author.Rules.{rules}
 use Rattle.emit.proofs.compare.same_value.Goals as goal
 
 pub returns-in_default : goal.returns-in_default

@@ -1,10 +1,10 @@
 -- `emit::copy::copy` meets its contract. The loop's invariant: the first i bytes stand, and those of `from` from i on are left. Assumes nothing.
 use lib.ListN.{drop_of_length-le}
-use Rattle.emit.proofs.Writing.{Written, written_start, written_next, written_end, byte_next}
-use lib.ListN.{length, drop, length-set}
+use Rattle.emit.proofs.Writing.{written_start, written_next, written_end, byte_next}
+use lib.ListN.{length, length-set}
 use native.Mathlib.Omega.{arith}
-use mathlib.Core.Path.{◌≡◌, refl}
-use Prim.Native.Nat.{◌≤◌, ◌<◌, ◌-◌}
+use mathlib.Core.Path.{refl}
+use Prim.Native.Nat.{◌≤◌, ◌<◌}
 use borrow.Author.Rules.{rules}
 use Rattle.emit.proofs.copy.copy.Goals as goal
 

@@ -1,6 +1,5 @@
 -- `emit::copy::put` meets its contract. Assumes nothing.
 use native.Mathlib.Omega.{arith}
-use borrow.Author.Rules.{rules}
 use Rattle.emit.proofs.Pieces.{wrote_part}
 use Rattle.emit.proofs.copy.put.Goals as goal
 

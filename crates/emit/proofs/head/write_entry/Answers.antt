@@ -4,7 +4,6 @@ use Rattle.emit.proofs.Offsets.{contents_written}
 use Rattle.model.specs.Contents.{contents_entry_size, entry_at}
 use lib.ListN.{length, length-set}
 use native.Mathlib.Omega.{arith}
-use borrow.Author.Rules.{rules}
 use Rattle.emit.proofs.head.write_entry.Goals as goal
 
 pub bounds-out-at : goal.bounds-out-at

@@ -1,16 +1,12 @@
 -- `emit::head::write_head` meets its contract. The loop's invariant: what stands before entry k is written, and the entries from k on are left; the sizes that
 -- are left fit the offset. Assumes nothing.
 use Rattle.model.specs.Lists.{total}
-use Rattle.emit.specs.PartLaws.{length_head}
-use Rattle.emit.proofs.Offsets.{contents_step, contents_end, total_step, head_start, head_wrote, contents_wrote}
-use Rattle.emit.proofs.Writing.{Written, written_start, written_next, written_end}
+use Rattle.emit.proofs.Writing.{Written}
 use Rattle.emit.specs.Parts.{head_bytes, entries_of}
 use Rattle.model.specs.Contents.{entry_at}
-use lib.ListN.{length, drop, length-set}
-use native.Mathlib.Omega.{arith}
-use mathlib.Core.Path.{◌≡◌, refl, sym, ◌∙◌}
+use lib.ListN.{length, drop}
+use mathlib.Core.Path.{◌≡◌}
 use Prim.Native.Nat.{◌+◌, ◌<◌, ◌≤◌, ◌-◌}
-use borrow.Author.Rules.{rules}
 use Rattle.emit.proofs.head.write_head.Given as goal
 
 abbrev pub invariant-loop-k : goal.invariant-loop-k

@@ -1,10 +1,8 @@
 -- `emit::lists::same_entry` meets its contract. Assumes nothing.
 use mathlib.Core.Path.{sym, ◌∙◌}
-use borrow.Author.Tests.{not-true, not-false}
 use Rattle.emit.specs.Parts.{time_bytes, indexed_bytes}
 use Rattle.emit.proofs.Comparing.{same_within, then_same, then_different}
 use Rattle.emit.proofs.Turns.{compared_out, compared_in}
-use borrow.Author.Rules.{rules}
 use Rattle.emit.proofs.lists.same_entry.Goals as goal
 
 pub returns-then-not-contains : goal.returns-then-not-contains

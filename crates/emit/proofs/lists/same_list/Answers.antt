@@ -1,13 +1,10 @@
 -- `emit::lists::same_list` meets its contract. The loop's invariant: `rank` counts the transit nodes below u, and the entries of the access nodes from u on
 -- are left to compare. Assumes nothing.
-use Rattle.emit.proofs.Indexes.{entry_for, entries_from, list_for, list_count, entries_step}
+use Rattle.emit.proofs.Indexes.{entry_for, list_count, entries_step}
 use Rattle.bitset.proofs.Ranks.{rank_none, rank_next}
 use Rattle.emit.proofs.Turns.{members_end}
-use Rattle.emit.proofs.Comparing.{Left, left_start, left_different, left_next, left_end}
-use Rattle.bitset.specs.Members.{members_of}
-use lib.ListN.{length}
-use mathlib.Core.Path.{◌≡◌, refl, sym, ◌∙◌}
-use Prim.Native.Nat.{◌≤◌, ◌-◌}
+use Rattle.emit.proofs.Comparing.{left_start, left_different, left_next, left_end}
+use mathlib.Core.Path.{refl, sym, ◌∙◌}
 use borrow.Author.Rules.{rules}
 use Rattle.emit.proofs.lists.same_list.Goals as goal
 

@@ -1,12 +1,10 @@
 -- `emit::lists::write_entry` meets its contract. Assumes nothing.
 use mathlib.Core.Path.{sym, ◌∙◌}
 use native.Mathlib.Omega.{arith}
-use borrow.Author.Tests.{not-true, not-false}
 use Rattle.emit.specs.PartLaws.{length_indexed}
 use Rattle.emit.proofs.Indexes.{entry_written}
 use Rattle.emit.proofs.Turns.{wrote_out, wrote_in, fits_in}
 use Rattle.words.specs.Regions.{times_in}
-use borrow.Author.Rules.{rules}
 use Rattle.emit.proofs.lists.write_entry.Goals as goal
 
 pub returns-then-not-contains : goal.returns-then-not-contains

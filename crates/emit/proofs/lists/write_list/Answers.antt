@@ -1,14 +1,11 @@
 -- `emit::lists::write_list` meets its contract. The loop's invariant: `rank` counts the transit nodes below v, and the entries of the access nodes from v on
 -- are left. Assumes nothing.
-use Rattle.emit.proofs.Indexes.{entry_for, entries_from, list_for, count_written, entries_step}
+use Rattle.emit.proofs.Indexes.{entry_for, count_written, entries_step}
 use Rattle.bitset.proofs.Ranks.{rank_none, rank_next}
 use Rattle.emit.proofs.Turns.{members_end}
-use Rattle.emit.proofs.Writing.{Written, written_fits, written_next, written_end}
-use Rattle.bitset.specs.Members.{members_of}
-use lib.ListN.{length}
+use Rattle.emit.proofs.Writing.{written_fits, written_next, written_end}
 use native.Mathlib.Omega.{arith}
-use mathlib.Core.Path.{◌≡◌, sym}
-use Prim.Native.Nat.{◌≤◌, ◌-◌}
+use mathlib.Core.Path.{sym}
 use borrow.Author.Rules.{rules}
 use Rattle.emit.proofs.lists.write_list.Goals as goal
 
@@ -27,8 +24,11 @@ loop-v-init c =
 
 pub write_entry-at-requires : goal.write_entry-at-requires
 write_entry-at-requires c =
-    let a = c.args in record { n_in_bounds = search rules; v_in_bounds = written_fits (entries_step a.n a.access.now a.transit.now a.work.now _ _ c.loop-v-test.true
-          c.requires.among.0 c.loop-v.invariant.1) c.loop-v.invariant.3 }
+    let a = c.args in record {
+      n_in_bounds = search rules;
+      v_in_bounds = written_fits (entries_step a.n a.access.now a.transit.now a.work.now _ _ c.loop-v-test.true
+          c.requires.among.0 c.loop-v.invariant.1) c.loop-v.invariant.3;
+    }
 
 pub loop-v-preserved : goal.loop-v-preserved
 loop-v-preserved c =

@@ -1,15 +1,11 @@
 -- `emit::lists::write_list` meets its contract. The loop's invariant: `rank` counts the transit nodes below v, and the entries of the access nodes from v on
 -- are left. Assumes nothing.
-use Rattle.emit.proofs.Indexes.{entry_for, entries_from, list_for, count_written, entries_step}
-use Rattle.bitset.proofs.Ranks.{rank_none, rank_next}
-use Rattle.emit.proofs.Turns.{members_end}
-use Rattle.emit.proofs.Writing.{Written, written_fits, written_next, written_end}
+use Rattle.emit.proofs.Indexes.{entries_from, list_for}
+use Rattle.emit.proofs.Writing.{Written}
 use Rattle.bitset.specs.Members.{members_of}
 use lib.ListN.{length}
-use native.Mathlib.Omega.{arith}
-use mathlib.Core.Path.{◌≡◌, sym}
+use mathlib.Core.Path.{◌≡◌}
 use Prim.Native.Nat.{◌≤◌, ◌-◌}
-use borrow.Author.Rules.{rules}
 use Rattle.emit.proofs.lists.write_list.Given as goal
 
 abbrev pub invariant-loop-v : goal.invariant-loop-v

@@ -1,8 +1,6 @@
 -- `emit::numbers::same_number` meets its contract. Assumes nothing.
 use mathlib.Core.Path.{sym, ◌∙◌}
-use borrow.Author.Tests.{not-true, not-false}
 use Rattle.emit.proofs.Turns.{compared_out, compared_in}
-use borrow.Author.Rules.{rules}
 use Rattle.emit.proofs.numbers.same_number.Goals as goal
 
 pub returns-then-not-contains : goal.returns-then-not-contains

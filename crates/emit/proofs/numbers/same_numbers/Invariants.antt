@@ -1,12 +1,10 @@
 -- `emit::numbers::same_numbers` meets its contract. The loop's invariant: the members from u on are left to compare. Assumes nothing.
-use Rattle.emit.proofs.Turns.{members_from, members_all, members_step, members_end}
-use Rattle.emit.proofs.Comparing.{Left, left_start, left_different, left_next, left_end}
+use Rattle.emit.proofs.Turns.{members_from}
+use Rattle.emit.proofs.Comparing.{Left}
 use Rattle.emit.specs.Parts.{numbers_bytes}
 use Rattle.bitset.specs.Members.{members_of}
 use Rattle.model.specs.Bytes.{bytes16}
-use mathlib.Core.Path.{sym, ◌∙◌}
 use Prim.Native.Nat.{◌-◌}
-use borrow.Author.Rules.{rules}
 use Rattle.emit.proofs.numbers.same_numbers.Given as goal
 
 abbrev pub invariant-loop-u : goal.invariant-loop-u

@@ -1,9 +1,7 @@
 -- `emit::numbers::write_number` meets its contract. Assumes nothing.
 use mathlib.Core.Path.{refl, sym, ◌∙◌}
-use borrow.Author.Tests.{not-true, not-false}
 use Rattle.model.specs.Bytes.{bytes16}
 use Rattle.emit.proofs.Turns.{wrote_out, wrote_in, fits_in}
-use borrow.Author.Rules.{rules}
 use Rattle.emit.proofs.numbers.write_number.Goals as goal
 
 pub returns-then-not-contains : goal.returns-then-not-contains

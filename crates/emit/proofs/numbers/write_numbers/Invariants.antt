@@ -1,15 +1,12 @@
 -- `emit::numbers::write_numbers` meets its contract. The loop's invariant: the members from v on are left to write. Assumes nothing.
-use Rattle.emit.proofs.Turns.{members_from, members_all, members_step, members_end}
-use Rattle.emit.proofs.Writing.{WrittenFrom, written_fits, from_start, from_next, from_end}
-use Rattle.emit.specs.PartLaws.{length_numbers}
+use Rattle.emit.proofs.Turns.{members_from}
+use Rattle.emit.proofs.Writing.{WrittenFrom}
 use Rattle.emit.specs.Parts.{numbers_bytes}
 use Rattle.bitset.specs.Members.{members_of}
 use Rattle.model.specs.Bytes.{bytes16}
 use lib.ListN.{length}
-use native.Mathlib.Omega.{arith}
 use mathlib.Core.Path.{◌≡◌}
 use Prim.Native.Nat.{◌-◌}
-use borrow.Author.Rules.{rules}
 use Rattle.emit.proofs.numbers.write_numbers.Given as goal
 
 abbrev pub invariant-loop-v : goal.invariant-loop-v

@@ -1,11 +1,8 @@
 -- `emit::rows::same_row` meets its contract. The loop's invariant: the times of the members from u on are left to compare. Assumes nothing.
-use Rattle.emit.proofs.Turns.{members_from, members_all, members_step, members_end}
-use Rattle.emit.proofs.Comparing.{Left, left_start, left_different, left_next, left_end}
-use Rattle.emit.specs.Parts.{time_bytes, row_bytes}
-use Rattle.bitset.specs.Members.{members_of}
+use Rattle.emit.proofs.Turns.{members_all, members_step, members_end}
+use Rattle.emit.proofs.Comparing.{left_start, left_different, left_next, left_end}
+use Rattle.emit.specs.Parts.{row_bytes}
 use mathlib.Core.Path.{sym, ◌∙◌}
-use Prim.Native.Nat.{◌-◌}
-use Rattle.words.specs.Regions.{times_in}
 use borrow.Author.Rules.{rules}
 use Rattle.emit.proofs.rows.same_row.Goals as goal
 

@@ -1,9 +1,7 @@
 -- `emit::rows::same_time` meets its contract. Assumes nothing.
 use mathlib.Core.Path.{sym, ◌∙◌}
-use borrow.Author.Tests.{not-true, not-false}
 use Rattle.emit.specs.Parts.{time_bytes}
 use Rattle.emit.proofs.Turns.{compared_out, compared_in}
-use borrow.Author.Rules.{rules}
 use Rattle.emit.proofs.rows.same_time.Goals as goal
 
 pub returns-then-not-contains : goal.returns-then-not-contains

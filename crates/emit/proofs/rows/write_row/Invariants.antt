@@ -1,14 +1,12 @@
 -- `emit::rows::write_row` meets its contract. The loop's invariant: the times of the members from v on are left to write. Assumes nothing.
-use Rattle.emit.proofs.Turns.{members_from, members_all, members_step, members_end}
-use Rattle.emit.proofs.Writing.{Written, written_start, written_fits, written_next, written_end}
-use Rattle.emit.specs.PartLaws.{length_row}
+use Rattle.emit.proofs.Turns.{members_from}
+use Rattle.emit.proofs.Writing.{Written}
 use Rattle.emit.specs.Parts.{time_bytes, row_bytes}
 use Rattle.bitset.specs.Members.{members_of}
 use lib.ListN.{length}
-use mathlib.Core.Path.{◌≡◌, sym, ◌∙◌}
+use mathlib.Core.Path.{◌≡◌}
 use Prim.Native.Nat.{◌-◌}
 use Rattle.words.specs.Regions.{times_in}
-use borrow.Author.Rules.{rules}
 use Rattle.emit.proofs.rows.write_row.Given as goal
 
 abbrev pub invariant-loop-v : goal.invariant-loop-v

@@ -1,12 +1,10 @@
 -- `emit::rows::write_time` meets its contract. Assumes nothing.
 use native.Mathlib.Omega.{arith}
 use mathlib.Core.Path.{sym, ◌∙◌}
-use borrow.Author.Tests.{not-true, not-false}
 use Rattle.emit.specs.Parts.{time_bytes}
 use Rattle.emit.specs.PartLaws.{length_time}
 use Rattle.emit.proofs.Turns.{wrote_out, wrote_in, fits_in}
 use Rattle.words.specs.Regions.{times_in}
-use borrow.Author.Rules.{rules}
 use Rattle.emit.proofs.rows.write_time.Goals as goal
 
 pub returns-then-not-contains : goal.returns-then-not-contains

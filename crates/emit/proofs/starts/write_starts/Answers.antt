@@ -1,14 +1,13 @@
 -- `emit::starts::write_starts` meets its contract. The loop's invariant: the starts from list v on are left to write, the first of them `start`. Assumes
 -- nothing.
-use Rattle.emit.proofs.Offsets.{starts_from, latest, starts_all, starts_step, start_latest, starts_end, start_wrote}
-use Rattle.emit.proofs.Writing.{Written, written_start, written_next, written_end}
+use Rattle.emit.proofs.Offsets.{starts_all, starts_step, start_latest, starts_end, start_wrote}
+use Rattle.emit.proofs.Writing.{written_start, written_next, written_end}
 use Rattle.emit.specs.PartLaws.{length_starts_of, length_sizes}
-use Rattle.emit.specs.Parts.{starts_of, list_sizes}
+use Rattle.emit.specs.Parts.{list_sizes}
 use Rattle.model.specs.Oracle.{start_size, list_size}
-use lib.ListN.{length}
 use native.Mathlib.Omega.{arith}
-use mathlib.Core.Path.{◌≡◌, ap, ◌∙◌}
-use Prim.Native.Nat.{◌*◌, ◌≤◌, ◌-◌}
+use mathlib.Core.Path.{ap, ◌∙◌}
+use Prim.Native.Nat.{◌*◌}
 use borrow.Author.Rules.{rules}
 use Rattle.emit.proofs.starts.write_starts.Goals as goal
 

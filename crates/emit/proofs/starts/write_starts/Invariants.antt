@@ -1,15 +1,12 @@
 -- `emit::starts::write_starts` meets its contract. The loop's invariant: the starts from list v on are left to write, the first of them `start`. Assumes
 -- nothing.
-use Rattle.emit.proofs.Offsets.{starts_from, latest, starts_all, starts_step, start_latest, starts_end, start_wrote}
-use Rattle.emit.proofs.Writing.{Written, written_start, written_next, written_end}
-use Rattle.emit.specs.PartLaws.{length_starts_of, length_sizes}
+use Rattle.emit.proofs.Offsets.{starts_from, latest}
+use Rattle.emit.proofs.Writing.{Written}
 use Rattle.emit.specs.Parts.{starts_of, list_sizes}
-use Rattle.model.specs.Oracle.{start_size, list_size}
+use Rattle.model.specs.Oracle.{start_size}
 use lib.ListN.{length}
-use native.Mathlib.Omega.{arith}
-use mathlib.Core.Path.{◌≡◌, ap, ◌∙◌}
+use mathlib.Core.Path.{◌≡◌}
 use Prim.Native.Nat.{◌*◌, ◌≤◌, ◌-◌}
-use borrow.Author.Rules.{rules}
 use Rattle.emit.proofs.starts.write_starts.Given as goal
 
 abbrev pub invariant-loop-v : goal.invariant-loop-v

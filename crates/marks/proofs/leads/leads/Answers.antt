@@ -1,6 +1,5 @@
 -- `leads::leads` meets its contract: none of the arcs passed leads on, and one that does decides it.
 use native.Mathlib.Omega.{arith}
-use borrow.Author.Rules.{rules}
 use mathlib.Core.List.{[]}
 use mathlib.Core.Path.{◌≡◌, ap, ◌∙◌}
 use mathlib.Core.Bool.{Bool}
@@ -10,11 +9,8 @@ use Rattle.model.specs.Walk.{Arc}
 use Rattle.sheet.specs.ArcsUnder.{arcs_under}
 use Rattle.arcs.specs.Arcs.{arcs_in}
 use Rattle.arcs.proofs.Bodies.{plain_arcs}
-use Rattle.arcs.proofs.Tests.{Unmet, unmet_first, unmet_next, met, unmet_last}
+use Rattle.arcs.proofs.Tests.{unmet_first, unmet_next, met, unmet_last}
 use Rattle.marks.proofs.Tight.{leading_from}
-use Rattle.marks.specs.Due.{leading}
-use Rattle.words.specs.Regions.{times_in, marks_in}
-use Rattle.arcs.specs.Leaving.{arc_rank}
 use Rattle.arcs.proofs.Passes.{first_arc_here, passes_first}
 use Rattle.marks.proofs.leads.leads.Goals as goal
 

@@ -1,7 +1,5 @@
 -- `leads::leads_to` meets its contract: the arc leads to an unmarked node, or the sums decide.
 use mathlib.Core.Path.{sym, ◌∙◌}
-use borrow.Author.Rules.{rules}
-use borrow.Author.Tests.{not-true, not-false}
 use Rattle.marks.proofs.Tight.{arc_unmarked, arc_marked}
 use Rattle.marks.proofs.leads.leads_to.Goals as goal
 

@@ -1,5 +1,4 @@
 -- `front::search_front` meets its contract: without lines the arcs are those of the edges.
-use borrow.Author.Rules.{rules}
 use Rattle.arcs.proofs.Bodies.{plain, plain_arcs}
 use Rattle.search.proofs.front.search_front.Goals as goal
 

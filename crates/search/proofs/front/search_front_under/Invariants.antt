@@ -1,13 +1,9 @@
 -- `front::search_front_under` meets its contract: the theory's state holds between the rounds, and e falls with each.
-use native.Mathlib.Omega.{arith}
-use mathlib.Core.Path.{◌≡◌, refl, ◌∙◌}
-use borrow.Author.Rules.{rules}
+use mathlib.Core.Path.{◌≡◌}
 use lib.ListN.{length}
 use Rattle.sheet.specs.ArcsUnder.{arcs_under}
-use Rattle.arcs.proofs.Bodies.{arcs_bounded}
 use Rattle.words.specs.Frames.{KeptFrom}
-use Rattle.arcs.proofs.Kept.{edges_kept}
-use Rattle.search.proofs.Turns.{Standing, standing_first, first, next, last}
+use Rattle.search.proofs.Turns.{Standing}
 use Rattle.words.specs.Regions.{front_in, search_words}
 use Rattle.search.proofs.front.search_front_under.Given as goal
 

@@ -1,7 +1,6 @@
 -- `regions::clear` meets its contract: the times, the positions and the settled set, one after the other.
 use mathlib.Core.Path.{◌∙◌}
 use Rattle.search.proofs.Begins.{clear_holds, clear_times, clear_settled}
-use borrow.Author.Rules.{rules}
 use Rattle.search.proofs.regions.clear.Goals as goal
 
 pub returns : goal.returns

@@ -1,5 +1,4 @@
 -- `regions::plain_order` meets its contract: the part is the order.
-use borrow.Author.Rules.{rules}
 use Rattle.search.proofs.Views.{plain_times, plain_is}
 use Rattle.search.proofs.regions.plain_order.Goals as goal
 

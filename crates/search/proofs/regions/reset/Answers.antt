@@ -1,5 +1,4 @@
 -- `regions::reset` meets its contract: the start is offered when no node is settled.
-use borrow.Author.Rules.{rules}
 use Rattle.search.proofs.Begins.{none_settled, reset_done}
 use Rattle.search.proofs.regions.reset.Goals as goal
 

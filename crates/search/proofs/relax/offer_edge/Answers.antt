@@ -1,7 +1,6 @@
 -- `relax::offer_edge` meets its contract: nothing is left of the edge, or one arc out of u.
 use native.Mathlib.Omega.{arith}
 use mathlib.Core.Path.{refl, sym}
-use borrow.Author.Rules.{rules}
 use lib.Seq.{length-take-le}
 use Rattle.model.specs.Network.{edge_count}
 use Rattle.theory.specs.Sound.{edge_fine}
@@ -19,8 +18,11 @@ cost_left-cost-requires c =
 
 pub returns-then-cost-eq-NO_WALK : goal.returns-then-cost-eq-NO_WALK
 returns-then-cost-eq-NO_WALK c =
-    let a = c.args in record { relaxed = closed_edge a.n a.e a.u a.d a.work.now a.k c.requires.holds.0 _
-          (none_left _ _ a.u a.i _ c.if-cost-eq-NO_WALK.true c.cost_left-cost.ensures); others = refl }
+    let a = c.args in record {
+      relaxed = closed_edge a.n a.e a.u a.d a.work.now a.k c.requires.holds.0 _
+          (none_left _ _ a.u a.i _ c.if-cost-eq-NO_WALK.true c.cost_left-cost.ensures);
+      others = refl;
+    }
 
 pub edge_first-requires : goal.edge_first-requires
 unfolding edge_count

@@ -1,13 +1,9 @@
 -- `relax::relax_plain` meets its contract: the arcs that the walk has passed are relaxed, and at its end those are all.
-use native.Mathlib.Omega.{arith}
-use mathlib.Core.Path.{◌≡◌, refl, sym}
-use borrow.Author.Rules.{rules}
+use mathlib.Core.Path.{◌≡◌}
 use mathlib.Core.List.{[]}
 use lib.ListN.{length}
-use lib.Seq.{length-take-le}
-use Rattle.search.proofs.Relaxes.{RelaxedArcs, passed_first, turn_passes, turn_edges, passed_next, passed_last, time_read}
+use Rattle.search.proofs.Relaxes.{RelaxedArcs}
 use Rattle.arcs.specs.Leaving.{arc_rank}
-use Rattle.arcs.proofs.Passes.{first_arc_here, passes_first}
 use Rattle.search.proofs.relax.relax_plain.Given as goal
 
 abbrev pub invariant-loop-a : goal.invariant-loop-a

@@ -1,13 +1,8 @@
 -- `relax::relax_under` meets its contract: what is left of the edges passed is relaxed, and at the end those are all.
-use native.Mathlib.Omega.{arith}
-use mathlib.Core.Path.{◌≡◌, refl}
-use borrow.Author.Rules.{rules}
+use mathlib.Core.Path.{◌≡◌}
 use lib.ListN.{length}
-use Rattle.model.specs.Network.{edge_count}
 use Rattle.arcs.specs.Cursor.{rank}
-use Rattle.arcs.proofs.Passes.{end_at}
-use Rattle.search.proofs.Relaxes.{time_read}
-use Rattle.search.proofs.Edges.{RelaxedEdges, edges_first, turn_edges, turn_passing, edges_next, edges_last}
+use Rattle.search.proofs.Edges.{RelaxedEdges}
 use Rattle.search.proofs.relax.relax_under.Given as goal
 
 abbrev pub invariant-loop-c : goal.invariant-loop-c

@@ -19,20 +19,26 @@ relax-requires c =
     let a = c.args in
     let t = rw c.search_words-m.ensures at c.settle_nearest-u.ensures in
     let ys = c.settle_nearest-u.new.work in
-    let k = rw c.search_words-m.ensures at c.settle_nearest-u.auto.work in record { holds = (
+    let k = rw c.search_words-m.ensures at c.settle_nearest-u.auto.work in record {
+      holds = (
         rw c.search_words-m.ensures (round_holds a.n a.work.now ys (search rules) k a.k a.e _ t),
         t.near.inside,
         rw c.search_words-m.ensures (round_within a.n a.work.now ys (search rules) k a.k a.e _ t c.requires.holds.2),
-      ); edges_under = (
+      );
+      edges_under = (
         rw c.search_words-m.ensures (edges_kept a.edges.now a.lines.now a.n a.work.now _
             (others a.n a.work.now ys (search rules) k) c.requires.edges_under.0),
         search rules,
-      ) }
+      );
+    }
 
 pub returns : goal.returns
 returns c =
     let a = c.args in
     let t = rw c.search_words-m.ensures at c.settle_nearest-u.ensures in
     let ys = c.settle_nearest-u.new.work in
-    let k = rw c.search_words-m.ensures at c.settle_nearest-u.auto.work in record { round = round_front a.n a.work.now ys (search rules) k a.k a.e _ t (arcs_under a.edges.now a.lines.now) _ _
-          (rw c.search_words-m.ensures at c.relax.ensures.relaxed); others = rw c.search_words-m.ensures at c.relax.ensures.others ∙ others a.n a.work.now ys (search rules) k }
+    let k = rw c.search_words-m.ensures at c.settle_nearest-u.auto.work in record {
+      round = round_front a.n a.work.now ys (search rules) k a.k a.e _ t (arcs_under a.edges.now a.lines.now) _ _
+          (rw c.search_words-m.ensures at c.relax.ensures.relaxed);
+      others = rw c.search_words-m.ensures at c.relax.ensures.others ∙ others a.n a.work.now ys (search rules) k;
+    }

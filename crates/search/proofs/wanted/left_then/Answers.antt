@@ -1,7 +1,6 @@
 -- `wanted::left_then` meets its contract: the bit of the node that was settled last.
 use native.Mathlib.Omega.{arith}
 use mathlib.Core.Path.{sym, ◌∙◌}
-use borrow.Author.Rules.{rules}
 use Rattle.heap.specs.Words.{low}
 use Rattle.search.proofs.Wants.{want_bit, want_set, want_not_set}
 use Rattle.search.proofs.wanted.left_then.Goals as goal

@@ -1,5 +1,4 @@
 -- `wanted::search_wanted` meets its contract: without lines the arcs are those of the edges.
-use borrow.Author.Rules.{rules}
 use Rattle.arcs.proofs.Bodies.{plain, plain_arcs}
 use Rattle.search.proofs.wanted.search_wanted.Goals as goal
 

@@ -1,16 +1,9 @@
 -- `wanted::search_wanted_under` meets its contract: between the rounds no more wanted nodes are lacking than are left to count.
-use native.Mathlib.Omega.{arith}
-use mathlib.Core.Logic.{inl, inr, ⊎_elim}
-use mathlib.Core.Path.{◌≡◌, refl, ◌∙◌}
-use borrow.Author.Rules.{rules}
-use borrow.Author.Tests.{ltb-true, ltb-false}
+use mathlib.Core.Path.{◌≡◌}
 use lib.ListN.{length}
 use Rattle.sheet.specs.ArcsUnder.{arcs_under}
-use Rattle.arcs.proofs.Bodies.{arcs_bounded}
 use Rattle.words.specs.Frames.{KeptFrom}
-use Rattle.search.proofs.Wants.{Wanting, wanting_begun, room, node_inside, turn, stop_wanted}
-use Rattle.arcs.proofs.Kept.{edges_kept}
-use Rattle.search.proofs.Turns.{standing_first, first}
+use Rattle.search.proofs.Wants.{Wanting}
 use Rattle.words.specs.Regions.{front_in, want_in, search_words}
 use Rattle.search.proofs.wanted.search_wanted_under.Given as goal
 

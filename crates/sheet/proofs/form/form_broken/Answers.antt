@@ -2,7 +2,6 @@
 use native.Mathlib.Omega.{arith}
 use mathlib.Core.Path.{sym, ◌∙◌}
 use Rattle.sheet.proofs.Forms.{has_contents, by_contents, by_kind, by_offset, by_size, by_part}
-use borrow.Author.Rules.{rules}
 use Rattle.sheet.proofs.form.form_broken.Goals as goal
 
 pub returns-then-contents_broken : goal.returns-then-contents_broken

@@ -2,7 +2,6 @@
 use native.Mathlib.Omega.{arith}
 use mathlib.Core.Path.{sym}
 use Rattle.sheet.proofs.Forms.{has_body}
-use borrow.Author.Rules.{rules}
 use Rattle.sheet.proofs.form.line_body.Goals as goal
 
 pub slice_bounds-result-count : goal.slice_bounds-result-count

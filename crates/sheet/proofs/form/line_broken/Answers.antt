@@ -1,7 +1,6 @@
 -- `form::line_broken` meets its contract: by the first byte.
 use Rattle.sheet.specs.Sheet.{line}
 use Rattle.sheet.proofs.Forms.{by_delayed, by_closed, by_neither}
-use borrow.Author.Rules.{rules}
 use Rattle.sheet.proofs.form.line_broken.Goals as goal
 
 pub returns-then-status-eq-DELAYED : goal.returns-then-status-eq-DELAYED

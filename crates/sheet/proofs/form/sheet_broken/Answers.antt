@@ -1,7 +1,6 @@
 -- `form::sheet_broken` meets its contract: the form, then the lines.
 use mathlib.Core.Path.{sym, ◌∙◌}
 use Rattle.sheet.proofs.Forms.{by_form, by_lines}
-use borrow.Author.Rules.{rules}
 use Rattle.sheet.proofs.form.sheet_broken.Goals as goal
 
 pub returns-then-form_broken : goal.returns-then-form_broken

@@ -1,12 +1,9 @@
 -- `form::some_line_broken` meets its contract. The loop's invariant: the answer is that for the lines from k on.
-use Prim.Native.Nat.{◌-◌}
-use mathlib.Core.Path.{◌≡◌, ap}
+use mathlib.Core.Path.{ap}
 use mathlib.Core.List.{map}
-use Rattle.model.specs.Lists.{any}
-use Rattle.theory.specs.RangeLaws.{rest, rest_step, rest_end}
+use Rattle.theory.specs.RangeLaws.{rest_step, rest_end}
 use Rattle.theory.specs.Scans.{scan_all, scan_found, scan_passed, scan_end}
 use Rattle.sheet.specs.Sheet.{line, line_count, lines_in, line_broken}
-use borrow.Author.Rules.{rules}
 use Rattle.sheet.proofs.form.some_line_broken.Goals as goal
 
 pub loop-k-init : goal.loop-k-init

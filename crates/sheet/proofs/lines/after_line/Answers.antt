@@ -2,7 +2,6 @@
 use native.Mathlib.Omega.{arith}
 use Rattle.sheet.specs.Sheet.{line}
 use Rattle.sheet.proofs.Effects.{about_yes, about_shut, about_no}
-use borrow.Author.Rules.{rules}
 use Rattle.sheet.proofs.lines.after_line.Goals as goal
 
 pub returns-then-x-lt-SHUT : goal.returns-then-x-lt-SHUT

@@ -1,9 +1,9 @@
 -- `lines::effect_among` meets its contract. The loop's invariant: what the lines from k on do after x is what holds.
-use Prim.Native.Nat.{◌+◌, ◌-◌, ◌≤◌}
+use Prim.Native.Nat.{◌+◌}
 use native.Mathlib.Omega.{arith}
-use mathlib.Core.Path.{◌≡◌, sym, ◌∙◌, ap}
-use Rattle.sheet.specs.Sheet.{line_count, holds}
-use Rattle.sheet.specs.Codes.{effect_in, lines_from}
+use mathlib.Core.Path.{sym, ◌∙◌, ap}
+use Rattle.sheet.specs.Sheet.{line_count}
+use Rattle.sheet.specs.Codes.{effect_in}
 use Rattle.sheet.proofs.Effects.{from, from_step, from_end, from_first}
 use borrow.Author.Rules.{rules}
 use Rattle.sheet.proofs.lines.effect_among.Goals as goal

@@ -1,11 +1,9 @@
 -- `lines::effect_among` meets its contract. The loop's invariant: what the lines from k on do after x is what holds.
-use Prim.Native.Nat.{◌+◌, ◌-◌, ◌≤◌}
-use native.Mathlib.Omega.{arith}
-use mathlib.Core.Path.{◌≡◌, sym, ◌∙◌, ap}
-use Rattle.sheet.specs.Sheet.{line_count, holds}
+use Prim.Native.Nat.{◌-◌, ◌≤◌}
+use mathlib.Core.Path.{◌≡◌}
+use Rattle.sheet.specs.Sheet.{holds}
 use Rattle.sheet.specs.Codes.{effect_in, lines_from}
-use Rattle.sheet.proofs.Effects.{from, from_step, from_end, from_first}
-use borrow.Author.Rules.{rules}
+use Rattle.sheet.proofs.Effects.{from}
 use Rattle.sheet.proofs.lines.effect_among.Given as goal
 
 abbrev pub invariant-loop-k : goal.invariant-loop-k

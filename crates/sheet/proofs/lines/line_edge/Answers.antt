@@ -1,6 +1,5 @@
 -- `lines::line_edge` meets its contract: the number behind the first byte.
 use Rattle.sheet.specs.Sheet.{line}
-use borrow.Author.Rules.{rules}
 use Rattle.sheet.proofs.lines.line_edge.Goals as goal
 
 pub returns : goal.returns

@@ -2,7 +2,6 @@
 use native.Mathlib.Omega.{arith}
 use Rattle.sheet.specs.Sheet.{line}
 use Rattle.sheet.proofs.Effects.{as_closed, as_delayed}
-use borrow.Author.Rules.{rules}
 use Rattle.sheet.proofs.lines.line_effect.Goals as goal
 
 pub returns-then-byte-eq-CLOSED : goal.returns-then-byte-eq-CLOSED

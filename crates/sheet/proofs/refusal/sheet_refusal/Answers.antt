@@ -9,7 +9,6 @@ use Rattle.sheet.specs.Sheet.{lines_in, names_none}
 use Rattle.sheet.specs.Under.{too_slow}
 use Rattle.sheet.specs.ArcsUnder.{left_under}
 use Rattle.sheet.proofs.Forms.{kept_form}
-use borrow.Author.Rules.{rules}
 use Rattle.sheet.proofs.refusal.sheet_refusal.Goals as goal
 
 -- The lines that were lent are the sheet's: the rules of the one are those of the other.

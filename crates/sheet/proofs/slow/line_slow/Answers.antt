@@ -3,7 +3,6 @@ use native.Mathlib.Omega.{arith}
 use mathlib.Core.Path.{sym, ◌∙◌}
 use Rattle.sheet.specs.Sheet.{line, line_count, lines_in, holds}
 use Rattle.sheet.proofs.SlowLines.{by_held, not_over}
-use borrow.Author.Rules.{rules}
 use Rattle.sheet.proofs.slow.line_slow.Goals as goal
 
 pub line_edge-i-requires : goal.line_edge-i-requires

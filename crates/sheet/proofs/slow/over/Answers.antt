@@ -2,7 +2,6 @@
 use native.Mathlib.Omega.{arith}
 use Rattle.model.specs.Network.{edge, edge_count}
 use Rattle.sheet.proofs.SlowLines.{over_shut, over_delayed}
-use borrow.Author.Rules.{rules}
 use Rattle.sheet.proofs.slow.over.Goals as goal
 
 pub returns-then-x-ge-SHUT : goal.returns-then-x-ge-SHUT

@@ -1,16 +1,13 @@
 -- `slow::slow_broken` meets its contract. The loop's invariant: the answer is that for the lines from k on.
-use Prim.Native.Nat.{◌-◌, ◌<◌}
-use mathlib.Core.Path.{◌≡◌, ap, ◌∙◌}
+use Prim.Native.Nat.{◌-◌}
+use mathlib.Core.Path.{◌≡◌}
 use mathlib.Core.List.{map}
 use Rattle.model.specs.Lists.{any}
-use Rattle.theory.specs.RangeLaws.{rest, rest_step, rest_end}
-use Rattle.theory.specs.Scans.{scan_all, scan_found, scan_passed, scan_end}
-use Rattle.sheet.specs.Sheet.{line, line_count, lines_in, holds}
+use Rattle.theory.specs.RangeLaws.{rest}
+use Rattle.sheet.specs.Sheet.{line, lines_in, holds}
 use Rattle.sheet.specs.Under.{too_slow}
 use Rattle.sheet.specs.ArcsUnder.{left_under}
 use Rattle.sheet.specs.Slow.{line_slow}
-use Rattle.sheet.proofs.SlowLines.{slow_lines, names_edge}
-use borrow.Author.Rules.{rules}
 use Rattle.sheet.proofs.slow.slow_broken.Given as goal
 
 abbrev pub invariant-loop-k : goal.invariant-loop-k

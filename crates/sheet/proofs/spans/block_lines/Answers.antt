@@ -2,7 +2,6 @@
 use mathlib.Core.Path.{refl}
 use Rattle.sheet.specs.Sheet.{line_count}
 use Rattle.sheet.specs.Spans.{block_lines}
-use borrow.Author.Rules.{rules}
 use Rattle.sheet.proofs.spans.block_lines.Goals as goal
 
 pub returns : goal.returns

@@ -4,7 +4,6 @@ use Rattle.model.specs.Network.{edge, edge_count}
 use Rattle.words.specs.Regions.{spans_in}
 use Rattle.sheet.specs.Sheet.{lines_in, holds}
 use Rattle.sheet.proofs.Costs.{spanned_in, nothing_held, as_was, by_shut, by_delay}
-use borrow.Author.Rules.{rules}
 use Rattle.sheet.proofs.spans.cost_left.Goals as goal
 
 pub edge_key-cost-requires : goal.edge_key-cost-requires

@@ -1,10 +1,7 @@
 -- `spans::note_all` meets its contract. The loop's invariant: the first k lines are noted.
-use Prim.Native.Nat.{◌-◌}
 use native.Mathlib.Omega.{arith}
-use mathlib.Core.Path.{◌≡◌, refl}
-use lib.ListN.{length}
+use mathlib.Core.Path.{refl}
 use Rattle.sheet.specs.Sheet.{line_count}
-use Rattle.sheet.specs.Spans.{block_lines, SpannedTo}
 use Rattle.sheet.proofs.Noting.{noted_none, noted_all}
 use borrow.Author.Rules.{rules}
 use Rattle.sheet.proofs.spans.note_all.Goals as goal

@@ -1,12 +1,9 @@
 -- `spans::note_all` meets its contract. The loop's invariant: the first k lines are noted.
 use Prim.Native.Nat.{◌-◌}
-use native.Mathlib.Omega.{arith}
-use mathlib.Core.Path.{◌≡◌, refl}
+use mathlib.Core.Path.{◌≡◌}
 use lib.ListN.{length}
 use Rattle.sheet.specs.Sheet.{line_count}
 use Rattle.sheet.specs.Spans.{block_lines, SpannedTo}
-use Rattle.sheet.proofs.Noting.{noted_none, noted_all}
-use borrow.Author.Rules.{rules}
 use Rattle.sheet.proofs.spans.note_all.Given as goal
 
 abbrev pub invariant-loop-k : goal.invariant-loop-k

@@ -6,7 +6,6 @@ use lib.ListN.{length}
 use Rattle.sheet.specs.Sheet.{line_count}
 use Rattle.sheet.specs.Spans.{block_lines}
 use Rattle.sheet.proofs.Noting.{small, noted_next}
-use borrow.Author.Rules.{rules}
 use Rattle.sheet.proofs.spans.note_line.Goals as goal
 
 pub line_edge-requires : goal.line_edge-requires

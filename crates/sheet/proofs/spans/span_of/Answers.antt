@@ -1,7 +1,6 @@
 -- `spans::span_of` meets its contract: a word of the spans is a word of the working words.
 use native.Mathlib.Omega.{arith}
 use Rattle.sheet.proofs.Noting.{span_read, span_place}
-use borrow.Author.Rules.{rules}
 use Rattle.sheet.proofs.spans.span_of.Goals as goal
 
 pub overflow_add-result : goal.overflow_add-result

@@ -3,12 +3,11 @@ use native.Mathlib.Omega.{arith}
 use mathlib.Core.Path.{sym, ◌∙◌}
 use borrow.Author.Tests.{eq-eqb, ne_eqb}
 use Rattle.words.proofs.TimeLaws.{times_length}
-use Rattle.arcs.specs.Leaving.{arc_rank}
 use Rattle.arcs.proofs.Passes.{passes_first}
-use Rattle.arcs.proofs.Tests.{Unmet, unmet_first, unmet_next, met, unmet_last}
+use Rattle.arcs.proofs.Tests.{unmet_first, unmet_next, met, unmet_last}
 use Rattle.words.specs.Regions.{times_in}
 use Rattle.way.specs.Distances.{distance_in}
-use Rattle.way.proofs.Drives.{driving, driving_from, some_drives, asked}
+use Rattle.way.proofs.Drives.{driving_from, some_drives, asked}
 use Rattle.way.proofs.Words.{node_in}
 use Rattle.way.proofs.driven.drives.Goals as goal
 

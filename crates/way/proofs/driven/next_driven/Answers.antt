@@ -1,7 +1,6 @@
 -- `driven::next_driven` meets its contract: the way ends at u, or it goes on to v.
 use mathlib.Core.Path.{refl, sym, ◌∙◌}
 use mathlib.Core.List.{[]}
-use borrow.Author.Rules.{rules}
 use Rattle.arcs.proofs.Bodies.{plain}
 use Rattle.way.proofs.Steps.{starts, stops, goes}
 use Rattle.way.proofs.Drives.{left_read, way_ended, step_driven, step_broken}

@@ -1,13 +1,10 @@
 -- `driven::still_driven` meets its contract: the check stands at a node of the way, at its end, or at a broken step.
-use native.Mathlib.Omega.{arith}
 use mathlib.Core.List.{[]}
-use borrow.Author.Rules.{rules}
 use Rattle.sheet.specs.Under.{still_driven}
 use Rattle.sheet.specs.ArcsUnder.{arcs_under}
 use Rattle.words.specs.Regions.{times_in}
 use Rattle.way.specs.Distances.{distance_in, nodes_in}
-use Rattle.way.proofs.Steps.{no_way, begins}
-use Rattle.way.proofs.Drives.{StillAt, left_at, none_driven, still_first, still_next, left_less, still_last}
+use Rattle.way.proofs.Drives.{StillAt, left_at}
 use Rattle.way.proofs.driven.still_driven.Given as goal
 
 abbrev pub invariant-loop-u : goal.invariant-loop-u

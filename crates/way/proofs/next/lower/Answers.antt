@@ -3,7 +3,6 @@ use native.Mathlib.Omega.{arith}
 use Rattle.words.proofs.TimeLaws.{times_length}
 use Rattle.way.proofs.Words.{lower_none, lower_other, lower_take, lower_keep}
 use Rattle.words.specs.Regions.{times_in}
-use borrow.Author.Rules.{rules}
 use Rattle.way.proofs.next.lower.Goals as goal
 
 pub returns-then-x-eq-NO_WALK : goal.returns-then-x-eq-NO_WALK

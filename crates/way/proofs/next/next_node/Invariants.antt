@@ -1,13 +1,8 @@
 -- `next::next_node` meets its contract: the lowest over the arcs passed, which at the end are those that leave the node.
-use native.Mathlib.Omega.{arith}
-use borrow.Author.Rules.{rules}
-use Rattle.words.proofs.TimeLaws.{times_length}
-use Rattle.way.proofs.Nexts.{Lowered, lowered_first, lowered_next, lowered_last}
-use Rattle.way.proofs.Words.{node_in}
+use Rattle.way.proofs.Nexts.{Lowered}
 use Rattle.way.specs.Distances.{distance_in}
 use Rattle.words.specs.Regions.{times_in}
 use Rattle.arcs.specs.Leaving.{arc_rank}
-use Rattle.arcs.proofs.Passes.{passes_first}
 use Rattle.way.proofs.next.next_node.Given as goal
 
 abbrev pub invariant-loop-a : goal.invariant-loop-a

@@ -5,7 +5,6 @@ use lib.ListN.{length}
 use Rattle.sheet.specs.ArcsUnder.{arcs_under}
 use Rattle.way.proofs.Splices.{splice_none, splice_on}
 use Rattle.way.proofs.Steps.{no_way, starts, begins, room}
-use borrow.Author.Rules.{rules}
 use Rattle.way.proofs.whole.whole_way.Goals as goal
 
 pub returns-then-left-eq-NO_WALK : goal.returns-then-left-eq-NO_WALK
