@@ -128,8 +128,8 @@ fn section() -> String {
     format!(
         "
 Until T-05 the last line about a road held, so a delay after a closure opened the road. Answers can be others than before only under sheets where a delay
-follows a closure of its road and no later line closes it. That is proved for every sheet, refusals included (crates/sheet_demands, SheetDemands `same-time`
-and `same-way`). Of our stored trials {} are of that kind. `sheets.txt` is in host/tests/trials, `SheetTrials` in crates/sheet_demands/specs.
+follows a closure of its road and no later line closes it. That is proved for every sheet, refusals included (crates/sheet_demands, SheetAnswers `same_time`
+and `same_way`). Of our stored trials {} are of that kind. `sheets.txt` is in host/tests/trials, `SheetTrials` in crates/sheet_demands/specs.
 
 | table | network | lines | from, to | before | after |
 |---|---|---|---|---|---|
