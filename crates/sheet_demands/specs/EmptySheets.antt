@@ -24,8 +24,8 @@ use Rattle.theory.specs.Passed.{all_shaped}
 use Rattle.theory.specs.Sound.{count_nodes}
 use Rattle.theory.specs.BuiltCalls as plain
 use Rattle.demands.specs.Outcomes.{timed}
-use Rattle.demands.specs.CallLaws as laws
-use Rattle.demands.specs.Written as written
+use Rattle.demands.proofs.CallLaws as laws
+use Rattle.demands.proofs.Written as written
 use Rattle.demands.specs.DemandLaws as demands
 use Rattle.sheet.specs.Sheet.{effects, line_count, line_body, sheet_broken}
 use Rattle.sheet.specs.Under.{still_driven, isNone, old_stands, time_under}

@@ -33,7 +33,7 @@ use Rattle.theory.specs.Tests.{refuted}
 use Rattle.tables.specs.Bounds.{seconds_small, word_tells, seconds_tell}
 use Rattle.emit.specs.PartLaws.{map_same}
 use Rattle.demands.specs.Outcomes.{Refuses, handed}
-use Rattle.demands.specs.CallLaws as laws
+use Rattle.demands.proofs.CallLaws as laws
 use Rattle.demands.specs.DemandLaws as demands
 use Rattle.checks.specs.RuleLists.{named_rules}
 use Rattle.checks.proofs.NameLists.{named_counted}
