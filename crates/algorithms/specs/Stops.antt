@@ -12,7 +12,8 @@ use Rattle.model.specs.Oracle.{no_walk, coded}
 use Rattle.theory.specs.Walks.{Within, Costs, Positive, walk_in, least_unique}
 use Rattle.theory.specs.Exact.{time_least, least_time}
 use Rattle.theory.specs.RangeLaws.{length-range}
-use Rattle.algorithms.specs.Dijkstra.{at, settled_least, from_start}
+use Rattle.algorithms.specs.Dijkstra.{at}
+use Rattle.algorithms.specs.Dijkstra.{settled_least, from_start}
 use Rattle.algorithms.specs.Settle.{Falling}
 use Rattle.algorithms.specs.Rounds.{Found, State, distance_words}
 use Rattle.algorithms.specs.Marks.{Search}

@@ -20,12 +20,12 @@ use Rattle.theory.specs.Sound.{count_nodes, near}
 use Rattle.theory.specs.Sound as sound
 use Rattle.theory.specs.ReadLaws.{decoded_coded}
 use Rattle.theory.specs.Keys.{key_of_pair}
-use Rattle.theory.specs.Times.{time_exact}
+use Rattle.theory.proofs.ExactTimes.{time_exact}
 use Rattle.theory.specs.Accepted.{good}
 use Rattle.theory.specs.Built.{bodies_of}
 use Rattle.theory.specs.BuiltCalls.{time_kept}
 use Rattle.theory.specs.PairModel.{distance_pair}
-use Rattle.model.specs.Meanings.{meaning_injective}
+use Rattle.model.proofs.Meanings.{meaning_injective}
 use Rattle.demands.specs.Outcomes.{Refuses}
 use Rattle.demands.proofs.CallLaws as laws
 use Rattle.block.specs.Block.{max_names, sides_rules, block_rules, unused_row, unused_block, refused, block_refusal, block_after, BlockCall}

@@ -9,7 +9,7 @@ use Rattle.model.specs.Network.{network, node_count, edge_count}
 use Rattle.model.specs.Grid.{grid_broken}
 use Rattle.model.specs.Oracle.{oracle}
 use Rattle.model.specs.Query.{kind_between, far_answer, time_answer, way}
-use Rattle.model.specs.Meanings.{meaning_injective}
+use Rattle.model.proofs.Meanings.{meaning_injective}
 use Rattle.model.specs.Rules.{Rule, rule, first_broken, network_rules, pair_rules, far_rules, words_needed, output_too_small, local_pair}
 use Rattle.model.specs.Rules.{is_local, well_shaped, work_words}
 use Rattle.model.specs.Calls.{output_after, size_after, answer_after, route_after, Build, TimeCall, far_result, FarCall, way_refusal, WayCall}

@@ -7,7 +7,7 @@ use Rattle.model.specs.Lists.{any}
 use Rattle.model.specs.Bytes.{Bytes}
 use Rattle.model.specs.Contents.{node_body, edge_body, network_edition, network_entries}
 use Rattle.model.specs.Network.{node_count, edge_count}
-use Rattle.model.specs.Meanings.{meaning_injective}
+use Rattle.model.proofs.Meanings.{meaning_injective}
 use Rattle.model.specs.Rules.{rule, first_broken, well_shaped, words_needed}
 use Rattle.model.specs.Calls.{output_after, answer_after, route_after, Build}
 use Rattle.model.specs.declared.Answer.{Answer}

@@ -15,7 +15,7 @@ use Rattle.model.specs.Grid.{Cell}
 use Rattle.model.specs.Access.{access_nodes}
 use Rattle.model.specs.Oracle.{AccessEntry, oracle, transit_of, access_list}
 use Rattle.model.specs.Query.{rule_of, distance_of, kind_between, answer_of, time_answer, far_answer, local_answer, way}
-use Rattle.model.specs.Meanings.{meaning_injective}
+use Rattle.model.proofs.Meanings.{meaning_injective}
 use Rattle.model.specs.Rules.{accepted, well_shaped, words_needed, first_broken, build_rules, audit_rules, time_rules, far_rules, list_rules, way_rules}
 use Rattle.model.specs.Calls.{output_after, answer_after, build_refusal, Build, audit_refusal, Audit, time_refusal, time_result}
 use Rattle.model.specs.Calls.{TimeCall, far_result, FarCall, list_refusal, list_result, way_refusal, route_after, WayCall}

@@ -12,7 +12,7 @@ use Rattle.model.specs.Calls.{output_after, route_after}
 use Rattle.model.specs.declared.Route.{Route}
 use Rattle.theory.specs.NetWays.{Sane}
 use Rattle.theory.specs.PairModel.{distance_pair}
-use Rattle.theory.specs.PairWays.{way_pair}
+use Rattle.theory.proofs.WayPairs.{way_pair}
 use Rattle.demands.specs.Outcomes.{WayWritten}
 use Rattle.demands.specs.CallLaws as laws
 use Rattle.demands.specs.Written.{count}

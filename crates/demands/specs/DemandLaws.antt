@@ -16,7 +16,7 @@ use Rattle.model.specs.Grid.{Cell, division}
 use Rattle.model.specs.Access.{access_nodes}
 use Rattle.model.specs.Oracle.{AccessEntry, oracle, transit_of, transit_count, access_list, list_size, list_start, list_count, list_part, table_entry}
 use Rattle.model.specs.Query.{distance_of, kind_between, answer_of, time_answer, far_answer, way, list_span, list_of}
-use Rattle.model.specs.Meanings.{meaning_injective}
+use Rattle.model.proofs.Meanings.{meaning_injective}
 use Rattle.model.specs.Rules.{accepted, well_shaped, words_needed, shape_rules, list_rules}
 use Rattle.model.specs.Rules.{no_such_node, work_words}
 use Rattle.model.specs.Calls.{cleared, work_after, output_after, answer_after, build_refusal, built_after, Build, Audit, time_result}
@@ -30,7 +30,8 @@ use Rattle.model.specs.declared.Route.{Route}
 use Rattle.theory.specs.Joined.{list_within}
 use Rattle.theory.specs.ReadLaws.{entry_of}
 use Rattle.theory.specs.PairModel.{distance_pair}
-use Rattle.theory.specs.AccessLaws.{AccessNode, access_exact}
+use Rattle.theory.specs.AccessLaws.{AccessNode}
+use Rattle.theory.proofs.AccessExact.{access_exact}
 use Rattle.theory.specs.Firsts.{split}
 use Rattle.theory.specs.Passed.{all_passed, all_shaped, shape_counted}
 use Rattle.theory.specs.Sound.{ends, few, count_nodes}
@@ -39,6 +40,7 @@ use Rattle.theory.specs.Built as built
 use Rattle.theory.specs.WellShaped as shape
 use Rattle.theory.specs.Audits as audits
 use Rattle.theory.specs.Times as times
+use Rattle.theory.proofs.ExactTimes as exact
 use Rattle.theory.specs.BuiltCalls as calls
 use Rattle.theory.specs.NetWays.{Sane}
 use Rattle.theory.specs.Ways as ways
@@ -222,7 +224,7 @@ module _ {f : Bytes} {dv : Division} {work work' : List ℕ} {out out' : Bytes} 
     kind_built = rw (handed_is, built.same_kind f dv (good f dv (all_passed f dv ok)) s t) (far_cells dv (network f).nodes (cell_in f dv s) (cell_in f dv t))
 
     pub least : IsLeastPair (PairWalk (timed_arcs (network f)) s t) (distance_of (time_answer o s t))
-    least = rw handed_is (times.time_pair f dv ok s t (below_order hs) (below_order ht))
+    least = rw handed_is (exact.time_pair f dv ok s t (below_order hs) (below_order ht))
 
     module _ {words words' : List ℕ} {room room' : Bytes} {route : Route} (query : WayCall o s t words room route words' room')
         (enough : words_needed f ≤ length words) (fits : 2 * length (way (network o) s t) ≤ length room) where

@@ -10,7 +10,7 @@ use Rattle.model.specs.Query.{way}
 use Rattle.model.specs.Calls.{output_after, route_after}
 use Rattle.model.specs.declared.Route.{Route}
 use Rattle.theory.specs.NetWays.{Sane}
-use Rattle.theory.specs.PairWays.{way_absent}
+use Rattle.theory.proofs.WayPairs.{way_absent}
 
 pub count : (nodes : List ℕ) {route : Route} → route ≡ route_after 0 nodes → route.nodes ≡ length nodes
 unfolding route_after

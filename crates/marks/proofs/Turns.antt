@@ -15,7 +15,8 @@ use Rattle.theory.specs.Members.{any→, →any}
 use Rattle.theory.specs.Walks.{Positive}
 use Rattle.algorithms.specs.Dijkstra.{at}
 use Rattle.algorithms.specs.Settle.{Falling}
-use Rattle.algorithms.specs.Pass.{Reason, wanted, onward, Is, Upto, upto_start, upto_end, turn_mark, turn_skip}
+use Rattle.algorithms.specs.Pass.{Reason, wanted, onward, Is, Upto, upto_start, upto_end}
+use Rattle.algorithms.proofs.Turns.{turn_mark, turn_skip}
 use Rattle.marks.specs.Due.{Flagged, leading, due, turned}
 use Rattle.marks.proofs.Views.{order_kept, order_next, order_end}
 use Rattle.words.specs.Regions.{times_in, order_in, marks_in, search_words, queue_words}

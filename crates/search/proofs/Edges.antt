@@ -12,7 +12,8 @@ use Rattle.model.specs.Walk.{Arc}
 use Rattle.model.specs.Network.{edge, edge_count, some_edge_broken}
 use Rattle.model.specs.Oracle.{no_walk}
 use Rattle.theory.specs.Sound.{edge_fine, max_cost}
-use Rattle.algorithms.specs.Dijkstra.{at, relax, relax_all, relax_all_le, relax_all_same, relax_append}
+use Rattle.algorithms.specs.Dijkstra.{at, relax, relax_all, relax_append}
+use Rattle.algorithms.proofs.DijkstraLaws.{relax_all_le, relax_all_same}
 use Rattle.heap.specs.Queue.{lowered}
 use Rattle.words.specs.Frames.{Enough, KeptFrom}
 use Rattle.words.specs.Regions.{front_in, times_in, search_words, index_at}

@@ -6,7 +6,8 @@ use mathlib.Core.List.{List, [], ◌∷◌, ◌++◌}
 use lib.ListN.{length, take, drop}
 use Rattle.model.specs.Bytes.{Bytes}
 use Rattle.model.specs.Walk.{Arc}
-use Rattle.algorithms.specs.Dijkstra.{at, relax, relax_all, relax_all_le, relax_all_same, relax_append}
+use Rattle.algorithms.specs.Dijkstra.{at, relax, relax_all, relax_append}
+use Rattle.algorithms.proofs.DijkstraLaws.{relax_all_le, relax_all_same}
 use Rattle.sheet.specs.ArcsUnder.{arcs_under}
 use Rattle.arcs.specs.Arcs.{leaving}
 use Rattle.heap.specs.Queue.{lowered}

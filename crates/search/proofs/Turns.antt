@@ -11,7 +11,8 @@ use Rattle.model.specs.Oracle.{no_walk}
 use Rattle.model.specs.Walk.{Arc}
 use Rattle.theory.specs.Sound.{max_cost}
 use Rattle.algorithms.specs.Dijkstra.{at, relax_all, at_set}
-use Rattle.algorithms.specs.Rounds.{Found, State, state_first, state_turn, state_found}
+use Rattle.algorithms.specs.Rounds.{Found, State}
+use Rattle.algorithms.proofs.RoundsLaws.{state_first, state_turn, state_found}
 use Rattle.arcs.specs.Arcs.{leaving}
 use Rattle.arcs.proofs.Bodies.{Bounded, leaving_out}
 use Rattle.search.specs.Holds.{Holds, Relaxed, SettledWithin, SettledFirst}

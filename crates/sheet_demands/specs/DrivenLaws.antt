@@ -13,7 +13,7 @@ use Rattle.theory.specs.Walks.{Positive}
 use Rattle.theory.specs.Way.{Exact, Step, nexts→, →nexts, then_exact, first_step}
 use Rattle.theory.specs.Slower.{Taking, extend}
 use Rattle.sheet.specs.Under.{still_driven}
-use Rattle.sheet_demands.specs.SheetOutcomes.{Between, Again, Driven}
+use Rattle.sheet_demands.specs.SheetOutcomes.{Between, Again}
 
 -- ---- a step of an old way
 module _ (old : List Arc) (t : ℕ) (d : ℕ → Distance) (exact : Exact old t d) {u v : ℕ} (s : Step d old u v) where
@@ -54,10 +54,10 @@ module _ (old : List Arc) (t : ℕ) (d : ℕ → Distance) (exact : Exact old t 
         sum = omega (arith, s.sum, b.cost);
       }))
 
-  step_to : (new : List Arc) → member v (nexts d new u) ≡ true → Again old new u v
+  pub step_to : (new : List Arc) → member v (nexts d new u) ≡ true → Again old new u v
   step_to new h = record { seconds = s.arc.cost; was = step_least; still = (step_again new).0 h }
 
-  step_from : (new : List Arc) → Again old new u v → member v (nexts d new u) ≡ true
+  pub step_from : (new : List Arc) → Again old new u v → member v (nexts d new u) ≡ true
   step_from new g =
       let l = step_least in
       let e : g.seconds ≡ s.arc.cost = omega (arith, l.least g.seconds g.was.has, g.was.least s.arc.cost l.has) in
@@ -65,20 +65,6 @@ module _ (old : List Arc) (t : ℕ) (d : ℕ → Distance) (exact : Exact old t 
 
 -- ---- a whole way: the nodes of a least walk
 module _ (old new : List Arc) (t : ℕ) (d : ℕ → Distance) (exact : Exact old t d) (positive : Positive old) where
-  to_driven : {u n : ℕ} (w : Walk old u t n) → d u ≡ finite n → still_driven d new (nodes_of w) ≡ true → Driven old new (nodes_of w)
-  unfolding nodes_of nodes_after still_driven Driven
-  to_driven stay e h = tt
-  to_driven (go {n = k} a m w) e h =
-      let p = both {b = member a.to (nexts d new a.from)} h in
-      (step_to old t d exact (first_step old t d exact positive a m w e) new p.0, to_driven w (then_exact old t d exact positive a m w e) p.1)
-
-  from_driven : {u n : ℕ} (w : Walk old u t n) → d u ≡ finite n → Driven old new (nodes_of w) → still_driven d new (nodes_of w) ≡ true
-  unfolding nodes_of nodes_after still_driven Driven
-  from_driven stay e h = refl
-  from_driven (go {n = k} a m w) e h =
-      and (step_from old t d exact (first_step old t d exact positive a m w e) new h.0)
-      (from_driven w (then_exact old t d exact positive a m w e) h.1)
-
   -- Where every step of a least walk can still be driven in its old time, its nodes can be walked in its time.
   pub driven : {u n : ℕ} (w : Walk old u t n) → d u ≡ finite n → still_driven d new (nodes_of w) ≡ true → Taking new u t n (nodes_after w)
   unfolding nodes_after nodes_of still_driven
@@ -90,9 +76,6 @@ module _ (old new : List Arc) (t : ℕ) (d : ℕ → Distance) (exact : Exact ol
       let i : a.cost + k ≡ s.n = time_inj (sym e ∙ s.here) in
       let j : k ≡ s.k = time_inj (sym e' ∙ s.there) in
       extend s.arc s.listed {l = nodes_after w} s.starts s.ends (omega (arith, s.sum, i, j)) (driven w e' p.1)
-
-  pub driven_just : {u n : ℕ} (w : Walk old u t n) → d u ≡ finite n → (still_driven d new (nodes_of w) ≡ true) ↔ Driven old new (nodes_of w)
-  driven_just w e = (to_driven w e, from_driven w e)
 
 -- Every step of a least walk is driven in its time over the same arcs.
 pub driven_itself : (es : List Arc) (t : ℕ) (d : ℕ → Distance) (exact : Exact es t d) (positive : Positive es) {u n : ℕ} (w : Walk es u t n) → d u ≡ finite n

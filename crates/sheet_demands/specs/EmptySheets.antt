@@ -12,7 +12,7 @@ use Rattle.model.specs.Walk.{PairWalk}
 use Rattle.model.specs.Distance.{Distance, unreachable, finite}
 use Rattle.model.specs.Network.{network, timed_arcs, arcs, distance}
 use Rattle.model.specs.Query.{answer, rule_of, kind_between, answer_of, time_answer, far_answer, local_answer, way}
-use Rattle.model.specs.Meanings.{meaning_injective}
+use Rattle.model.proofs.Meanings.{meaning_injective}
 use Rattle.model.specs.Rules.{first_broken, time_rules}
 use Rattle.model.specs.Calls.{answer_after, time_refusal, time_result, TimeCall, way_refusal, WayCall}
 use Rattle.model.specs.declared.Kind.{Kind}
@@ -22,11 +22,8 @@ use Rattle.model.specs.declared.Answer.TheVariants.{Time, None, Refused}
 use Rattle.model.specs.declared.Route.{Route}
 use Rattle.theory.specs.Passed.{all_shaped}
 use Rattle.theory.specs.Sound.{count_nodes}
-use Rattle.theory.specs.BuiltCalls as plain
 use Rattle.demands.specs.Outcomes.{timed}
-use Rattle.demands.proofs.CallLaws as laws
-use Rattle.demands.proofs.Written as written
-use Rattle.demands.specs.DemandLaws as demands
+use Rattle.demands.specs.CallLaws as laws
 use Rattle.sheet.specs.Sheet.{effects, line_count, line_body, sheet_broken}
 use Rattle.sheet.specs.Under.{still_driven, isNone, old_stands, time_under}
 use Rattle.sheet.specs.SheetCalls.{time_under_rules, time_under_refusal, time_under_result, TimeUnderCall, way_under_refusal, WayUnderCall}

@@ -1,5 +1,5 @@
 -- What T-05 is held against: the rule of before it, the calls by any rule, and the sheets under which answers can change. Nothing but the theorem of
--- `SheetDemands` on what stayed goes by this. Assumes nothing.
+-- `SheetAnswers` (proofs/) on what stayed goes by this. Assumes nothing.
 use Rattle.std.specs.Prelude.{ℕ, ◌*◌, ◌≡◌, true, false, List, [], ◌∷◌, ◌++◌, length}
 use Rattle.model.specs.Lists.{concat_map}
 use Rattle.model.specs.Bytes.{Bytes, bytes16, number_size}

@@ -1,39 +1,39 @@
--- The proofs of what `SheetDemands` states of the calls. Assumes nothing.
-use Rattle.std.specs.Prelude.{ℕ, ◌*◌, ◌≤◌, ◌<◌, ◌≡◌, refl, ◌⊎◌, ◌↔◌, Bool, cond, ◌||◌, List, [], length}
+-- Of what `SheetDemands` and proofs/SheetAnswers.antt state of the calls, the proofs. Those that rest on `Driven`, and those of the answers over what
+-- building hands over, are in proofs/, OldWays and BuiltLaws. Assumes nothing.
+use Rattle.std.specs.Prelude.{ℕ, ◌*◌, ◌≤◌, ◌<◌, ◌≡◌, refl, Bool, cond, List, [], length}
 use Rattle.std.proofs.Math.Path.{sym, ap}
-use Rattle.std.proofs.Common.{◌∙◌, subst, inl, inr}
-use Rattle.std.proofs.Math.Bool.{true, false, or-true}
+use Rattle.std.proofs.Common.{◌∙◌}
+use Rattle.std.proofs.Math.Bool.{true, false}
 use Rattle.model.specs.Lists.{concat_map}
 use Rattle.model.specs.Bytes.{Bytes, bytes16}
 use Rattle.model.specs.Contents.{node_body}
 use Rattle.model.specs.Pair.{Pair}
 use Rattle.model.specs.Walk.{PairWalk, LeastPair}
 use Rattle.model.specs.Distance.{IsLeastPair}
-use Rattle.model.specs.Network.{Network, network, node_count, order, timed_arcs, arcs, distance, max_nodes}
+use Rattle.model.specs.Network.{Network, network, node_count, order, timed_arcs, distance, max_nodes}
 use Rattle.model.specs.Query.{rule_of, distance_of, kind_between, time_answer, local_answer, way}
-use Rattle.model.specs.Meanings.{meaning_injective}
+use Rattle.model.proofs.Meanings.{meaning_injective}
 use Rattle.model.specs.Rules.{first_broken, well_shaped, words_needed}
-use Rattle.model.specs.Calls.{output_after, answer_after, route_after, Build, TimeCall, way_refusal, WayCall}
+use Rattle.model.specs.Calls.{output_after, answer_after, route_after, Build, TimeCall}
 use Rattle.model.specs.declared.Division.{Division}
 use Rattle.model.specs.declared.Kind.{Kind}
 use Rattle.model.specs.declared.Kind.TheVariants.{Local}
 use Rattle.model.specs.declared.Answer.{Answer}
-use Rattle.model.specs.declared.Answer.TheVariants.{Time, None, Refused}
+use Rattle.model.specs.declared.Answer.TheVariants.{Refused}
 use Rattle.model.specs.declared.Built.{Built}
 use Rattle.model.specs.declared.Route.{Route}
 use Rattle.theory.specs.Passed.{Sound, all_shaped}
 use Rattle.theory.specs.Sound.{few, count_nodes}
 use Rattle.theory.specs.Given.{rule_of_law}
-use Rattle.theory.specs.BuiltCalls as plain
 use Rattle.demands.specs.Outcomes.{Refuses, handed, pairs_tried, timed, Answers, WayWritten}
 use Rattle.demands.proofs.CallLaws as laws
-use Rattle.demands.proofs.AnswerLaws.{time_answers, least_of}
+use Rattle.demands.proofs.AnswerLaws.{time_answers}
 use Rattle.demands.proofs.Written as written
 use Rattle.demands.specs.DemandLaws as demands
 use Rattle.sheet.specs.Sheet.{effects, line_count, line_body, sheet_broken}
-use Rattle.sheet.specs.Under.{network_under, still_driven, isNone, old_stands, time_under, way_under}
+use Rattle.sheet.specs.Under.{network_under, old_stands, time_under, way_under}
 use Rattle.sheet.specs.SheetCalls.{sheet_rules, time_under_rules, way_under_rules, time_under_refusal, time_under_result, TimeUnderCall, way_under_refusal, WayUnderCall}
-use Rattle.sheet_demands.specs.SheetOutcomes.{roads, Driven, kind_under, pairs_under}
+use Rattle.sheet_demands.specs.SheetOutcomes.{roads, kind_under, pairs_under}
 use Rattle.sheet_demands.specs.Changed.{sane, same_order}
 use Rattle.sheet_demands.specs.UnderLaws as under
 use Rattle.sheet_demands.specs.UnderCalls as calls
@@ -81,47 +81,6 @@ module _ (o : Bytes) (shaped : well_shaped o ≡ true) (sheet : Bytes) (s t : �
   start : s < order (network o)
   start = rw (count_nodes o) hs
 
-  abbrev old_way : List ℕ
-  old_way = way (network o) s t
-
-  -- Its every step can still be driven: in keys, as the definition asks it, and in seconds.
-  abbrev driven : Bool
-  driven = still_driven (λ v. distance (network o) v t) (arcs (network_under (effects sheet) o)) old_way
-
-  abbrev StillDriven : Type 0
-  StillDriven = Driven (timed_arcs (network o)) (roads o sheet) old_way
-
-  pub still_driven_law : (driven ≡ true) ↔ StillDriven
-  still_driven_law = under.driven_way (effects sheet) o sound s t start below
-
-  -- The old answer was 'none', or there is an old way and it can still be driven.
-  pub stands_just : {words words' : List ℕ} {b : Answer} → TimeCall o s t words b words' → words_needed o ≤ length words
-      → (old_stands (effects sheet) o s t ≡ true) ↔
-      (((kind : Kind) × (pairs : ℕ) × (b ≡ None kind pairs)) ⊎ StillDriven)
-  unfolding old_stands isNone
-  stands_just {b = b} query enough = rw e (step (time_answer o s t) driven still_driven_law)
-    where
-      e : b ≡ time_answer o s t
-      e = demands.time_is o shaped s t hs ht query enough
-
-      step : (x : Answer) (c : Bool) → (c ≡ true) ↔ StillDriven
-          → (isNone x || c ≡ true) ↔ (((kind : Kind) × (pairs : ℕ) × (x ≡ None kind pairs)) ⊎ StillDriven)
-      step x c h = (to x, back)
-        where
-          to : (y : Answer) → isNone y || c ≡ true → ((kind : Kind) × (pairs : ℕ) × (y ≡ None kind pairs)) ⊎ StillDriven
-          to (Time n hops kind pairs) q = inr (h.0 q)
-          to (None kind pairs) q = inl (kind, pairs, refl)
-          to (Refused r) q = inr (h.0 q)
-
-          back : ((kind : Kind) × (pairs : ℕ) × (x ≡ None kind pairs)) ⊎ StillDriven → isNone x || c ≡ true
-          back (inl (kind, pairs, q)) = rw q
-          back (inr g) = rw (h.1 g) (or-true (isNone x))
-
-  -- The way under the sheet is the old one where that can still be driven.
-  driven_same : StillDriven → way_under (effects sheet) o s t ≡ old_way
-  unfolding way_under
-  driven_same h = under.way_again (effects sheet) o sound s t start below (still_driven_law.1 h)
-
   module _ (kept : first_broken (sheet_rules o sheet) ≡ 0) where
     module _ {words words' : List ℕ} {a : Answer} (query : TimeUnderCall o sheet s t words a words') (enough : words_needed o ≤ length words) where
       time_is : a ≡ time_under (effects sheet) o s t
@@ -157,11 +116,11 @@ module _ (o : Bytes) (shaped : well_shaped o ≡ true) (sheet : Bytes) (s t : �
       abbrev net : Network
       net = network_under (effects sheet) o
 
-      result : route ≡ route_after 0 (way net s t)
+      pub result : route ≡ route_after 0 (way net s t)
       unfolding way_under
       result = query.result ∙ rw none_broken
 
-      bytes : room' ≡ output_after 0 (concat_map bytes16 (way net s t)) room
+      pub bytes : room' ≡ output_after 0 (concat_map bytes16 (way net s t)) room
       unfolding way_under
       bytes = query.bytes ∙ rw none_broken
 
@@ -186,15 +145,6 @@ module _ (o : Bytes) (shaped : well_shaped o ≡ true) (sheet : Bytes) (s t : �
       pub way_none : ((p : Pair) → PairWalk (roads o sheet) s t p → ⊥) → (route.nodes ≡ 0) × (room' ≡ room)
       way_none = written.way_none net (sane (effects sheet) o sound) under_few under_start under_below result bytes
 
-      -- Where the old way can still be driven, the call does what `way` does.
-      pub way_again : Driven (timed_arcs (network o)) (roads o sheet) old_way → {others others' : List ℕ} {plain_room : Bytes} {plain_route : Route}
-          → WayCall o s t others room plain_route others' plain_room → words_needed o ≤ length others → (route ≡ plain_route) × (room' ≡ plain_room)
-      unfolding way_under
-      way_again h {others} old many =
-          let e = driven_same h in
-          let k : way_refusal o s t others room ≡ 0 = plain.way_kept o shaped s t hs ht others room many (rw (← e) fits) in
-          (result ∙ (ap (route_after 0) e ∙ sym (old.result ∙ rw k)), bytes ∙ (ap (λ l. output_after 0 (concat_map bytes16 l) room) e ∙ sym (old.bytes ∙ rw k)))
-
 -- ---- what building hands over
 module _ {f : Bytes} {dv : Division} {work work' : List ℕ} {out out' : Bytes} {r : Built} (call : Build f dv work out r work' out') (done : r.rule ≡ 0)
     (sheet : Bytes) where
@@ -203,14 +153,6 @@ module _ {f : Bytes} {dv : Division} {work work' : List ℕ} {out out' : Bytes} 
 
   abbrev N : ℕ
   N = node_count (node_body f)
-
-  -- A sheet leaves of the oracle's roads what it leaves of the network's.
-  under_same : network_under (effects sheet) o ≡ network_under (effects sheet) f
-  unfolding network_under
-  under_same = let own = demands.built_own call done in rw (own.0, own.1)
-
-  roads_same : roads o sheet ≡ roads f sheet
-  roads_same = ap timed_arcs under_same
 
   own_words : {k : ℕ} → words_needed f ≤ k → words_needed o ≤ k
   own_words h = rw (demands.handed_words call done) h
@@ -222,42 +164,10 @@ module _ {f : Bytes} {dv : Division} {work work' : List ℕ} {out out' : Bytes} 
   old_least s t hs ht = rw (demands.handed_network call done) (demands.least call done s t hs ht)
 
   module _ (kept : first_broken (sheet_rules o sheet) ≡ 0) (s t : ℕ) (hs : s < N) (ht : t < N) where
-    pub time_built : {words words' : List ℕ} {a : Answer} → TimeUnderCall o sheet s t words a words' → words_needed f ≤ length words
-        → Answers (PairWalk (roads f sheet) s t) (kind_under o sheet s t) (pairs_under o sheet s t) a
-    time_built {a = a} query enough =
-        subst (λ es. Answers (PairWalk es s t) (kind_under o sheet s t) (pairs_under o sheet s t) a) roads_same
-        (time_least o (demands.handed_shape call done) sheet s t (own_node hs) (own_node ht) kept query (own_words enough) (old_least s t hs ht))
-
     module _ {words words' : List ℕ} {room room' : Bytes} {route : Route} (query : WayUnderCall o sheet s t words room route words' room')
         (enough : words_needed f ≤ length words) (fits : 2 * length (way_under (effects sheet) o s t) ≤ length room) where
-      pub way_built : {others others' : List ℕ} {a : Answer} → TimeUnderCall o sheet s t others a others' → words_needed f ≤ length others
-          → {p : Pair} {pairs : ℕ} {kind : Kind} → a ≡ timed p kind pairs → WayWritten (roads f sheet) s t p room route room'
-      way_built time many {p} e =
-          let l : LeastPair (roads f sheet) s t p = least_of _ (time_built time many) e in
-          subst (λ es. WayWritten es s t p room route room') roads_same
-          (way_least o (demands.handed_shape call done) sheet s t (own_node hs) (own_node ht) kept query (own_words enough) fits p
-          (subst (λ es. LeastPair es s t p) (sym roads_same) l))
-
       pub way_built_succeeds : route.rule ≡ 0
       way_built_succeeds = way_succeeds o (demands.handed_shape call done) sheet s t (own_node hs) (own_node ht) kept query (own_words enough) fits
-
-      pub way_built_first : {p : Pair} → PairWalk (roads f sheet) s t p → (q : Pair) × WayWritten (roads f sheet) s t q room route room'
-      way_built_first {p} w =
-          subst (λ es. (q : Pair) × WayWritten es s t q room route room') roads_same
-          (way_first o (demands.handed_shape call done) sheet s t (own_node hs) (own_node ht) kept query (own_words enough) fits
-          (subst (λ es. PairWalk es s t p) (sym roads_same) w))
-
-      pub way_built_none : ((p : Pair) → PairWalk (roads f sheet) s t p → ⊥) → (route.nodes ≡ 0) × (room' ≡ room)
-      way_built_none h =
-          way_none o (demands.handed_shape call done) sheet s t (own_node hs) (own_node ht) kept query (own_words enough) fits
-          (λ p w. h p (subst (λ es. PairWalk es s t p) roads_same w))
-
-      pub way_built_again : Driven (timed_arcs (network f)) (roads f sheet) (way (network f) s t)
-          → {others others' : List ℕ} {plain_room : Bytes} {plain_route : Route} → WayCall o s t others room plain_route others' plain_room
-          → words_needed f ≤ length others → (route ≡ plain_route) × (room' ≡ plain_room)
-      way_built_again h old many =
-          way_again o (demands.handed_shape call done) sheet s t (own_node hs) (own_node ht) kept query (own_words enough) fits
-          (rw (demands.handed_network call done, roads_same) h) old (own_words many)
 
   -- A time that a built oracle answers has a walk, so an empty sheet leaves it.
   pub empty_built : sheet_broken sheet ≡ false → line_count (line_body sheet) ≡ 0 → {s t : ℕ} {words words' plain_words : List ℕ} {a b : Answer}

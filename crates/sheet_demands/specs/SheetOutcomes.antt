@@ -1,4 +1,4 @@
--- The words of `SheetDemands`; `Last`, the last line about a road, and `NoneCloses` are in sheet, Sheet. Assumes nothing.
+-- The words of `SheetDemands` and of proofs/SheetAnswers.antt; `Last`, the last line about a road, and `NoneCloses` are in sheet, Sheet. Assumes nothing.
 use Rattle.std.specs.Prelude.{ℕ, ◌+◌, ◌<◌, ◌≡◌, cond, List, [], ◌∷◌}
 use Rattle.model.specs.Bytes.{Bytes}
 use Rattle.model.specs.Contents.{edge_body}

@@ -1,7 +1,7 @@
 -- The answers under a sheet, of any oracle that keeps rules 3 to 7, and whatever the sheet does to each edge. Assumes nothing.
 use Prim.Native.Nat.{ℕ, ◌≤◌, ◌<◌}
 use Rattle.std.proofs.Common.{arith, ◌∙◌, inl, inr, true≢false}
-use Rattle.std.specs.Prelude.{◌≡◌, ◌⊎◌, ◌↔◌, Bool, ◌||◌, List, [], ◌∷◌}
+use Rattle.std.specs.Prelude.{◌≡◌, ◌⊎◌, Bool, ◌||◌, List, [], ◌∷◌}
 use Rattle.std.proofs.Math.Path.{refl, sym, ap, subst}
 use Rattle.std.proofs.Math.Bool.{true, false}
 use Rattle.model.specs.Bytes.{Bytes}
@@ -25,10 +25,9 @@ use Rattle.demands.specs.Outcomes.{Answers}
 use Rattle.demands.proofs.AnswerLaws.{answers}
 use Rattle.sheet.specs.Sheet.{Effect}
 use Rattle.sheet.specs.Under.{network_under, still_driven, isNone, old_stands}
-use Rattle.sheet_demands.specs.SheetOutcomes.{Driven}
 use Rattle.sheet_demands.specs.Changed.{same_order, slower, sane}
-use Rattle.sheet_demands.specs.Keyed.{to_keys, to_pairs, driven_seconds}
-use Rattle.sheet_demands.specs.DrivenLaws.{driven, driven_just, driven_itself}
+use Rattle.sheet_demands.specs.Keyed.{to_keys, to_pairs}
+use Rattle.sheet_demands.specs.DrivenLaws.{driven, driven_itself}
 
 module _ (effect : ℕ → Effect) (o : Bytes) (sound : Sound o) (s t : ℕ) (hs : s < order (network o)) (ht : t < order (network o)) where
   abbrev old : List Arc
@@ -59,32 +58,16 @@ module _ (effect : ℕ → Effect) (o : Bytes) (sound : Sound o) (s t : ℕ) (hs
   few_under = rw (same_order effect o) (few o sound)
 
   -- An old way is the nodes of a least walk; where there is no walk there is none.
-  data Old : Type 0 where
+  pub data Old : Type 0 where
     walked : {n : ℕ} (w : Walk old s t n) → d s ≡ finite n → nodes_of w ≡ old_way → Old
     absent : ((n : ℕ) → Walk old s t n → ⊥) → old_way ≡ [] → Old
 
-  the_old : Old
+  pub the_old : Old
   the_old = step (d s) refl (files.to o sound t ht s)
     where
       step : (x : Distance) → d s ≡ x → IsLeast (Walk old s t) x → Old
       step unreachable e h = absent h (files.way_empty o sound t ht h)
       step (finite n) e l = let r = files.way_least o sound t ht l in walked r.0 e r.1
-
-  -- "There is an old way and its every step can still be driven in its old time", by keys ..
-  driven_keys : (still_driven d new old_way ≡ true) ↔ Driven old new old_way
-  unfolding still_driven Driven
-  driven_keys = step the_old
-    where
-      step : Old → (still_driven d new old_way ≡ true) ↔ Driven old new old_way
-      step (walked w e q) = rw (← q) (driven_just old new t d exact (files.sane o sound).positive w e)
-      step (absent h q) = rw q (λ e. absurd (true≢false (sym e)), λ b. absurd b)
-
-  -- .. and in seconds.
-  pub driven_way : (still_driven d new old_way ≡ true) ↔ Driven (timed_arcs (network o)) (timed_arcs (network_under effect o)) old_way
-  driven_way =
-      let seconds = driven_seconds (timed_arcs (network o)) old (timed_arcs (network_under effect o)) new
-      (same_arcs (network o)) (same_arcs (network_under effect o)) old_way in
-      (λ h. seconds.0 (driven_keys.0 h), λ h. driven_keys.1 (seconds.1 h))
 
   -- The old way, where it can still be driven, is that of a walk that was least.
   record Kept : Type 0 where

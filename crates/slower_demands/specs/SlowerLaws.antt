@@ -16,8 +16,10 @@ use Rattle.model.specs.declared.Answer.TheVariants.{None}
 use Rattle.model.specs.declared.Built.{Built}
 use Rattle.theory.specs.Passed.{Sound, all_passed}
 use Rattle.theory.specs.Sound.{edge_listed, edge_numbered, ends, positive, few, count_nodes}
-use Rattle.theory.specs.PairModel.{pair_least, pair_hops, none_timed}
-use Rattle.theory.specs.Slower.{Rising, Slower, between, least_rises, none_both}
+use Rattle.theory.specs.PairModel.{none_timed}
+use Rattle.theory.proofs.PairLaws.{pair_least, pair_hops}
+use Rattle.theory.specs.Slower.{Rising, Slower, between, none_both}
+use Rattle.theory.proofs.SlowerLaws.{least_rises}
 use Rattle.theory.specs.Slower.{later, Comes, comes_itself, Again, Again.as_quick, Again.risen, slower_arcs, rising_arcs}
 use Rattle.demands.specs.Outcomes.{timed, Answers}
 use Rattle.demands.specs.Demands.{built_accepted}

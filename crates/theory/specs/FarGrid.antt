@@ -2,6 +2,7 @@
 -- Assumes nothing.
 use Rattle.std.specs.Prelude.{◌≡◌, ◌⊎◌, ◌↔◌, true, false, ◌&&◌, List, ℕ, ◌+◌, ◌*◌, ◌≤◌, ◌<◌, leb}
 use Rattle.std.proofs.Common.{inl, inr, arith}
+use Rattle.std.proofs.Math.Logic.{⊎_elim}
 use Rattle.theory.specs.Tests.{leb-true, true-leb, refuted, both, and}
 use Rattle.model.specs.Walk.{LeastOf, Arc, Least}
 use Rattle.model.specs.Grid.{gap}
@@ -42,10 +43,6 @@ module _ (col row : ℕ → ℕ) where
   →square r c x h = and (true-leb (gap (col x) (col c)) r h.cols) (true-leb (gap (row x) (row c)) r h.rows)
 
   module _ (r R s t : ℕ) (wide : 2 * r ≤ R) where
-    near_both : (x : ℕ) → Near col row r s x → Near col row r t x → Apart col row R s t → ⊥
-    near_both x p q (inl h) = omega (arith, gap_join (col x) (col s) (col t))
-    near_both x p q (inr h) = omega (arith, gap_join (row x) (row s) (row t))
-
     off : Near col row R s t → Apart col row R s t → ⊥
     off p (inl h) = omega (arith, gap_comm (col s) (col t))
     off p (inr h) = omega (arith, gap_comm (row s) (row t))
@@ -62,7 +59,10 @@ module _ (col row : ℕ → ℕ) where
     }
 
     pub disjoint : Apart col row R s t → (x : ℕ) → square col row r s x ≡ true → square col row r t x ≡ false
-    disjoint a x p = refuted (λ e. near_both x (square→ r s x p) (square→ r t x e) a)
+    disjoint a x p = refuted (λ e.
+        let there = square→ r s x p in
+        let here = square→ r t x e in
+        ⊎_elim (λ h. omega (arith, gap_join (col x) (col s) (col t))) (λ h. omega (arith, gap_join (row x) (row s) (row t))) a)
 
   pub swap : (R s t : ℕ) → Apart col row R s t → Apart col row R t s
   swap R s t (inl h) = inl (omega (arith, gap_comm (col s) (col t)))

@@ -73,11 +73,6 @@ key_sum₃ i j k h =
     let b : hops_of (i + j + k) ≡ hops_of i + hops_of j + hops_of k = omega arith in
     λ z. record { seconds = a z; hops = b z }
 
--- "d(p, a) + d(a, q) = d(p, q)": in pairs and in keys.
-pub key_equation : (i j k : ℕ) → hops_of i + hops_of j < hop_base → (i + j ≡ k) ↔ (add (pair_of i) (pair_of j) ≡ pair_of k)
-key_equation i j k h =
-    (λ e. sym (key_sum i j h) ∙ ap pair_of e, λ e. sym (key_of_pair (i + j)) ∙ (ap key_of (key_sum i j h ∙ e) ∙ key_of_pair k))
-
 -- ---- walks
 
 -- The seconds of the least pair are the least total of seconds.
@@ -190,7 +185,7 @@ module _ (timed arcs : List Arc) (same : Keyed timed arcs) where
             let q : p ≡ pair_of k = λ i. record { seconds = a i; hops = b i } in
             (subst (λ (x : Pair). LeastPair timed u t x) q whole, omega (arith, b, below))
 
-    -- .. which has fewer hops than there are nodes ..
+    -- .. which has fewer hops than there are nodes (the least pair is the least total by keys: proofs/KeyLaws).
     pub few_hops : {p : Pair} → LeastPair timed u t p → p.hops < N
     unfolding NoMore
     few_hops {p} l = let s = shorten N within_timed u_in l.has.walk in step s
@@ -199,19 +194,6 @@ module _ (timed arcs : List Arc) (same : Keyed timed arcs) where
         step : (s : Short timed N u t p.seconds) → (p.seconds < s.total) ⊎ ((p.seconds ≡ s.total) × (p.hops ≤ hops s.walk)) → p.hops < N
         step s (inl h) = omega (arith, s.less)
         step s (inr h) = omega (arith, h.1, s.few)
-
-    -- .. and the least pair is the least total by keys.
-    pub least_of_pair : {p : Pair} → LeastPair timed u t p → Least arcs u t (key_of p)
-    unfolding NoMore
-    least_of_pair {p} l = record {
-      has = subst (λ (h : ℕ). Walk arcs u t (key p.seconds h)) l.has.its_hops (keyed_walk l.has.walk).0;
-      least = λ m w. let r = timed_walk w in step m r.seconds (hops r.walk) r.total
-          (l.least (record { seconds = r.seconds; hops = hops r.walk }) (record { walk = r.walk; its_hops = refl }));
-    }
-      where
-        step : (m n g : ℕ) → m ≡ key n g → (p.seconds < n) ⊎ ((p.seconds ≡ n) × (p.hops ≤ g)) → key_of p ≤ m
-        step m n g e (inl h) = omega (arith, few, few_hops l)
-        step m n g e (inr h) = omega (arith, h.0, h.1)
 
     -- There is no walk in the one reading just where there is none in the other.
     pub decoded_no_walk : ((n : ℕ) → Walk arcs u t n → ⊥) ↔ ((p : Pair) → PairWalk timed u t p → ⊥)

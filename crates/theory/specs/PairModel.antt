@@ -9,7 +9,7 @@ use Rattle.model.specs.Walk.{Arc, Mem, Walk, Least, PairWalk, LeastPair}
 use Rattle.model.specs.Distance.{Distance, unreachable, finite, IsLeast, IsLeastPair}
 use Rattle.model.specs.Network.{Edge, Network, order, timed_of, timed_arcs, arcs_of, arcs, distance, max_nodes}
 use Rattle.theory.specs.Members.{concat_map→, →concat_map}
-use Rattle.theory.specs.Keys.{key_of, keyed, Keyed, pair_of_least, few_hops, least_of_pair, decoded_no_walk}
+use Rattle.theory.specs.Keys.{keyed, Keyed, pair_of_least, decoded_no_walk}
 use Rattle.theory.specs.FarModel.{inside, exact}
 
 -- The arcs that distances go by are the timed arcs with their pairs.
@@ -47,16 +47,9 @@ module _ (net : Network) (ends : (e : Edge) → Memᴰ e net.edges → (e.first 
   few_nodes = omega (arith, few)
 
   module _ {u : ℕ} (u_in : u < order net) (t : ℕ) where
-    -- The least total by keys is the least pair over all walks, and has fewer hops than there are nodes ..
+    -- The least total by keys is the least pair over all walks, and has fewer hops than there are nodes (and back: proofs/PairLaws).
     pub least_pair : {k : ℕ} → Least (arcs net) u t k → LeastPair (timed_arcs net) u t (pair_of k) × (hops_of k < order net)
     least_pair l = pair_of_least (timed_arcs net) (arcs net) (same_arcs net) (order net) few_nodes (inside net ends) u t u_in l
-
-    pub pair_hops : {p : Pair} → LeastPair (timed_arcs net) u t p → p.hops < order net
-    pair_hops l = few_hops (timed_arcs net) (arcs net) (same_arcs net) (order net) few_nodes (inside net ends) u t u_in l
-
-    -- .. and the least pair is the least total by keys.
-    pub pair_least : {p : Pair} → LeastPair (timed_arcs net) u t p → Least (arcs net) u t (key_of p)
-    pair_least l = least_of_pair (timed_arcs net) (arcs net) (same_arcs net) (order net) few_nodes (inside net ends) u t u_in l
 
     pub none_timed : ((n : ℕ) → Walk (arcs net) u t n → ⊥) ↔ ((p : Pair) → PairWalk (timed_arcs net) u t p → ⊥)
     none_timed = decoded_no_walk (timed_arcs net) (arcs net) (same_arcs net) (order net) few_nodes (inside net ends) u t u_in

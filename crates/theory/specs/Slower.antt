@@ -15,7 +15,6 @@ use Rattle.model.specs.Network.{Edge, arcs_of}
 use Rattle.theory.specs.Tests.{both, eqb-true, true-eqb}
 use Rattle.theory.specs.Members.{→concat_map}
 use Rattle.theory.specs.Walks.{Positive}
-use Rattle.theory.specs.Simple.{distinct}
 use Rattle.theory.specs.Sound.{arc_of}
 
 -- ---- the same nodes over other arcs
@@ -146,20 +145,7 @@ module _ (x y : ℕ) where
         step true q r = omega (arith, passed_by w a.from (starts (joined a.from a.to q)) d.0)
         step false q r = omega arith
 
-    -- A least walk takes an edge once at the most, where each arc costs something.
-    pub least_once : {arcs : List Arc} → Positive arcs → {u t n : ℕ} (w : Walk arcs u t n) → Least arcs u t n → rise (between x y k) w ≤ k
-    least_once above w l = once w (distinct above w l)
-
     module _ (old new : List Arc) (above : Positive old) (slower : Slower old new) (rising : Rising (between x y k) old new) where
-      -- No least total falls, and none rises by more than k.
-      pub least_rises : {u t n m : ℕ} → Least old u t n → Least new u t m → (n ≤ m) × (m ≤ n + k)
-      least_rises l m =
-          let z = walked_again (between x y k) old new rising l.has in
-          let r = was_walked old new slower m.has in (
-            omega (arith, l.least r.0 r.1.0, r.2),
-            omega (arith, m.least z.0 z.1.0, z.2, least_once above l.has l),
-          )
-
       -- There is a walk over the one where there is one over the other.
       pub none_both : {u t : ℕ} → ((n : ℕ) → Walk old u t n → ⊥) ↔ ((n : ℕ) → Walk new u t n → ⊥)
       none_both = (still_none old new slower, λ h n w. let z = walked_again (between x y k) old new rising w in h z.0 z.1.0)

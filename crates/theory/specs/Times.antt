@@ -1,39 +1,20 @@
 -- The time that a built oracle answers is the distance, for every accepted network, grid and pair. Assumes nothing.
 use Rattle.std.specs.Prelude.{ℕ, ◌<◌, ◌≡◌, refl, true}
-use Rattle.std.proofs.Common.{◌∙◌, ap, le-leb, arith}
+use Rattle.std.proofs.Common.{◌∙◌, le-leb, arith}
 use Rattle.model.specs.Bytes.{Bytes}
-use Rattle.model.specs.Walk.{PairWalk}
-use Rattle.model.specs.Distance.{IsLeastPair, finite}
-use Rattle.model.specs.Network.{network, order, timed_arcs, distance}
+use Rattle.model.specs.Distance.{finite}
+use Rattle.model.specs.Network.{network, order, distance}
 use Rattle.model.specs.Oracle.{oracle}
-use Rattle.model.specs.Query.{distance_of, kind_between, time_answer, answer}
+use Rattle.model.specs.Query.{kind_between, time_answer, answer}
 use Rattle.model.specs.Rules.{accepted}
 use Rattle.model.specs.declared.Division.{Division}
-use Rattle.model.specs.declared.Kind.{Kind}
-use Rattle.model.specs.declared.Kind.TheVariants.{Far, Local}
+use Rattle.model.specs.declared.Kind.TheVariants.{Local}
 use Rattle.theory.specs.FarModel.{distance_itself}
-use Rattle.theory.specs.PairModel.{distance_pair}
-use Rattle.theory.specs.Built.{Good, time_far, time_local, same_kind, grid_of, cells_of}
+use Rattle.theory.specs.Built.{Good, time_local, same_kind, grid_of, cells_of}
 use Rattle.theory.specs.Passed.{all_passed}
 use Rattle.theory.specs.Accepted.{good}
-use Rattle.theory.specs.Given.{distance_of_law}
 use Rattle.model.specs.Grid.{Grid, Cell, kind_of, within, gap, cell_at}
 use Rattle.model.specs.declared.Answer.TheVariants.{Time}
-
-module _ (f : Bytes) (dv : Division) (ok : accepted f dv ≡ true) (s t : ℕ) (hs : s < order (network f)) (ht : t < order (network f)) where
-  sound : Good f dv
-  sound = good f dv (all_passed f dv ok)
-
-  pub time_exact : distance_of (time_answer (oracle f dv) s t) ≡ distance (network f) s t
-  time_exact = step (kind_between (oracle f dv) s t) refl
-    where
-      step : (k : Kind) → kind_between (oracle f dv) s t ≡ k → distance_of (time_answer (oracle f dv) s t) ≡ distance (network f) s t
-      step Far e = ap distance_of (time_far f dv sound s t hs ht e) ∙ distance_of_law Far _ _
-      step Local e = ap distance_of (time_local f dv sound s t e) ∙ distance_of_law Local _ _
-
-  -- In pairs: a time is the least pair over all walks from s to t, and with no time there is no walk.
-  pub time_pair : IsLeastPair (PairWalk (timed_arcs (network f)) s t) (distance_of (time_answer (oracle f dv) s t))
-  time_pair = rw time_exact (distance_pair (network f) sound.ends sound.few hs t)
 
 gap_zero : (a : ℕ) → gap a a ≡ 0
 unfolding gap

@@ -1,6 +1,6 @@
 -- `oracles::jukesogbi_far` meets its contract.
 use mathlib.Core.Path.{◌∙◌, ap}
-use Rattle.model.specs.Meanings.{meaning_injective}
+use Rattle.model.proofs.Meanings.{meaning_injective}
 use Rattle.capi.specs.Replies.{reply}
 use borrow.Author.Rules.{rules}
 use Rattle.capi.proofs.oracles.jukesogbi_far.Goals as goal
