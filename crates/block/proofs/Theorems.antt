@@ -27,7 +27,7 @@ use Rattle.theory.specs.BuiltCalls.{time_kept}
 use Rattle.theory.specs.PairModel.{distance_pair}
 use Rattle.model.proofs.Meanings.{meaning_injective}
 use Rattle.demands.specs.Outcomes.{Refuses}
-use Rattle.demands.specs.CallLaws as laws
+use Rattle.demands.proofs.CallLaws as laws
 use Rattle.block.specs.Block.{max_names, sides_rules, block_rules, unused_row, unused_block, refused, block_refusal, block_after, BlockCall}
 use Rattle.block.specs.Block as block
 use Rattle.block.specs.Twelve.{square, row_unused, square_unused, square_used}

@@ -24,7 +24,7 @@ use Rattle.theory.specs.Firsts.{first_append, split, stops, goes, none, one_kept
 use Rattle.theory.specs.Passed.{Rest, Sound, network_passed, network_counted, all_passed}
 use Rattle.theory.specs.BuiltCalls as calls
 use Rattle.demands.specs.Outcomes.{FirstOf, handed}
-use Rattle.demands.specs.CallLaws as outcomes
+use Rattle.demands.proofs.CallLaws as outcomes
 use Rattle.demands.specs.DemandLaws as demands
 use Rattle.sheet.specs.Sheet.{sheet_broken, names_broken}
 use Rattle.convert.specs.Old.{old_oracle, old_time, old_way}

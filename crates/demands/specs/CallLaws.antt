@@ -1,11 +1,11 @@
 -- Laws of the calls' contracts, for the demands. Assumes nothing.
-use Rattle.std.specs.Prelude.{ℕ, ◌≤◌, ◌<◌, ◌≡◌, refl, ◌⊎◌, ◌↔◌, Bool, true, false, cond, length, take, drop, eqb}
-use Rattle.std.proofs.Common.{arith, ◌∙◌, inl, inr}
+use Rattle.std.specs.Prelude.{ℕ, ◌≤◌, ◌<◌, ◌≡◌, refl, ◌↔◌, Bool, true, false, cond, length, take, drop, eqb}
+use Rattle.std.proofs.Common.{arith, ◌∙◌}
 use Rattle.std.proofs.Math.Decide.{ℕ_discrete}
 use Rattle.std.proofs.Math.Path.{sym}
 use mathlib.Core.List.{List, [], ◌∷◌, ◌++◌, map, Memᴰ}
 use Rattle.std.proofs.Math.Seq.{take-append_seam, drop-append_seam}
-use borrow.Author.Tests.{eqb-true, eq-eqb, ne_eqb, le-ltb}
+use borrow.Author.Tests.{eqb-true, eq-eqb, le-ltb}
 use Rattle.model.specs.Lists.{any, member, up_to}
 use Rattle.model.specs.Bytes.{Bytes}
 use Rattle.model.specs.Grid.{Cell}
@@ -25,50 +25,6 @@ use Rattle.theory.specs.Members.{filter→, →filter, any→, →any, map→, �
 use Rattle.theory.specs.Built.{grid_of, cells_of, count_cells}
 use Rattle.theory.specs.Given.{rule_of_law}
 use Rattle.theory.specs.Firsts.{counted, first_append, first_stays, goes, none}
-use Rattle.demands.specs.Outcomes.{FirstOf, Refuses}
-use Rattle.demands.specs.Outcomes as outcomes
-
--- ---- the number of the first rule broken
-pub first_of : (rs : List Rule) → FirstOf rs (first_broken rs)
-unfolding first_broken
-first_of [] = outcomes.none
-first_of (r ∷ rs) = step r.broken refl (first_of rs)
-  where
-    step : (b : Bool) → r.broken ≡ b → FirstOf rs (first_broken rs) → FirstOf (r ∷ rs) (cond b r.number (first_broken rs))
-    step true e f = outcomes.here e
-    step false e f = outcomes.later e f
-
--- ---- the words and the output
-words_kept : (k : ℕ) (f : Bytes) (work : List ℕ) → (k ≡ 0 → ⊥) → (k ≡ 15 → ⊥) → (k ≡ 16 → ⊥) → work_after k f work ≡ work
-unfolding work_after clears
-words_kept k f work a b c = rw (ne_eqb k 0 a, ne_eqb k 15 b, ne_eqb k 16 c)
-
-words_cleared : (k : ℕ) (f : Bytes) (work : List ℕ) → (k ≡ 15) ⊎ (k ≡ 16) → work_after k f work ≡ cleared (words_needed f) work
-unfolding work_after clears
-words_cleared k f work (inl e) = rw e
-words_cleared k f work (inr e) = rw e
-
-bytes_kept : (k : ℕ) (result out : Bytes) → (k ≡ 0 → ⊥) → output_after k result out ≡ out
-unfolding output_after
-bytes_kept k result out a = rw (ne_eqb k 0 a)
-
-pub refuses : (rules : List Rule) (f : Bytes) (work : List ℕ) (result out : Bytes)
-    → Refuses rules (first_broken rules) f work (work_after (first_broken rules) f work) out (output_after (first_broken rules) result out)
-refuses rules f work result out = record {
-  first = first_of rules;
-  words = words_kept (first_broken rules) f work;
-  zeroed = words_cleared (first_broken rules) f work;
-  bytes = bytes_kept (first_broken rules) result out;
-}
-
--- The same of a call without output.
-pub without_output : (rules : List Rule) (f : Bytes) (work : List ℕ) → Refuses rules (first_broken rules) f work (work_after (first_broken rules) f work) [] []
-without_output rules f work = record {
-  first = first_of rules;
-  words = words_kept (first_broken rules) f work;
-  zeroed = words_cleared (first_broken rules) f work;
-  bytes = λ k. refl;
-}
 
 -- ---- the number in what a call hands back
 pub after : {A : Type 0} (k : ℕ) (number : A → ℕ) (x y : A) → number x ≡ 0 → number y ≡ k → number (cond (eqb k 0) x y) ≡ k

@@ -2,7 +2,6 @@ pub mod Outcomes
 pub mod CallLaws
 pub mod Written
 pub mod FarHops
-pub mod FarSums
 pub mod FarBodies
 pub mod AnswerLaws
 pub mod DemandLaws

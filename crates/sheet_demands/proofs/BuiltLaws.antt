@@ -17,7 +17,7 @@ use Rattle.model.specs.declared.Answer.{Answer}
 use Rattle.model.specs.declared.Built.{Built}
 use Rattle.model.specs.declared.Route.{Route}
 use Rattle.demands.specs.Outcomes.{handed, timed, Answers, WayWritten}
-use Rattle.demands.specs.AnswerLaws.{least_of}
+use Rattle.demands.proofs.AnswerLaws.{least_of}
 use Rattle.demands.specs.DemandLaws as demands
 use Rattle.sheet.specs.Sheet.{effects}
 use Rattle.sheet.specs.Under.{network_under, way_under}

@@ -26,9 +26,9 @@ use Rattle.theory.specs.Passed.{Sound, all_shaped}
 use Rattle.theory.specs.Sound.{few, count_nodes}
 use Rattle.theory.specs.Given.{rule_of_law}
 use Rattle.demands.specs.Outcomes.{Refuses, handed, pairs_tried, timed, Answers, WayWritten}
-use Rattle.demands.specs.CallLaws as laws
-use Rattle.demands.specs.AnswerLaws.{time_answers}
-use Rattle.demands.specs.Written as written
+use Rattle.demands.proofs.CallLaws as laws
+use Rattle.demands.proofs.AnswerLaws.{time_answers}
+use Rattle.demands.proofs.Written as written
 use Rattle.demands.specs.DemandLaws as demands
 use Rattle.sheet.specs.Sheet.{effects, line_count, line_body, sheet_broken}
 use Rattle.sheet.specs.Under.{network_under, old_stands, time_under, way_under}

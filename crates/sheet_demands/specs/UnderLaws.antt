@@ -22,7 +22,7 @@ use Rattle.theory.specs.NetWays as ways
 use Rattle.theory.specs.Ways as files
 use Rattle.theory.specs.Slower.{Taking, was_walked, still_least, still_none}
 use Rattle.demands.specs.Outcomes.{Answers}
-use Rattle.demands.specs.AnswerLaws.{answers}
+use Rattle.demands.proofs.AnswerLaws.{answers}
 use Rattle.sheet.specs.Sheet.{Effect}
 use Rattle.sheet.specs.Under.{network_under, still_driven, isNone, old_stands}
 use Rattle.sheet_demands.specs.Changed.{same_order, slower, sane}

@@ -16,7 +16,7 @@ use Rattle.model.specs.declared.Answer.TheVariants.{None}
 use Rattle.model.specs.declared.Built.{Built}
 use Rattle.theory.specs.Passed.{Sound, all_passed}
 use Rattle.demands.specs.Outcomes.{handed, timed}
-use Rattle.demands.specs.Demands.{time_built}
+use Rattle.demands.proofs.Demands.{time_built}
 use Rattle.slower_demands.specs.Raised.{raised_body, raised}
 use Rattle.slower_demands.specs.Raised as bytes
 use Rattle.slower_demands.specs.SlowerLaws as laws

@@ -17,7 +17,7 @@ use Rattle.model.specs.Calls.{cleared, output_after, size_after}
 use Rattle.model.specs.declared.Output.{Output}
 use Rattle.theory.specs.Members.{any→, →any, map→, →map, range→, →up_to}
 use Rattle.demands.specs.Outcomes.{Refuses}
-use Rattle.demands.specs.CallLaws as laws
+use Rattle.demands.proofs.CallLaws as laws
 use Rattle.checks.specs.RuleLists.{named_rules}
 use Rattle.wages.specs.Wages.{max_legs, leg, leg_count, legs, leg_nodes, legs_broken, legs_rules, open_rules, leg_times, marked, total_of}
 use Rattle.wages.specs.Wages.{times_bytes, wages_bytes, wages_rules, wages_refusal, WagesCall}

@@ -1,7 +1,6 @@
 -- `answers::far_of` meets its contract.
 use Rattle.tables.specs.Oracles.{has_list, has_table, far_of}
 use Rattle.theory.specs.Passed.{all_shaped}
-use borrow.Author.Rules.{rules}
 use Rattle.opened.proofs.answers.far_of.Goals as goal
 
 pub far_answer-requires : goal.far_answer-requires

@@ -1,7 +1,6 @@
 -- `answers::key_of` meets its contract.
 use Rattle.model.specs.Query.{distance_of}
 use Rattle.model.specs.Oracle.{coded}
-use borrow.Author.Rules.{rules}
 use Rattle.opened.proofs.answers.key_of.Goals as goal
 
 pub returns-in-Time : goal.returns-in-Time

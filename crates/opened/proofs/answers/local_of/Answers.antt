@@ -2,7 +2,6 @@
 use mathlib.Core.Path.{◌∙◌}
 use Rattle.theory.specs.Passed.{all_shaped}
 use Rattle.opened.proofs.SearchWords.{local_is}
-use borrow.Author.Rules.{rules}
 use Rattle.opened.proofs.answers.local_of.Goals as goal
 
 pub returns : goal.returns

@@ -7,7 +7,6 @@ use Rattle.model.specs.Oracle.{coded}
 use Rattle.model.specs.Query.{distance_of, time_word, seconds_word}
 use Rattle.model.specs.declared.Answer.{Answer}
 use Rattle.tables.specs.Bounds.{word_small}
-use borrow.Author.Rules.{rules}
 use Rattle.opened.proofs.answers.seconds_between.Goals as goal
 
 pub seconds_of-requires : goal.seconds_of-requires

@@ -3,7 +3,6 @@ use Rattle.theory.specs.Passed.{all_shaped}
 use Rattle.arcs.proofs.Bodies.{plain}
 use Rattle.opened.proofs.WayLaws.{own_searched, way_over_law}
 use Rattle.opened.proofs.OpenLaws.{lent}
-use borrow.Author.Rules.{rules}
 use Rattle.opened.proofs.answers.way_of.Goals as goal
 
 pub write_way_to-requires : goal.write_way_to-requires

@@ -4,7 +4,6 @@ use mathlib.Core.Path.{refl, sym}
 use Rattle.arcs.proofs.Bodies.{plain, plain_arcs}
 use Rattle.opened.proofs.OpenLaws.{lent}
 use Rattle.opened.proofs.SearchWords.{distance_in, itself_no_time}
-use borrow.Author.Rules.{rules}
 use Rattle.opened.proofs.local.local_key.Goals as goal
 
 pub returns-then-s-t : goal.returns-then-s-t

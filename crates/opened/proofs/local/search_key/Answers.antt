@@ -2,7 +2,6 @@
 use Rattle.opened.proofs.OpenLaws.{stopped_word}
 use Rattle.sheet.specs.ArcsUnder.{arcs_under}
 use mathlib.Core.Path.{◌∙◌}
-use borrow.Author.Rules.{rules}
 use Rattle.opened.proofs.local.search_key.Goals as goal
 
 pub returns : goal.returns

@@ -4,7 +4,6 @@ use Rattle.opened.proofs.OpenLaws.{lacking_one}
 use Rattle.words.proofs.Stays.{kept_more}
 use mathlib.Core.Path.{◌∙◌}
 use native.Mathlib.Omega.{arith}
-use borrow.Author.Rules.{rules}
 use Rattle.words.specs.Regions.{grid_at, search_words}
 use Rattle.opened.proofs.local.search_to.Goals as goal
 
@@ -16,5 +15,8 @@ search_wanted_under-requires c =
 pub returns : goal.returns
 returns c =
     let a = c.args in
-    record { found = rw c.want_only.ensures.members at c.search_wanted_under.ensures.found.0; others = kept_more (search_words a.n) (grid_at a.n) _ _ (omega arith) c.search_wanted_under.ensures.others
-          ∙ c.want_only.ensures.others }
+    record {
+      found = rw c.want_only.ensures.members at c.search_wanted_under.ensures.found.0;
+      others = kept_more (search_words a.n) (grid_at a.n) _ _ (omega arith) c.search_wanted_under.ensures.others
+          ∙ c.want_only.ensures.others;
+    }

@@ -1,6 +1,5 @@
 -- `local::want_only` meets its contract.
 use Rattle.opened.proofs.OpenLaws.{want_single, want_others}
-use borrow.Author.Rules.{rules}
 use Rattle.opened.proofs.local.want_only.Goals as goal
 
 pub returns : goal.returns

@@ -1,5 +1,4 @@
 -- `opening::grid_in` meets its contract.
-use borrow.Author.Rules.{rules}
 use Rattle.opened.proofs.opening.grid_in.Goals as goal
 
 pub returns : goal.returns

@@ -5,7 +5,6 @@ use Rattle.theory.specs.Sound.{node_bytes}
 use Rattle.theory.specs.Passed.{all_shaped}
 use Rattle.model.specs.Rules.{words_needed}
 use Rattle.opened.proofs.OpenLaws.{words_opened}
-use borrow.Author.Rules.{rules}
 use Rattle.opened.proofs.opening.open_words.Goals as goal
 
 pub put_grid-requires : goal.put_grid-requires

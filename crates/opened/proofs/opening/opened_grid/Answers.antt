@@ -4,7 +4,6 @@ use Rattle.theory.specs.Passed.{all_shaped}
 use Rattle.theory.specs.Sound.{node_bytes}
 use mathlib.Core.Path.{◌∙◌}
 use native.Mathlib.Omega.{arith}
-use borrow.Author.Rules.{rules}
 use Rattle.opened.proofs.opening.opened_grid.Goals as goal
 
 pub grid_in-requires : goal.grid_in-requires

@@ -2,7 +2,6 @@
 use Rattle.opened.proofs.GridWords.{grid_stored}
 use native.Mathlib.Omega.{arith}
 use lib.ListN.{length-set}
-use borrow.Author.Rules.{rules}
 use Rattle.opened.proofs.opening.put_grid.Goals as goal
 
 pub bounds-work-a-2 : goal.bounds-work-a-2

@@ -3,7 +3,6 @@ use native.Mathlib.Omega.{arith}
 use Rattle.model.specs.Rules.{words_needed}
 use Rattle.words.proofs.Stays.{kept_more}
 use Rattle.opened.proofs.OpenLaws.{lent}
-use borrow.Author.Rules.{rules}
 use Rattle.words.specs.Regions.{grid_at, search_words}
 use Rattle.opened.proofs.ways.times_from.Goals as goal
 
@@ -15,5 +14,8 @@ search_front-requires c =
 pub returns : goal.returns
 unfolding words_needed
 returns c =
-    let found = rw (c.node_count.ensures, c.oracle_body.ensures) at c.search_front.ensures.found.0.times in record { times = record { times = found; room = omega (arith, c.requires.0.room, c.search_front.auto.work) }; others = rw c.node_count.ensures at
-          (kept_more (search_words c.node_count.result) (grid_at c.node_count.result) _ _ (omega arith) c.search_front.ensures.others) }
+    let found = rw (c.node_count.ensures, c.oracle_body.ensures) at c.search_front.ensures.found.0.times in record {
+      times = record { times = found; room = omega (arith, c.requires.0.room, c.search_front.auto.work) };
+      others = rw c.node_count.ensures at
+          (kept_more (search_words c.node_count.result) (grid_at c.node_count.result) _ _ (omega arith) c.search_front.ensures.others);
+    }

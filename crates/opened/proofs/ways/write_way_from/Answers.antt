@@ -3,7 +3,6 @@ use native.Mathlib.Omega.{arith}
 use mathlib.Core.Path.{sym, ◌∙◌}
 use lib.Seq.{length-take-le}
 use Rattle.opened.proofs.WayNodes.{given_short, given_way, given_copy, found_room}
-use borrow.Author.Rules.{rules}
 use Rattle.opened.proofs.ways.write_way_from.Goals as goal
 
 pub returns-then-out-size : goal.returns-then-out-size

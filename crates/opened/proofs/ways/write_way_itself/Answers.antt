@@ -4,7 +4,6 @@ use mathlib.Core.List.{[], ◌∷◌, append-nil}
 use Rattle.model.specs.Lists.{concat_map}
 use Rattle.theory.specs.Splices.{splice_front}
 use Rattle.opened.proofs.WayNodes.{given_short, given_way}
-use borrow.Author.Rules.{rules}
 use Rattle.opened.proofs.ways.write_way_itself.Goals as goal
 
 pub returns-then-out-lt-NUMBER_SIZE : goal.returns-then-out-lt-NUMBER_SIZE

@@ -5,18 +5,20 @@ use Rattle.opened.proofs.StoppedWays.{stopped_way, way_itself}
 use Rattle.sheet.specs.ArcsUnder.{arcs_under}
 use Rattle.arcs.proofs.Kept.{edges_behind}
 use Rattle.arcs.proofs.Bodies.{arcs_bounded}
-use borrow.Author.Rules.{rules}
 use Rattle.opened.proofs.ways.write_way_to.Goals as goal
 
 pub returns-then-s-t : goal.returns-then-s-t
 returns-then-s-t c =
     let a = c.args in
-    record { given = rw (
+    record {
+      given = rw (
         ← c.if-s-t.true,
         way_itself (arcs_under a.edges.now a.lines.now) a.n
             (arcs_bounded _ _ _ _ c.requires.4).within a.s c.requires.1,
       )
-          c.write_way_itself.ensures; others = refl }
+          c.write_way_itself.ensures;
+      others = refl;
+    }
 
 pub write_way_from-requires : goal.write_way_from-requires
 write_way_from-requires c = record { s_lt_n = (c.requires.1, c.requires.0, omega (arith, c.requires.3, c.search_to.auto.work)); edges_under = edges_behind _ _ _ _ _ c.search_to.ensures.others c.requires.4 }

@@ -4,7 +4,6 @@ use Rattle.model.specs.Query.{meaning}
 use Rattle.model.specs.Calls.{far_result}
 use Rattle.checks.proofs.RulesKept.{far_kept}
 use Rattle.checks.proofs.AfterCall.{answer_refused, answer_given}
-use borrow.Author.Rules.{rules}
 use Rattle.query.proofs.calls.far.Goals as goal
 
 pub returns-then-rule-ne0 : goal.returns-then-rule-ne0

@@ -6,7 +6,6 @@ use Rattle.theory.specs.Passed.{all_shaped}
 use Rattle.tables.specs.Oracles.{has_list, list_of_law}
 use Rattle.checks.proofs.RulesKept.{list_kept}
 use Rattle.query.proofs.Results.{part_refused, part_given}
-use borrow.Author.Rules.{rules}
 use Rattle.query.proofs.calls.list.Goals as goal
 
 pub returns-then-list_refusal-ne0 : goal.returns-then-list_refusal-ne0

@@ -1,6 +1,5 @@
 -- `calls::list_rule` meets its contract.
 use Rattle.model.specs.Calls.{list_refusal}
-use borrow.Author.Rules.{rules}
 use Rattle.query.proofs.calls.list_rule.Goals as goal
 
 pub returns : goal.returns

@@ -4,7 +4,6 @@ use Rattle.model.specs.Query.{meaning}
 use Rattle.opened.proofs.OpenLaws.{stays}
 use Rattle.checks.proofs.RulesKept.{time_kept}
 use Rattle.query.proofs.Results.{time_refused, time_given, time_unwritten, time_zeroed}
-use borrow.Author.Rules.{rules}
 use Rattle.query.proofs.calls.time.Goals as goal
 
 pub returns-then-rule-ne0 : goal.returns-then-rule-ne0

@@ -3,7 +3,6 @@ use mathlib.Core.Path.{◌∙◌, sym}
 use Rattle.opened.proofs.OpenLaws.{stays}
 use Rattle.checks.proofs.RulesKept.{time_kept}
 use Rattle.query.proofs.Results.{way_refused, way_given}
-use borrow.Author.Rules.{rules}
 use Rattle.query.proofs.calls.way.Goals as goal
 
 pub returns-then-rule-ne0 : goal.returns-then-rule-ne0

@@ -1,7 +1,6 @@
 -- `questions::open` meets its contract.
 use mathlib.Core.Path.{◌∙◌, sym, refl}
 use Rattle.checks.proofs.RulesKept.{room_kept}
-use borrow.Author.Rules.{rules}
 use Rattle.query.proofs.questions.open.Goals as goal
 
 pub returns-then-rule-ne0 : goal.returns-then-rule-ne0

@@ -4,7 +4,6 @@ use Rattle.model.specs.Rules.{far_rules, local_pair, is_local}
 use Rattle.theory.specs.BuiltCalls.{pair_counted}
 use Rattle.checks.proofs.RulesKept.{pair_kept}
 use Rattle.checks.proofs.CheckOrder.{sooner, decides}
-use borrow.Author.Rules.{rules}
 use Rattle.query.proofs.questions.opened_far_refusal.Goals as goal
 
 pub returns-then-r-ne0 : goal.returns-then-r-ne0

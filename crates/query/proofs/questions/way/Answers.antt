@@ -3,7 +3,6 @@ use mathlib.Core.Path.{◌∙◌, sym, refl}
 use Rattle.opened.proofs.OpenLaws.{stays}
 use Rattle.checks.proofs.RulesKept.{pair_kept}
 use Rattle.query.proofs.Results.{as_time, way_refused, way_given}
-use borrow.Author.Rules.{rules}
 use Rattle.query.proofs.questions.way.Goals as goal
 
 pub returns-then-rule-ne0 : goal.returns-then-rule-ne0
