@@ -5,7 +5,6 @@ mod Named
 mod Fill
 mod Entries
 mod NearLaws
-mod Squared
 pub mod Kept
 pub mod Theorems
 pub mod Trials

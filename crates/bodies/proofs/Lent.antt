@@ -1,10 +1,9 @@
 -- A part of the output, lent and come back. Assumes nothing.
 use Prim.Native.Nat.{ℕ, ◌+◌, ◌-◌, ◌≤◌}
 use native.Mathlib.Omega.{arith}
-use mathlib.Core.Path.{◌≡◌, sym, ◌∙◌, ap}
-use mathlib.Core.List.{append_assoc}
-use borrow.Rule.Slice.PartMut.{mid_of, put_mid, Post-is, mid_len}
-use lib.ListN.{length, take, drop}
+use mathlib.Core.Path.{◌≡◌, ◌∙◌, ap}
+use borrow.Rule.Slice.PartMut.{mid_of, put_mid}
+use lib.ListN.{length}
 use Rattle.model.specs.Bytes.{Bytes, splice}
 use Rattle.emit.proofs.Pieces.{part_written}
 

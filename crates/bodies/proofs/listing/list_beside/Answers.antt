@@ -1,7 +1,6 @@
 -- `bodies::listing::list_beside` meets its contract. Assumes nothing.
 use native.Mathlib.Omega.{arith}
 use mathlib.Core.Path.{refl, sym, ◌∙◌}
-use borrow.Author.Rules.{rules}
 use Rattle.bodies.proofs.CellLists.{list_other, list_room, list_done}
 use Rattle.bodies.proofs.listing.list_beside.Goals as goal
 
@@ -16,11 +15,17 @@ put_list-requires c =
 
 pub returns-then-beside : goal.returns-then-beside
 returns-then-beside c =
-    let a = c.args in record { lists = list_done a.nodes.now a.edges.now a.grid a.n a.work.now c.requires.based.0 a.u a.v c.requires.based.1 c.requires.based.2 c.requires.work_value.0
+    let a = c.args in record {
+      lists = list_done a.nodes.now a.edges.now a.grid a.n a.work.now c.requires.based.0 a.u a.v c.requires.based.1 c.requires.based.2 c.requires.work_value.0
           a.body.now c.requires.listed_to (sym (c.beside.ensures _ _ c.requires.based.3) ∙
-          c.if-beside.true) _ c.put_list.ensures.bytes; others = c.put_list.ensures.others }
+          c.if-beside.true) _ c.put_list.ensures.bytes;
+      others = c.put_list.ensures.others;
+    }
 
 pub returns-else-beside : goal.returns-else-beside
 returns-else-beside c =
-    let a = c.args in record { lists = list_other a.nodes.now a.edges.now a.grid a.n a.work.now c.requires.based.0 a.u a.v c.requires.based.1 c.requires.based.2 c.requires.work_value.0
-          a.body.now c.requires.listed_to (sym (c.beside.ensures _ _ c.requires.based.3) ∙ c.if-beside.false); others = refl }
+    let a = c.args in record {
+      lists = list_other a.nodes.now a.edges.now a.grid a.n a.work.now c.requires.based.0 a.u a.v c.requires.based.1 c.requires.based.2 c.requires.work_value.0
+          a.body.now c.requires.listed_to (sym (c.beside.ensures _ _ c.requires.based.3) ∙ c.if-beside.false);
+      others = refl;
+    }

@@ -1,10 +1,12 @@
 -- `bodies::listing::lists_at` meets its contract. Assumes nothing.
 use mathlib.Core.Path.{refl, sym, ◌∙◌}
-use borrow.Author.Rules.{rules}
 use Rattle.bodies.proofs.CellLists.{listed_later}
 use Rattle.bodies.proofs.listing.lists_at.Goals as goal
 
 pub returns-else-first_of_cell : goal.returns-else-first_of_cell
 returns-else-first_of_cell c =
-    let a = c.args in record { lists = listed_later a.nodes.now a.edges.now a.grid a.n a.body.now a.u
-          (sym c.first_of_cell.ensures ∙ c.if-first_of_cell.false) c.requires.2; others = refl }
+    let a = c.args in record {
+      lists = listed_later a.nodes.now a.edges.now a.grid a.n a.body.now a.u
+          (sym c.first_of_cell.ensures ∙ c.if-first_of_cell.false) c.requires.2;
+      others = refl;
+    }

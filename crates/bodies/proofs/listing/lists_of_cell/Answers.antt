@@ -1,11 +1,8 @@
 -- `bodies::listing::lists_of_cell` meets its contract. Assumes nothing.
-use Prim.Native.Nat.{◌-◌}
 use native.Mathlib.Omega.{arith}
-use mathlib.Core.Path.{◌≡◌, refl, ◌∙◌}
-use lib.ListN.{length}
+use mathlib.Core.Path.{refl, ◌∙◌}
 use borrow.Author.Rules.{rules}
-use Rattle.bodies.proofs.CellLists.{Working, working_next, based_still, cell_none, cell_all}
-use Rattle.bodies.specs.Listed.{ListedTo}
+use Rattle.bodies.proofs.CellLists.{working_next, based_still, cell_none, cell_all}
 use Rattle.bodies.proofs.listing.lists_of_cell.Goals as goal
 
 pub own_wanted-left-requires : goal.own_wanted-left-requires

@@ -1,5 +1,4 @@
 -- `bodies::listing::put_access` meets its contract. Assumes nothing.
-use borrow.Author.Rules.{rules}
 use Rattle.bodies.proofs.CellLists.{listed_first}
 use Rattle.bodies.proofs.Starting.{counted_all, starts_fit, begun_first}
 use Rattle.bodies.proofs.listing.put_access.Goals as goal

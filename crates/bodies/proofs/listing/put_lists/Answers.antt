@@ -1,12 +1,7 @@
 -- `bodies::listing::put_lists` meets its contract. Assumes nothing.
-use Prim.Native.Nat.{◌-◌}
-use mathlib.Core.Path.{◌≡◌, refl, ◌∙◌}
-use lib.ListN.{length}
+use mathlib.Core.Path.{refl, ◌∙◌}
 use borrow.Author.Rules.{rules}
-use Rattle.words.specs.Regions.{region_at, transit}
-use Rattle.words.specs.Frames.{KeptFrom}
 use Rattle.bodies.proofs.CellLists.{based_still, listed_all}
-use Rattle.bodies.specs.Listed.{Based, Listed}
 use Rattle.bodies.proofs.listing.put_lists.Goals as goal
 
 pub loop-u-init : goal.loop-u-init

@@ -1,11 +1,9 @@
 -- `bodies::listing::put_lists` meets its contract. Assumes nothing.
 use Prim.Native.Nat.{◌-◌}
-use mathlib.Core.Path.{◌≡◌, refl, ◌∙◌}
+use mathlib.Core.Path.{◌≡◌}
 use lib.ListN.{length}
-use borrow.Author.Rules.{rules}
 use Rattle.words.specs.Regions.{region_at, transit}
 use Rattle.words.specs.Frames.{KeptFrom}
-use Rattle.bodies.proofs.CellLists.{based_still, listed_all}
 use Rattle.bodies.specs.Listed.{Based, Listed}
 use Rattle.bodies.proofs.listing.put_lists.Given as goal
 

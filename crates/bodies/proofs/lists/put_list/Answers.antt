@@ -19,13 +19,16 @@ list_size-size-requires c =
 pub put_own-requires : goal.put_own-requires
 put_own-requires c =
     let a = c.args in
-    let e = c.search_own.ensures.others in record { n_le_max_nodes = (
+    let e = c.search_own.ensures.others in record {
+      n_le_max_nodes = (
         search rules,
         search rules,
         among_later a.n a.work.now _ e c.requires.n_le_max_nodes.3,
         c.list_size-size.ensures ∙ ap list_size (sought_later a.n a.left a.work.now c.requires.n_le_max_nodes.4 _ e).count,
         search rules,
-      ); start_size_in_bounds = (search rules, omega (arith, c.list_size-size.ensures, c.requires.start_size_in_bounds.1)) }
+      );
+      start_size_in_bounds = (search rules, omega (arith, c.list_size-size.ensures, c.requires.start_size_in_bounds.1));
+    }
 
 pub returns : goal.returns
 returns c =

@@ -1,7 +1,6 @@
 -- `bodies::table::put_row` meets its contract. Assumes nothing.
 use native.Mathlib.Omega.{arith}
 use mathlib.Core.Path.{sym, ◌∙◌, refl}
-use borrow.Author.Tests.{not-true, not-false}
 use borrow.Author.Rules.{rules}
 use Rattle.access.proofs.Flagging.{→member}
 use Rattle.bodies.proofs.Tables.{no_row, row_fits, one_row}
@@ -10,8 +9,11 @@ use Rattle.bodies.proofs.table.put_row.Goals as goal
 
 pub returns-then-not-has : goal.returns-then-not-has
 returns-then-not-has c =
-    let a = c.args in record { bytes = no_row a.edges.now a.n a.v a.work.now (search rules) a.t a.at a.out.now c.requires.t_value.0
-          (sym c.has.ensures ∙ c.if-not-has.true); others = refl }
+    let a = c.args in record {
+      bytes = no_row a.edges.now a.n a.v a.work.now (search rules) a.t a.at a.out.now c.requires.t_value.0
+          (sym c.has.ensures ∙ c.if-not-has.true);
+      others = refl;
+    }
 
 pub search_front-requires : goal.search_front-requires
 search_front-requires c =
@@ -49,6 +51,9 @@ overflow_add-result c =
 
 pub returns : goal.returns
 returns c =
-    let a = c.args in record { bytes = one_row a.edges.now a.n a.v a.work.now (search rules) a.t a.at a.out.now c.requires.t_value.0
+    let a = c.args in record {
+      bytes = one_row a.edges.now a.n a.v a.work.now (search rules) a.t a.at a.out.now c.requires.t_value.0
           (sym c.has.ensures ∙ c.if-not-has.false) _ _ c.search_front.ensures.found.0.times
-          c.search_front.ensures.others c.write_times.ensures; others = c.search_front.ensures.others }
+          c.search_front.ensures.others c.write_times.ensures;
+      others = c.search_front.ensures.others;
+    }

@@ -1,19 +1,14 @@
 -- `bodies::table::put_table` meets its contract. Assumes nothing.
 use Prim.Native.Nat.{◌-◌}
-use native.Mathlib.Omega.{arith}
-use mathlib.Core.Path.{◌≡◌, refl, ◌∙◌}
+use mathlib.Core.Path.{◌≡◌}
 use lib.ListN.{length}
-use borrow.Author.Rules.{rules}
-use Rattle.access.proofs.Flagging.{alone_later}
-use Rattle.emit.proofs.Turns.{members_from, members_step, members_end}
-use Rattle.emit.proofs.Writing.{Written, written_fits, written_next, written_end}
+use Rattle.emit.proofs.Turns.{members_from}
+use Rattle.emit.proofs.Writing.{Written}
 use Rattle.passes.specs.Building.{members_in}
 use Rattle.words.specs.Regions.{region, transit, search_words}
 use Rattle.model.specs.Lists.{concat_map}
 use Rattle.words.specs.Frames.{KeptFrom}
-use Rattle.bodies.proofs.Tables.{rows, rows_start}
-use Rattle.index.proofs.Laid.{roads_from}
-use Rattle.words.proofs.Windows.{region_later}
+use Rattle.bodies.proofs.Tables.{rows}
 use Rattle.bodies.proofs.table.put_table.Given as goal
 
 abbrev pub invariant-loop-v : goal.invariant-loop-v

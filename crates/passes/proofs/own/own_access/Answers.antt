@@ -1,6 +1,5 @@
 -- `own::own_access` meets its contract: the code's cell of u is its cell in the list of cells.
 use native.Mathlib.Omega.{arith}
-use borrow.Author.Rules.{rules}
 use Rattle.words.specs.Regions.{own}
 use Rattle.passes.proofs.Listing.{access_listed}
 use Rattle.passes.proofs.own.own_access.Goals as goal
@@ -11,5 +10,8 @@ cell_access-requires c = record { ground = (c.requires.ground.0, c.requires.grou
 pub returns : goal.returns
 returns c =
     let a = c.args in
-    record { members = access_listed a.nodes.now a.edges.now a.grid a.n c.requires.ground.1 a.u c.requires.ground.3 own _ _
-          c.cell-c.ensures c.cell_access.ensures.members; others = c.cell_access.ensures.others }
+    record {
+      members = access_listed a.nodes.now a.edges.now a.grid a.n c.requires.ground.1 a.u c.requires.ground.3 own _ _
+          c.cell-c.ensures c.cell_access.ensures.members;
+      others = c.cell_access.ensures.others;
+    }

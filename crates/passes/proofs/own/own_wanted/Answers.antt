@@ -1,7 +1,6 @@
 -- `own::own_wanted` meets its contract: region WANT is the set of region OWN, which stays.
 use native.Mathlib.Omega.{arith}
 use mathlib.Core.Path.{◌∙◌}
-use borrow.Author.Rules.{rules}
 use Rattle.words.specs.Regions.{own}
 use Rattle.passes.proofs.Listing.{access_alone}
 use Rattle.passes.proofs.Seeking.{sought_made}

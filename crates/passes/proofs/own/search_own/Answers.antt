@@ -12,10 +12,16 @@ search_wanted-requires c = record { n_le_max_nodes = (c.requires.0, c.requires.1
 pub returns-then-left-gt0 : goal.returns-then-left-gt0
 returns-then-left-gt0 c =
     let a = c.args in
-    record { list = list_searched a.n a.left a.work.now c.requires.3 _ c.search_wanted.ensures.others
-          (arcs_in a.edges.now) a.v _ c.search_wanted.ensures.found.0; others = c.search_wanted.ensures.others }
+    record {
+      list = list_searched a.n a.left a.work.now c.requires.3 _ c.search_wanted.ensures.others
+          (arcs_in a.edges.now) a.v _ c.search_wanted.ensures.found.0;
+      others = c.search_wanted.ensures.others;
+    }
 
 pub returns-else-left-gt0 : goal.returns-else-left-gt0
 returns-else-left-gt0 c =
-    let a = c.args in record { list = list_of_none a.n a.left a.work.now c.requires.3
-      (omega (arith, c.if-left-gt0.false)) _ _ _; others = refl }
+    let a = c.args in record {
+      list = list_of_none a.n a.left a.work.now c.requires.3
+          (omega (arith, c.if-left-gt0.false)) _ _ _;
+      others = refl;
+    }

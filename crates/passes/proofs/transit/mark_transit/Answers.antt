@@ -1,12 +1,7 @@
 -- `transit::mark_transit` meets its contract: the nodes below u are passed.
-use Prim.Native.Nat.{◌-◌, ◌≤◌}
 use native.Mathlib.Omega.{arith}
-use mathlib.Core.Path.{◌≡◌, refl, ◌∙◌}
-use borrow.Author.Rules.{rules}
-use lib.ListN.{length}
+use mathlib.Core.Path.{refl, ◌∙◌}
 use Rattle.index.proofs.Laid.{roads_kept, roads_only}
-use Rattle.words.specs.Frames.{KeptFrom}
-use Rattle.passes.specs.Passed.{CellsPassed}
 use Rattle.passes.proofs.Passing.{passed_none, passed_all}
 use Rattle.words.proofs.Stays.{after_kept}
 use Rattle.words.specs.Regions.{index_at}
@@ -20,19 +15,22 @@ loop-u-init c =
 pub pass_cell-requires : goal.pass_cell-requires
 pass_cell-requires c =
     let a = c.args in
-    let r = roads_only a.edges.now a.n a.work.now _ _ _ (omega arith) c.clear.ensures.others c.requires.indexed_edges in record { ground = (c.requires.ground.0, c.requires.ground.1, c.requires.ground.2, c.loop-u-test.true, omega (arith, c.requires.ground.3, c.loop-u.invariant.1, c.clear.auto.work)); cells_passed = (
+    let r = roads_only a.edges.now a.n a.work.now _ _ _ (omega arith) c.clear.ensures.others c.requires.indexed_edges in record {
+      ground = (c.requires.ground.0, c.requires.ground.1, c.requires.ground.2, c.loop-u-test.true, omega (arith, c.requires.ground.3, c.loop-u.invariant.1, c.clear.auto.work));
+      cells_passed = (
         c.loop-u.invariant.2,
         roads_kept a.edges.now a.n _ c.loop-u.work c.loop-u.invariant.3
             r,
-      ) }
+      );
+    }
 
 pub loop-u-preserved : goal.loop-u-preserved
 loop-u-preserved c = (
-      omega (arith, c.loop-u-test.true),
-      c.pass_cell.auto.work ∙ c.loop-u.invariant.1,
-      c.pass_cell.ensures.passed,
-      c.pass_cell.ensures.others ∙ c.loop-u.invariant.3,
-    )
+  omega (arith, c.loop-u-test.true),
+  c.pass_cell.auto.work ∙ c.loop-u.invariant.1,
+  c.pass_cell.ensures.passed,
+  c.pass_cell.ensures.others ∙ c.loop-u.invariant.3,
+)
 
 pub returns : goal.returns
 returns c =

@@ -1,14 +1,9 @@
 -- `transit::mark_transit` meets its contract: the nodes below u are passed.
 use Prim.Native.Nat.{◌-◌, ◌≤◌}
-use native.Mathlib.Omega.{arith}
-use mathlib.Core.Path.{◌≡◌, refl, ◌∙◌}
-use borrow.Author.Rules.{rules}
+use mathlib.Core.Path.{◌≡◌}
 use lib.ListN.{length}
-use Rattle.index.proofs.Laid.{roads_kept, roads_only}
 use Rattle.words.specs.Frames.{KeptFrom}
 use Rattle.passes.specs.Passed.{CellsPassed}
-use Rattle.passes.proofs.Passing.{passed_none, passed_all}
-use Rattle.words.proofs.Stays.{after_kept}
 use Rattle.words.specs.Regions.{index_at}
 use Rattle.passes.proofs.transit.mark_transit.Given as goal
 

@@ -1,7 +1,6 @@
 -- `transit::pass_cell` meets its contract: the first node of a cell sees to all its nodes, and another to none.
 use native.Mathlib.Omega.{arith}
 use mathlib.Core.Path.{refl, sym, ◌∙◌}
-use borrow.Author.Rules.{rules}
 use lib.ListN.{drop}
 use Rattle.crossing.specs.SetLaws.{ones_most}
 use Rattle.words.specs.Regions.{region_at, own}
@@ -29,5 +28,8 @@ returns-then-first_of_cell c =
 
 pub returns-else-first_of_cell : goal.returns-else-first_of_cell
 returns-else-first_of_cell c =
-    let a = c.args in record { passed = passed_later a.nodes.now a.edges.now a.grid a.n a.u a.work.now c.requires.cells_passed.0
-          (sym c.if-first_of_cell.false ∙ c.first_of_cell.ensures); others = refl }
+    let a = c.args in record {
+      passed = passed_later a.nodes.now a.edges.now a.grid a.n a.u a.work.now c.requires.cells_passed.0
+          (sym c.if-first_of_cell.false ∙ c.first_of_cell.ensures);
+      others = refl;
+    }

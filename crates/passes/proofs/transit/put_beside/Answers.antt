@@ -1,5 +1,4 @@
 -- `transit::put_beside` meets its contract.
-use borrow.Author.Rules.{rules}
 use Rattle.passes.proofs.transit.put_beside.Goals as goal
 
 pub returns-then-beside : goal.returns-then-beside

@@ -1,10 +1,8 @@
 -- `transit::put_counts` meets its contract: the nodes below v have their counts.
 use Prim.Native.Nat.{◌-◌}
-use native.Mathlib.Omega.{arith}
-use borrow.Author.Rules.{rules}
 use Rattle.crossing.specs.Cells.{same_cell}
 use Rattle.crossing.specs.Ground.{cells_in}
-use Rattle.passes.proofs.Counting.{Counting, first, next, last}
+use Rattle.passes.proofs.Counting.{Counting}
 use Rattle.passes.proofs.transit.put_counts.Given as goal
 
 abbrev pub invariant-loop-v : goal.invariant-loop-v

@@ -1,6 +1,5 @@
 -- `answers::is_none` meets its contract.
 use Rattle.sheet.specs.Under.{isNone}
-use borrow.Author.Rules.{rules}
 use Rattle.under.proofs.answers.is_none.Goals as goal
 
 pub returns-in-Time : goal.returns-in-Time

@@ -1,6 +1,5 @@
 -- `answers::judge` meets its contract: over the oracle's bodies.
 use native.Mathlib.Omega.{arith}
-use borrow.Author.Rules.{rules}
 use Rattle.opened.proofs.OpenLaws.{lent}
 use Rattle.under.proofs.Networks.{judged_over}
 use Rattle.under.proofs.answers.judge.Goals as goal

@@ -1,7 +1,6 @@
 -- `answers::old_answer` meets its contract: far from the lists and the table, local from the search.
 use native.Mathlib.Omega.{arith}
 use mathlib.Core.Path.{◌∙◌, sym}
-use borrow.Author.Rules.{rules}
 use Rattle.model.specs.Query.{time_answer, answer_of}
 use Rattle.theory.specs.Passed.{all_shaped}
 use Rattle.opened.proofs.SearchWords.{local_is}

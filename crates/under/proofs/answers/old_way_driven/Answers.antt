@@ -30,5 +30,10 @@ returns c =
     let a = c.args in
     let g = noted_edges a.edges.now a.lines.now a.n _ _ c.requires.n_le_max_nodes.5 c.requires.n_le_max_nodes.4 c.requires.lines_value c.note_lines.ensures.noted c.note_lines.ensures.others in
     let old = arcs_under a.edges.now [] in
-    let fair = arcs_bounded _ _ _ _ (plain a.edges.now a.n _ g.roads) in record { driven = c.still_driven.ensures ∙ stopped_driven old a.n fair a.s a.t c.requires.n_le_max_nodes.1 c.requires.n_le_max_nodes.2 _ _ c.search_to.ensures.found _; old = stopped_word old a.n a.t a.s _ _ c.requires.n_le_max_nodes.1 c.search_to.ensures.found; edges = edges_behind _ _ _ _ _ c.search_to.ensures.others g; others = noted_then a.n _ _ _
-              c.note_lines.auto.work c.note_lines.ensures.others c.search_to.ensures.others }
+    let fair = arcs_bounded _ _ _ _ (plain a.edges.now a.n _ g.roads) in record {
+      driven = c.still_driven.ensures ∙ stopped_driven old a.n fair a.s a.t c.requires.n_le_max_nodes.1 c.requires.n_le_max_nodes.2 _ _ c.search_to.ensures.found _;
+      old = stopped_word old a.n a.t a.s _ _ c.requires.n_le_max_nodes.1 c.search_to.ensures.found;
+      edges = edges_behind _ _ _ _ _ c.search_to.ensures.others g;
+      others = noted_then a.n _ _ _
+          c.note_lines.auto.work c.note_lines.ensures.others c.search_to.ensures.others;
+    }

@@ -1,7 +1,6 @@
 -- `answers::searched` meets its contract.
 use native.Mathlib.Omega.{arith}
 use mathlib.Core.Path.{◌∙◌}
-use borrow.Author.Rules.{rules}
 use Rattle.theory.specs.Passed.{all_shaped}
 use Rattle.opened.proofs.OpenLaws.{lent}
 use Rattle.under.proofs.Networks.{local_under}

@@ -1,6 +1,5 @@
 -- `answers::time_under_of` meets its contract: the old answer where it stands, and else that of the search.
 use mathlib.Core.Path.{◌∙◌, sym, ap}
-use borrow.Author.Rules.{rules}
 use Rattle.sheet.specs.Under.{isNone}
 use Rattle.theory.specs.Passed.{all_shaped}
 use Rattle.opened.proofs.OpenLaws.{stays, stays_then}
@@ -11,8 +10,11 @@ use Rattle.under.proofs.answers.time_under_of.Goals as goal
 pub returns-then-s-t : goal.returns-then-s-t
 returns-then-s-t c =
     let a = c.args in
-    let e = stands_itself _ a.o.now a.s (own_itself a.o.now (all_shaped _ c.requires.opened.0.shape) a.s c.requires.opened.1) in record { answer = rw (← c.if-s-t.true) (rw (← c.if-s-t.true) at c.time_of.ensures.answer ∙ e); stays = stays _ _ _ c.requires.opened.0
-          c.time_of.auto.work c.time_of.ensures.others }
+    let e = stands_itself _ a.o.now a.s (own_itself a.o.now (all_shaped _ c.requires.opened.0.shape) a.s c.requires.opened.1) in record {
+      answer = rw (← c.if-s-t.true) (rw (← c.if-s-t.true) at c.time_of.ensures.answer ∙ e);
+      stays = stays _ _ _ c.requires.opened.0
+          c.time_of.auto.work c.time_of.ensures.others;
+    }
 
 pub judge-driven-requires : goal.judge-driven-requires
 judge-driven-requires c = record { opened = (c.requires.opened.0, c.requires.opened.1, c.requires.opened.2, c.if-s-t.false); quick_lines = c.requires.quick_lines }
@@ -30,5 +32,8 @@ pub searched-requires : goal.searched-requires
 searched-requires c = record { opened = (c.judge-driven.ensures.stays.opened, c.requires.opened.1, c.requires.opened.2, c.if-s-t.false); edges_under = c.judge-driven.ensures.edges }
 
 pub returns : goal.returns
-returns c = record { answer = c.searched.ensures.answer ∙ stands_not _ _ _ _ (sym c.judge-driven.ensures.driven ∙ c.if-driven.false)
-          (sym (ap isNone c.old_answer-old.ensures) ∙ (sym c.is_none.ensures ∙ c.if-is_none.false)); stays = stays_then _ _ _ _ c.judge-driven.ensures.stays (stays _ _ _ c.judge-driven.ensures.stays.opened c.searched.auto.work c.searched.ensures.others) }
+returns c = record {
+  answer = c.searched.ensures.answer ∙ stands_not _ _ _ _ (sym c.judge-driven.ensures.driven ∙ c.if-driven.false)
+      (sym (ap isNone c.old_answer-old.ensures) ∙ (sym c.is_none.ensures ∙ c.if-is_none.false));
+  stays = stays_then _ _ _ _ c.judge-driven.ensures.stays (stays _ _ _ c.judge-driven.ensures.stays.opened c.searched.auto.work c.searched.ensures.others);
+}

@@ -1,6 +1,5 @@
 -- `calls::time_under` meets its contract.
 use mathlib.Core.Path.{◌∙◌, sym, ap}
-use borrow.Author.Rules.{rules}
 use Rattle.sheet.specs.Sheet.{effects}
 use Rattle.sheet.proofs.Forms.{kept_form}
 use Rattle.model.specs.Query.{meaning}
@@ -30,7 +29,7 @@ time_under_of-answer-requires c =
 pub returns : goal.returns
 unfolding effects
 returns c = record {
-      result = ap meaning ((rw c.line_body.ensures at c.time_under_of-answer.ensures.answer) ∙ time_given _ _ _ _ _ _ c.time_under_refusal-rule.ensures c.if-rule-ne0.false);
-      words = c.zero_words.ensures ∙ time_zeroed _ _ _ _ _ _ c.time_under_refusal-rule.ensures _ c.if-rule-ne0.false
-          (c.time_under_of-answer.ensures.stays.rest ∙ c.open_words.ensures.rest);
-    }
+  result = ap meaning ((rw c.line_body.ensures at c.time_under_of-answer.ensures.answer) ∙ time_given _ _ _ _ _ _ c.time_under_refusal-rule.ensures c.if-rule-ne0.false);
+  words = c.zero_words.ensures ∙ time_zeroed _ _ _ _ _ _ c.time_under_refusal-rule.ensures _ c.if-rule-ne0.false
+      (c.time_under_of-answer.ensures.stays.rest ∙ c.open_words.ensures.rest);
+}

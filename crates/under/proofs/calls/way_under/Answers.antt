@@ -1,6 +1,5 @@
 -- `calls::way_under` meets its contract.
 use mathlib.Core.Path.{◌∙◌, sym}
-use borrow.Author.Rules.{rules}
 use Rattle.sheet.specs.Sheet.{effects}
 use Rattle.sheet.proofs.Forms.{kept_form}
 use Rattle.under.proofs.Kept.{time_under_kept, way_refused, way_given}
@@ -23,8 +22,11 @@ pub way_under_of-route-requires : goal.way_under_of-route-requires
 way_under_of-route-requires c =
     let k = (time_under_kept _ _ _ _ _
     (sym c.time_under_refusal-rule.ensures ∙
-    c.if-rule-ne0.false)).under in record { opened = (c.open_words.ensures.opened, k.pair.first, k.pair.second); quick_lines = rw c.line_body.ensures
-          k.quick }
+    c.if-rule-ne0.false)).under in record {
+      opened = (c.open_words.ensures.opened, k.pair.first, k.pair.second);
+      quick_lines = rw c.line_body.ensures
+          k.quick;
+    }
 
 pub returns : goal.returns
 unfolding effects

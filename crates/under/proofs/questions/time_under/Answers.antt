@@ -1,6 +1,5 @@
 -- `questions::time_under` meets its contract.
 use mathlib.Core.Path.{refl, ◌∙◌, sym}
-use borrow.Author.Rules.{rules}
 use Rattle.sheet.specs.Sheet.{effects}
 use Rattle.sheet.proofs.Forms.{kept_form}
 use Rattle.under.proofs.Kept.{under_kept, as_time_under, time_refused, time_given}

@@ -1,6 +1,5 @@
 -- `questions::way_under` meets its contract.
 use mathlib.Core.Path.{refl, ◌∙◌, sym}
-use borrow.Author.Rules.{rules}
 use Rattle.sheet.specs.Sheet.{effects}
 use Rattle.sheet.proofs.Forms.{kept_form}
 use Rattle.under.proofs.Kept.{under_kept, as_time_under, way_refused, way_given}
@@ -16,8 +15,11 @@ line_body-requires c = kept_form _ (under_kept _ _ _ _ (sym c.named_under_refusa
 
 pub way_under_of-requires : goal.way_under_of-requires
 way_under_of-requires c =
-    let k = under_kept _ _ _ _ (sym c.named_under_refusal-rule.ensures ∙ c.if-rule-ne0.false) in record { opened = (c.requires, k.pair.first, k.pair.second); quick_lines = rw
-          c.line_body.ensures k.quick }
+    let k = under_kept _ _ _ _ (sym c.named_under_refusal-rule.ensures ∙ c.if-rule-ne0.false) in record {
+      opened = (c.requires, k.pair.first, k.pair.second);
+      quick_lines = rw
+          c.line_body.ensures k.quick;
+    }
 
 pub returns : goal.returns
 unfolding effects

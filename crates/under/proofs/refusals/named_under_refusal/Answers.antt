@@ -1,6 +1,5 @@
 -- `refusals::named_under_refusal` meets its contract.
 use mathlib.Core.Path.{◌∙◌, sym}
-use borrow.Author.Rules.{rules}
 use Rattle.theory.specs.BuiltCalls.{pair_counted}
 use Rattle.checks.proofs.CheckOrder.{sooner}
 use Rattle.sheet.specs.SheetCalls.{pair_under_rules}

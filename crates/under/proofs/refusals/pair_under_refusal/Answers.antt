@@ -1,6 +1,5 @@
 -- `refusals::pair_under_refusal` meets its contract.
 use mathlib.Core.Path.{◌∙◌, sym}
-use borrow.Author.Rules.{rules}
 use Rattle.theory.specs.BuiltCalls.{pair_counted}
 use Rattle.checks.proofs.RulesKept.{pair_kept}
 use Rattle.checks.proofs.CheckOrder.{sooner}

@@ -1,5 +1,4 @@
 -- `refusals::sheet_rule` meets its contract.
-use borrow.Author.Rules.{rules}
 use Rattle.theory.specs.Passed.{all_shaped}
 use Rattle.sheet.specs.BodyRules.{sheet_rules_law}
 use Rattle.sheet.proofs.SlowLines.{quick}

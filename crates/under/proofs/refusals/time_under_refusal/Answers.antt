@@ -1,6 +1,5 @@
 -- `refusals::time_under_refusal` meets its contract.
 use mathlib.Core.Path.{◌∙◌, sym}
-use borrow.Author.Rules.{rules}
 use Rattle.checks.proofs.CheckOrder.{sooner, decides}
 use Rattle.sheet.specs.SheetCalls.{time_under_rules}
 use Rattle.under.proofs.Kept.{under_kept, under_counted}

@@ -15,5 +15,8 @@ write_way_to-requires c =
 pub returns : goal.returns
 returns c =
     let a = c.args in
-    record { given = c.write_way_to.ensures.given; others = noted_then a.n _ _ _ c.note_lines.auto.work
-          c.note_lines.ensures.others c.write_way_to.ensures.others }
+    record {
+      given = c.write_way_to.ensures.given;
+      others = noted_then a.n _ _ _ c.note_lines.auto.work
+          c.note_lines.ensures.others c.write_way_to.ensures.others;
+    }
