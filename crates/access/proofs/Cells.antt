@@ -51,7 +51,7 @@ module _ (n : ℕ) (l : List ℕ) (v : ℕ) where
   unfolding member_flags
   →listed h m = →flagged (λ u. member u l) n v h (lists.→member v l m)
 
-module _ (b e : Bytes) (grid : Grid) (ground : Ground b e grid) (n : ℕ) (size : n ≡ node_count b) where
+module _ (b e : Bytes) (grid : Grid) (on_ground : Ground b e grid) (n : ℕ) (size : n ≡ node_count b) where
   abbrev net : Network
   net = network_in b e
 
@@ -62,7 +62,7 @@ module _ (b e : Bytes) (grid : Grid) (ground : Ground b e grid) (n : ℕ) (size 
   count = count_order b n size e
 
   ends : (x : Edge) → Memᴰ x net.edges → (x.first < order net) × (x.second < order net)
-  ends x m = let f = each_fine (node_count b) e ground.edges_rule x m in
+  ends x m = let f = each_fine (node_count b) e on_ground.edges_rule x m in
       (omega (arith, f.first_in, count, size), omega (arith, f.second_in, count, size))
 
   same_arcs : arcs net ≡ arcs_in e
@@ -120,7 +120,7 @@ module _ (b e : Bytes) (grid : Grid) (ground : Ground b e grid) (n : ℕ) (size 
     pub starts_two : (x y : List ℕ) → region_flags n own x ≡ member_flags n ps → Only n want x y → NotAlone n own y
     starts_two x y f q v i =
         let s : Flagged (member_flags n ps) v = rw (flags_kept n own want x y (λ i. omega arith) q ∙ f) at i in
-        omega (arith, size, crossing_two (node_count b) e ground.edges_rule cs 0 cell (listed→ n ps v s).1)
+        omega (arith, size, crossing_two (node_count b) e on_ground.edges_rule cs 0 cell (listed→ n ps v s).1)
 
     -- From the words w, with the starts put into x, the goals into y, and gathered into z.
     pub gathered_cell : (w x y z : List ℕ) → region_flags n own x ≡ member_flags n ps → Only n own w x → region_flags n want y ≡ member_flags n qs → Only n want x y

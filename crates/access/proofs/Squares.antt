@@ -179,10 +179,10 @@ module _ (nodes edges : Bytes) (s : Square) (n k : ℕ) where
           pick j i (no d) = record { u = i.u; below = omega (arith, i.below, d); real = i.real; inside = i.inside }
 
 -- ---- at the end
-module _ {nodes edges : Bytes} {grid : Grid} (ground : Ground nodes edges grid) (r : ℕ) (c : model.Cell) (s : Square) (q : SquareOf grid c r s)
+module _ {nodes edges : Bytes} {grid : Grid} (on_ground : Ground nodes edges grid) (r : ℕ) (c : model.Cell) (s : Square) (q : SquareOf grid c r s)
     (n : ℕ) (size : n ≡ node_count nodes) where
   same : (j : ℕ) → j < edge_count edges → crosses_square nodes s (edge edges j) ≡ crosses (cells_in grid nodes) r c (edge edges j)
-  same j h = let f = edge_fine (node_count nodes) edges ground.edges_rule j h in crosses_same ground.over r c s q (edge edges j) f.first_in
+  same j h = let f = edge_fine (node_count nodes) edges on_ground.edges_rule j h in crosses_same on_ground.over r c s q (edge edges j) f.first_in
       f.second_in
 
   listed : (x : ℕ) → CrossingOf nodes edges s x → Memᴰ x (crossings (cells_in grid nodes) (edges_in edges) r c)
@@ -197,7 +197,7 @@ module _ {nodes edges : Bytes} {grid : Grid} (ground : Ground nodes edges grid) 
       → Inside nodes edges s v j
   unfolding crosses_square
   end_inside j h e v l =
-      let f = edge_fine (node_count nodes) edges ground.edges_rule j h in
+      let f = edge_fine (node_count nodes) edges on_ground.edges_rule j h in
       ⊎_elim
       (λ i. record {
         u = (edge edges j).first;

@@ -19,7 +19,7 @@ use words::regions::{GATHERED, OWN, WANT};
 
 // Makes region GATHERED the set of the nodes on least walks from a crossing node of c to one of its outer square.
 fn cell_gather(nodes: &[u8], edges: &[u8], grid: Grid, c: Cell, n: usize, work: &mut [u32])
-    requires ground { Ground nodes.now edges.now grid × (n ≡ node_count nodes.now) × (n ≤ max_nodes) × Enough n work.old × (1 ≤ n) }
+    requires on_ground { Ground nodes.now edges.now grid × (n ≡ node_count nodes.now) × (n ≤ max_nodes) × Enough n work.old × (1 ≤ n) }
     requires indexed_edges { IndexedEdges edges.now n work.old }
     ensures members { region_flags n gathered work.new ≡ test_flags
         (through (distance (network_in nodes.now edges.now))
@@ -34,7 +34,7 @@ fn cell_gather(nodes: &[u8], edges: &[u8], grid: Grid, c: Cell, n: usize, work: 
 
 // Makes region OWN the set of the access nodes of c. The regions from TRANSIT on stay.
 pub fn cell_access(nodes: &[u8], edges: &[u8], grid: Grid, c: Cell, n: usize, work: &mut [u32])
-    requires ground { Ground nodes.now edges.now grid × (n ≡ node_count nodes.now) × (n ≤ max_nodes) × Enough n work.old × (1 ≤ n) }
+    requires on_ground { Ground nodes.now edges.now grid × (n ≡ node_count nodes.now) × (n ≤ max_nodes) × Enough n work.old × (1 ≤ n) }
     requires indexed_edges { IndexedEdges edges.now n work.old }
     ensures members { region_flags n own work.new ≡ member_flags n
         (access_nodes (distance (network_in nodes.now edges.now))

@@ -62,7 +62,7 @@ fn same_beside(
     left: usize,
     work: &mut [u32],
 ) -> bool
-    requires ground { Ground nodes.now edges.now grid × (n ≡ node_count nodes.now) × (n ≤ max_nodes) × (u < n) × (v < n) × Enough n work.old
+    requires on_ground { Ground nodes.now edges.now grid × (n ≡ node_count nodes.now) × (n ≤ max_nodes) × (u < n) × (v < n) × Enough n work.old
         × KeepsLists n access.now × CellSquare nodes.now grid u square }
     requires work_value { (members_in n transit work.old ≡ transit_in nodes.now edges.now grid)
         × (members_in n own work.old ≡ access_of nodes.now edges.now grid u) }
@@ -87,7 +87,7 @@ fn same_in_cell(
     left: usize,
     work: &mut [u32],
 ) -> bool
-    requires ground { Ground nodes.now edges.now grid × (n ≡ node_count nodes.now) × (n ≤ max_nodes) × (u < n) × Enough n work.old
+    requires on_ground { Ground nodes.now edges.now grid × (n ≡ node_count nodes.now) × (n ≤ max_nodes) × (u < n) × Enough n work.old
         × KeepsLists n access.now }
     requires work_value { (members_in n transit work.old ≡ transit_in nodes.now edges.now grid)
         × (members_in n own work.old ≡ access_of nodes.now edges.now grid u) }
@@ -116,7 +116,7 @@ fn same_of_cell(
     u: usize,
     work: &mut [u32],
 ) -> bool
-    requires ground { Ground nodes.now edges.now grid × (n ≡ node_count nodes.now) × (n ≤ max_nodes) × (u < n) × Enough n work.old
+    requires on_ground { Ground nodes.now edges.now grid × (n ≡ node_count nodes.now) × (n ≤ max_nodes) × (u < n) × Enough n work.old
         × KeepsLists n access.now }
     requires work_value { (members_in n transit work.old ≡ transit_in nodes.now edges.now grid) × IndexedEdges edges.now n work.old }
     ensures same { result ≡ same_of_cell nodes.now edges.now grid access.now u }
@@ -138,7 +138,7 @@ pub fn same_lists(
     n: usize,
     work: &mut [u32],
 ) -> bool
-    requires ground { Ground nodes.now edges.now grid × (n ≡ node_count nodes.now) × (n ≤ max_nodes) × Enough n work.old
+    requires on_ground { Ground nodes.now edges.now grid × (n ≡ node_count nodes.now) × (n ≤ max_nodes) × Enough n work.old
         × KeepsLists n access.now }
     requires work_value { (members_in n transit work.old ≡ transit_in nodes.now edges.now grid) × IndexedEdges edges.now n work.old }
     ensures same { result ≡ same_lists nodes.now edges.now grid access.now }

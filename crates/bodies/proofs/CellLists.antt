@@ -99,7 +99,7 @@ module _ (b e : Bytes) (grid : Grid) (n : ℕ) where
   module _ (w w' : List ℕ) (based : Based b e grid n w) (k : length w' ≡ length w) where
     pub based_still : KeptFrom (region_at n transit) w w' → Based b e grid n w'
     based_still q = record {
-      ground = based.ground;
+      on_ground = based.on_ground;
       count = based.count;
       few = based.few;
       words = omega (arith, based.words, k);

@@ -14,7 +14,7 @@ use Rattle.words.specs.Frames.{Enough}
 
 -- What the lists are worked out by: an accepted network of n nodes with a grid, and working words with its transit nodes and the index of its edges.
 pub record Based (nodes edges : Bytes) (grid : Grid) (n : ℕ) (work : List ℕ) : Type 0 where
-  pub ground : Ground nodes edges grid
+  pub on_ground : Ground nodes edges grid
   pub count : n ≡ node_count nodes
   pub few : n ≤ max_nodes
   pub words : Enough n work

@@ -89,7 +89,7 @@ module _ (b e : Bytes) (grid : Grid) (n t a : ℕ) (w : List ℕ) (p : Planned b
           omega (arith, transit_ends q, r.ends, p.access),
           omega (arith, p.transits, p.based.few, transit_few b e grid n p.based.count),
         ),
-        (after.roads, transit_alone b e grid n after.count after.ground transit w' after.transits),
+        (after.roads, transit_alone b e grid n after.count after.on_ground transit w' after.transits),
       )
 
       pub back_written : {end : ℕ} {new : Bytes} → length mid ≡ length old

@@ -54,7 +54,7 @@ module _ (f : Bytes) (dv : Division) (b e : Bytes) (grid : Grid) (n : ℕ) (l : 
 
     module _ (members : members_in n transit w ≡ transit_in b e grid) (all : Counts b e grid n w) (roads : IndexedEdges e n w) where
       based_first : Based b e grid n w
-      based_first = record { ground = laid_ground; count = l.count; few = laid_few; words = words; some = laid_some; transits = members; roads = roads }
+      based_first = record { on_ground = laid_ground; count = l.count; few = laid_few; words = words; some = laid_some; transits = members; roads = roads }
 
       pub sizes_requires : Enough n w × Counted n (counts_in n w) × (1 ≤ n)
       sizes_requires = (words, counted_all b e grid n w based_first all, laid_some)

@@ -75,4 +75,4 @@ access_listed b e grid n size u h k w cell q f =
 -- These are not alone.
 pub access_alone : (b e : Bytes) (grid : Grid) (n : ℕ) → n ≡ node_count b → Ground b e grid → (u k : ℕ) (w : List ℕ)
     → members_in n k w ≡ access_of b e grid u → NotAlone n k w
-access_alone b e grid n size ground u k w q v f = access_two b e grid n size ground u v (rw q at ((flagged_member n k w v).0 f))
+access_alone b e grid n size on_ground u k w q v f = access_two b e grid n size on_ground u v (rw q at ((flagged_member n k w v).0 f))

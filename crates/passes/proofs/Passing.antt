@@ -104,7 +104,7 @@ module _ (b e : Bytes) (grid : Grid) (n : ℕ) where
   -- All nodes are passed.
   pub passed_all : Ground b e grid → n ≡ node_count b → (u : ℕ) (w : List ℕ) → n ≤ u → CellsPassed b e grid n u w
       → (members_in n transit w ≡ transit_in b e grid) × ((v : ℕ) → v < n → count_of n w v ≡ length (access_of b e grid v))
-  passed_all ground size u w l g =
+  passed_all on_ground size u w l g =
       let t = seen_all cs (Told b e grid n w) n u l g.seen in (
         members_transit b e grid n size transit w (λ a m. let d = g.sound a m in in_transit b e grid n size d.by d.below a d.listed)
             (λ a m. let d = transit_needed b e grid n size a m in (t d.by d.below).members a d.listed),

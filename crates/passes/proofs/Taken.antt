@@ -65,6 +65,6 @@ module _ (b e : Bytes) (grid : Grid) where
 
     -- The transit nodes are not alone.
     pub transit_alone : Ground b e grid → (k : ℕ) (w : List ℕ) → members_in n k w ≡ transit_in b e grid → NotAlone n k w
-    transit_alone ground k w q v f =
+    transit_alone on_ground k w q v f =
         let d = transit_needed v (rw q at ((flagged_member n k w v).0 f)) in
-        access_two b e grid n size ground d.by v d.listed
+        access_two b e grid n size on_ground d.by v d.listed

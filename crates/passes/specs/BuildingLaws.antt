@@ -66,10 +66,10 @@ module _ (b e : Bytes) (grid : Grid) (n : ℕ) (size : n ≡ node_count b) where
   -- And there is another.
   pub access_two : Ground b e grid → (u v : ℕ) → Memᴰ v (access_of b e grid u) → 2 ≤ n
   unfolding access_of access_nodes
-  access_two ground u v m =
+  access_two on_ground u v m =
       let inner = crossings cs (edges_in e) (grid_of grid).inner (cell_at cs u) in
       let i = member→ v inner (both {b = member v inner} (filter→ _ (up_to (length cs)) m).1).0 in
-      omega (arith, size, crossing_two (node_count b) e ground.edges_rule cs (grid_of grid).inner (cell_at cs u) i)
+      omega (arith, size, crossing_two (node_count b) e on_ground.edges_rule cs (grid_of grid).inner (cell_at cs u) i)
 
   pub access_few : (u : ℕ) → length (access_of b e grid u) ≤ n
   unfolding access_of access_nodes

@@ -19,7 +19,7 @@ use words::regions::{OWN, WANT, clear};
 
 // Makes region OWN the set of the access nodes of the cell of u. The regions from TRANSIT on stay.
 pub fn own_access(nodes: &[u8], edges: &[u8], grid: Grid, n: usize, u: usize, work: &mut [u32])
-    requires ground { Ground nodes.now edges.now grid × (n ≡ node_count nodes.now) × (n ≤ max_nodes) × (u < n) × Enough n work.old }
+    requires on_ground { Ground nodes.now edges.now grid × (n ≡ node_count nodes.now) × (n ≤ max_nodes) × (u < n) × Enough n work.old }
     requires indexed_edges { IndexedEdges edges.now n work.old }
     ensures members { members_in n own work.new ≡ access_of nodes.now edges.now grid u }
     ensures others { KeptFrom (region_at n transit) work.old work.new }
@@ -37,7 +37,7 @@ pub fn own_wanted(
     u: usize,
     work: &mut [u32],
 ) -> usize
-    requires ground { Ground nodes.now edges.now grid × (n ≡ node_count nodes.now) × (n ≤ max_nodes) × (u < n) × Enough n work.old }
+    requires on_ground { Ground nodes.now edges.now grid × (n ≡ node_count nodes.now) × (n ≤ max_nodes) × (u < n) × Enough n work.old }
     requires indexed_edges { IndexedEdges edges.now n work.old }
     ensures members { members_in n own work.new ≡ access_of nodes.now edges.now grid u }
     ensures sought { Sought n result work.new }

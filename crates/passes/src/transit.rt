@@ -56,7 +56,7 @@ fn put_counts(nodes: &[u8], grid: Grid, n: usize, u: usize, k: usize, work: &mut
 
 // Sees to the nodes of the cell of u, if u is its first node.
 fn pass_cell(nodes: &[u8], edges: &[u8], grid: Grid, n: usize, u: usize, work: &mut [u32])
-    requires ground { Ground nodes.now edges.now grid × (n ≡ node_count nodes.now) × (n ≤ max_nodes) × (u < n) × Enough n work.old }
+    requires on_ground { Ground nodes.now edges.now grid × (n ≡ node_count nodes.now) × (n ≤ max_nodes) × (u < n) × Enough n work.old }
     requires cells_passed { CellsPassed nodes.now edges.now grid n u work.old × IndexedEdges edges.now n work.old }
     ensures passed { CellsPassed nodes.now edges.now grid n (u + 1) work.new }
     ensures others { KeptFrom (index_at n) work.old work.new }
@@ -71,7 +71,7 @@ fn pass_cell(nodes: &[u8], edges: &[u8], grid: Grid, n: usize, u: usize, work: &
 
 // Makes region TRANSIT the set of the transit nodes, and the count of each node the number of access nodes of its cell. The words after the regions stay.
 pub fn mark_transit(nodes: &[u8], edges: &[u8], grid: Grid, n: usize, work: &mut [u32])
-    requires ground { Ground nodes.now edges.now grid × (n ≡ node_count nodes.now) × (n ≤ max_nodes) × Enough n work.old × (1 ≤ n) }
+    requires on_ground { Ground nodes.now edges.now grid × (n ≡ node_count nodes.now) × (n ≤ max_nodes) × Enough n work.old × (1 ≤ n) }
     requires indexed_edges { IndexedEdges edges.now n work.old }
     ensures members { members_in n transit work.new ≡ transit_in nodes.now edges.now grid }
     ensures counted { (v : ℕ) → v < n → count_of n work.new v ≡ length

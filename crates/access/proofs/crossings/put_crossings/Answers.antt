@@ -47,4 +47,4 @@ loop-v-preserved c = elim c.if-has.branch [
 pub returns : goal.returns
 returns c =
     let a = c.args in
-    record { members = λ grid cell r ground q. crossings_put ground r cell _ q a.n c.requires.n_value.0 a.k _ c.clear.ensures.members c.loop-v.v (search rules) c.loop-v.work c.loop-v.invariant.1; others = only_then _ _ a.work.now _ c.loop-v.work c.clear.ensures.others c.loop-v.invariant.1.others }
+    record { members = λ grid cell r on_ground q. crossings_put on_ground r cell _ q a.n c.requires.n_value.0 a.k _ c.clear.ensures.members c.loop-v.v (search rules) c.loop-v.work c.loop-v.invariant.1; others = only_then _ _ a.work.now _ c.loop-v.work c.clear.ensures.others c.loop-v.invariant.1.others }

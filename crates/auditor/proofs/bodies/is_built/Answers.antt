@@ -2,7 +2,6 @@
 use mathlib.Core.Path.{◌∙◌}
 use native.Mathlib.Omega.{arith}
 use Rattle.auditor.proofs.BuiltBodies.{bodies_asked, bodies_told}
-use borrow.Author.Rules.{rules}
 use Rattle.auditor.proofs.bodies.is_built.Goals as goal
 
 pub body-requires : goal.body-requires

@@ -4,7 +4,6 @@ use native.Mathlib.Omega.{arith}
 use Rattle.model.specs.Rules.{words_needed}
 use Rattle.checks.proofs.RulesKept.{room_kept}
 use Rattle.auditor.proofs.Outcomes.{audit_refused, audit_told, behind_needed}
-use borrow.Author.Rules.{rules}
 use Rattle.auditor.proofs.calls.audit.Goals as goal
 
 pub returns-then-rule-ne0 : goal.returns-then-rule-ne0

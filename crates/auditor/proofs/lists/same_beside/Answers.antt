@@ -1,33 +1,40 @@
 -- `lists::same_beside` meets its contract: nodes of one cell have the same access nodes.
 use mathlib.Core.Path.{refl, sym, ◌∙◌}
-use borrow.Author.Tests.{not-true, not-false}
-use borrow.Author.Rules.{rules}
 use Rattle.passes.specs.BuildingLaws.{among}
 use Rattle.auditor.proofs.CellLists.{listed, other_cell, this_cell}
 use Rattle.auditor.proofs.lists.same_beside.Goals as goal
 
 pub beside-requires : goal.beside-requires
-beside-requires c = rw (← c.requires.ground.1) c.requires.ground.4
+beside-requires c = rw (← c.requires.on_ground.1) c.requires.on_ground.4
 
 pub returns-then-not-beside : goal.returns-then-not-beside
-returns-then-not-beside c = record { same = other_cell _ _ _ _ _ _ (sym (c.beside.ensures _ _ c.requires.ground.7)
-      ∙ c.if-not-beside.true); others = refl }
+returns-then-not-beside c = record {
+  same = other_cell _ _ _ _ _ _ (sym (c.beside.ensures _ _ c.requires.on_ground.7)
+      ∙ c.if-not-beside.true);
+  others = refl;
+}
 
 pub same_from-requires : goal.same_from-requires
 same_from-requires c =
     let a = c.args in
-    record { n_le_max_nodes = (
-        c.requires.ground.2,
-        c.requires.ground.4,
-        c.requires.ground.5,
-        among a.nodes.now a.edges.now a.grid a.n c.requires.ground.1 a.work.now a.u c.requires.ground.3 c.requires.work_value.0
+    record {
+      n_le_max_nodes = (
+        c.requires.on_ground.2,
+        c.requires.on_ground.4,
+        c.requires.on_ground.5,
+        among a.nodes.now a.edges.now a.grid a.n c.requires.on_ground.1 a.work.now a.u c.requires.on_ground.3 c.requires.work_value.0
             c.requires.work_value.1,
-        listed a.n a.access.now c.requires.ground.6 a.v c.requires.ground.4,
+        listed a.n a.access.now c.requires.on_ground.6 a.v c.requires.on_ground.4,
         c.requires.sought.0,
-      ); indexed_edges = c.requires.sought.1 }
+      );
+      indexed_edges = c.requires.sought.1;
+    }
 
 pub returns : goal.returns
 returns c =
     let a = c.args in
-    record { same = c.same_from.ensures.same ∙ this_cell a.nodes.now a.edges.now a.grid a.access.now a.u a.n c.requires.ground.1
-          a.work.now c.requires.work_value.0 c.requires.work_value.1 a.v (sym (c.beside.ensures _ _ c.requires.ground.7) ∙ c.if-not-beside.false); others = c.same_from.ensures.others }
+    record {
+      same = c.same_from.ensures.same ∙ this_cell a.nodes.now a.edges.now a.grid a.access.now a.u a.n c.requires.on_ground.1
+          a.work.now c.requires.work_value.0 c.requires.work_value.1 a.v (sym (c.beside.ensures _ _ c.requires.on_ground.7) ∙ c.if-not-beside.false);
+      others = c.same_from.ensures.others;
+    }

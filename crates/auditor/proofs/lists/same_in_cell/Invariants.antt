@@ -1,15 +1,10 @@
 -- `lists::same_in_cell` meets its contract: the nodes from v on are left.
 use Prim.Native.Nat.{◌-◌}
-use native.Mathlib.Omega.{arith}
-use mathlib.Core.Path.{◌≡◌, sym, ◌∙◌}
-use borrow.Author.Tests.{not-true, not-false}
-use borrow.Author.Rules.{rules}
+use mathlib.Core.Path.{◌≡◌}
 use Rattle.model.specs.Lists.{all, up_to}
 use Rattle.theory.specs.RangeLaws.{rest}
-use Rattle.passes.proofs.Seeking.{sought_later}
 use Rattle.auditor.specs.Same.{same_beside}
-use Rattle.auditor.proofs.Tested.{left_all, left_fails, left_goes, left_none}
-use Rattle.auditor.proofs.Behind.{KeptSets, kept_same, kept_then, own_behind, transit_behind, roads_behind}
+use Rattle.auditor.proofs.Behind.{KeptSets}
 use Rattle.auditor.proofs.lists.same_in_cell.Given as goal
 
 abbrev pub invariant-loop-v : goal.invariant-loop-v

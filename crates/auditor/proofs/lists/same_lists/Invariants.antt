@@ -1,18 +1,12 @@
 -- `lists::same_lists` meets its contract: the nodes from u on are left, and testing cell by cell tests all lists.
 use Prim.Native.Nat.{◌-◌}
-use native.Mathlib.Omega.{arith}
-use mathlib.Core.Path.{◌≡◌, refl, sym, ◌∙◌}
-use borrow.Author.Tests.{not-true, not-false}
-use borrow.Author.Rules.{rules}
+use mathlib.Core.Path.{◌≡◌}
 use lib.ListN.{length}
 use Rattle.model.specs.Lists.{all, up_to}
 use Rattle.theory.specs.RangeLaws.{rest}
 use Rattle.words.specs.Regions.{region_at, transit}
 use Rattle.words.specs.Frames.{KeptFrom}
 use Rattle.auditor.specs.Same.{same_of_cell}
-use Rattle.auditor.proofs.Tested.{left_all, left_fails, left_goes, left_none, by_cells_to}
-use Rattle.auditor.proofs.CellLists.{transit_kept}
-use Rattle.index.proofs.Laid.{roads_from}
 use Rattle.auditor.proofs.lists.same_lists.Given as goal
 
 abbrev pub invariant-loop-u : goal.invariant-loop-u

@@ -1,5 +1,4 @@
 -- `rows::is_row` meets its contract.
-use borrow.Author.Rules.{rules}
 use Rattle.auditor.proofs.rows.is_row.Goals as goal
 
 pub returns : goal.returns

@@ -1,6 +1,5 @@
 -- `rows::row_at` meets its contract: the bytes at the position are the row, or it differs.
 use mathlib.Core.Path.{sym, ◌∙◌}
-use borrow.Author.Rules.{rules}
 use Rattle.auditor.proofs.RowBytes.{row_short, row_same, row_other}
 use Rattle.auditor.proofs.rows.row_at.Goals as goal
 

@@ -1,6 +1,5 @@
 -- `rows::same_from` meets its contract: the search leaves the regions behind its own.
 use mathlib.Core.Path.{refl, sym, ◌∙◌, ap}
-use borrow.Author.Tests.{not-true, not-false}
 use borrow.Author.Rules.{rules}
 use Rattle.model.specs.Bytes.{Bytes}
 use Rattle.access.proofs.Flagging.{→member}
@@ -31,6 +30,9 @@ row_at-requires c =
 
 pub returns : goal.returns
 returns c =
-    let a = c.args in record { same = c.row_at.ensures ∙ (ap (λ (r : Bytes). compared a.table.now a.at r)
+    let a = c.args in record {
+      same = c.row_at.ensures ∙ (ap (λ (r : Bytes). compared a.table.now a.at r)
           (row_behind a.n a.work.now _ c.search_front.ensures.others _ a.v _ c.search_front.ensures.found.0) ∙ row_in a.n a.v a.work.now
-          (search rules) a.table.now a.at _ (sym c.has.ensures ∙ c.if-not-has.false)); others = c.search_front.ensures.others }
+          (search rules) a.table.now a.at _ (sym c.has.ensures ∙ c.if-not-has.false));
+      others = c.search_front.ensures.others;
+    }

@@ -1,5 +1,4 @@
 -- `transit::same_transit` meets its contract.
-use borrow.Author.Rules.{rules}
 use Rattle.auditor.proofs.transit.same_transit.Goals as goal
 
 pub returns : goal.returns

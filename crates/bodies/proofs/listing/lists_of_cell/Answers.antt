@@ -6,10 +6,10 @@ use Rattle.bodies.proofs.CellLists.{working_next, based_still, cell_none, cell_a
 use Rattle.bodies.proofs.listing.lists_of_cell.Goals as goal
 
 pub own_wanted-left-requires : goal.own_wanted-left-requires
-own_wanted-left-requires c = record { ground = (c.requires.0.ground, c.requires.0.count, c.requires.0.few, c.requires.1, omega (arith, c.requires.0.words)); indexed_edges = c.requires.0.roads }
+own_wanted-left-requires c = record { on_ground = (c.requires.0.on_ground, c.requires.0.count, c.requires.0.few, c.requires.1, omega (arith, c.requires.0.words)); indexed_edges = c.requires.0.roads }
 
 pub cell_square-square-requires : goal.cell_square-square-requires
-cell_square-square-requires c = (c.requires.0.ground.over, omega (arith, c.requires.0.count, c.requires.1))
+cell_square-square-requires c = (c.requires.0.on_ground.over, omega (arith, c.requires.0.count, c.requires.1))
 
 pub loop-v-init : goal.loop-v-init
 loop-v-init c =

@@ -12,7 +12,7 @@ pub build_index-requires : goal.build_index-requires
 build_index-requires c = record { n_le_max_nodes = (c.requires.2, c.requires.3); edges_value = rw c.requires.1 c.requires.0.edges_rule }
 
 pub mark_transit-requires : goal.mark_transit-requires
-mark_transit-requires c = record { ground = (c.requires.0, c.requires.1, c.requires.2, search rules, c.requires.4); indexed_edges = c.build_index.ensures.roads }
+mark_transit-requires c = record { on_ground = (c.requires.0, c.requires.1, c.requires.2, search rules, c.requires.4); indexed_edges = c.build_index.ensures.roads }
 
 pub returns : goal.returns
 returns c =

@@ -8,12 +8,12 @@ use Rattle.passes.proofs.own.own_wanted.Goals as goal
 
 pub own_access-requires : goal.own_access-requires
 own_access-requires c =
-    record { ground = c.requires.ground; indexed_edges = c.requires.indexed_edges }
+    record { on_ground = c.requires.on_ground; indexed_edges = c.requires.indexed_edges }
 
 pub returns : goal.returns
 returns c =
     let a = c.args in
-    let two = access_alone a.nodes.now a.edges.now a.grid a.n c.requires.ground.1 c.requires.ground.0 a.u own _ c.own_access.ensures.members in
-    let r = sought_made a.n (omega (arith, c.requires.ground.3)) _ _ _ two c.clear.ensures.members c.clear.ensures.others c.unite.ensures.members
+    let two = access_alone a.nodes.now a.edges.now a.grid a.n c.requires.on_ground.1 c.requires.on_ground.0 a.u own _ c.own_access.ensures.members in
+    let r = sought_made a.n (omega (arith, c.requires.on_ground.3)) _ _ _ two c.clear.ensures.members c.clear.ensures.others c.unite.ensures.members
     c.unite.ensures.others _ c.count.ensures in
     record { members = r.0 ∙ c.own_access.ensures.members; sought = r.1; others = r.2 ∙ c.own_access.ensures.others }

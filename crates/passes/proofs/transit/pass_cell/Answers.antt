@@ -11,18 +11,18 @@ pub put_counts-requires : goal.put_counts-requires
 put_counts-requires c =
     let a = c.args in
     let x = c.own_access.new.work in (
-      c.requires.ground.0.over,
-      c.requires.ground.1,
-      c.requires.ground.2,
-      c.requires.ground.3,
+      c.requires.on_ground.0.over,
+      c.requires.on_ground.1,
+      c.requires.on_ground.2,
+      c.requires.on_ground.3,
       omega (arith, c.count-k.ensures, ones_most a.n (drop (region_at a.n own) x)),
-      omega (arith, c.requires.ground.4, c.own_access.auto.work, c.unite.auto.work),
+      omega (arith, c.requires.on_ground.4, c.own_access.auto.work, c.unite.auto.work),
     )
 
 pub returns-then-first_of_cell : goal.returns-then-first_of_cell
 returns-then-first_of_cell c =
     let a = c.args in
-    let all = passed_next a.nodes.now a.edges.now a.grid a.n a.u c.requires.ground.3 a.work.now _ _ _ c.requires.cells_passed.0 c.own_access.ensures.members
+    let all = passed_next a.nodes.now a.edges.now a.grid a.n a.u c.requires.on_ground.3 a.work.now _ _ _ c.requires.cells_passed.0 c.own_access.ensures.members
     c.own_access.ensures.others c.unite.ensures.members c.unite.ensures.others _ c.count-k.ensures
     c.put_counts.ensures.counted c.put_counts.ensures.others in record { passed = all.0; others = all.1 }
 
