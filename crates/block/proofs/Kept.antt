@@ -1,18 +1,14 @@
--- What the rules of a block give when none is broken. Assumes nothing.
-use Rattle.std.specs.Prelude.{ℕ, ◌≤◌, ◌≡◌, refl, true, false, ◌||◌, List, ◌++◌, length, eqb, ltb}
+-- The rules of a block, counted, and what they give when none is broken. Assumes nothing.
+use Rattle.std.specs.Prelude.{ℕ, ◌≡◌, refl, true, false, ◌||◌, List, ◌++◌}
 use Rattle.std.proofs.Common.{arith, ltb-false}
 use Rattle.model.specs.Bytes.{Bytes}
 use Rattle.model.specs.Rules.{first_broken, network_rules, shape_rules, work_too_small, words_needed}
 use Rattle.theory.specs.Firsts.{counted, split}
 use Rattle.theory.specs.Passed.{or-false}
 use Rattle.checks.specs.RuleLists.{named_rules}
-use Rattle.checks.proofs.NameLists.{named_counted, NamedKept, named_kept}
-use Rattle.block.specs.Block.{max_names, names_broken, sides_rules, block_rules}
-
--- A side that keeps rule 17.
-pub few_names : (names : List ℕ) → names_broken names ≡ false → length names ≤ max_names
-unfolding names_broken
-few_names names h = ltb-false max_names (length names) (or-false (eqb (length names) 0) (ltb max_names (length names)) h).1
+use Rattle.checks.proofs.NameLists.{named_counted, named_kept}
+use Rattle.block.specs.Kept.{few_names, BlockKept}
+use Rattle.block.specs.Block.{names_broken, sides_rules, block_rules}
 
 -- ---- the numbers of the rules
 pub sides_counted : (o : Bytes) (starts ends : List ℕ) → counted (sides_rules o starts ends) ≡ true
@@ -20,12 +16,6 @@ unfolding sides_rules named_rules counted shape_rules network_rules
 sides_counted o starts ends = refl
 
 -- ---- what is kept
-pub record BlockKept (o : Bytes) (starts ends : List ℕ) (words : ℕ) : Type 0 where
-  pub named : NamedKept o starts ends
-  pub few_starts : length starts ≤ max_names
-  pub few_ends : length ends ≤ max_names
-  pub enough : words_needed o ≤ words
-
 pub sides_kept : (o : Bytes) (starts ends : List ℕ) → first_broken (sides_rules o starts ends) ≡ 0 → (first_broken (named_rules o (starts ++ ends)) ≡ 0)
     × (names_broken starts || names_broken ends ≡ false)
 unfolding sides_rules

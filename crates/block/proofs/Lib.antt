@@ -7,4 +7,3 @@ mod Entries
 mod NearLaws
 pub mod Kept
 pub mod Theorems
-pub mod Trials

@@ -18,7 +18,8 @@ use Rattle.words.specs.Frames.{KeptFrom}
 use Rattle.block.specs.Block.{max_names, names_broken, sides_rules, block_rules, block_by, given, refused, block_refusal, block_after, BlockCall}
 use Rattle.block.specs.Parts.{parts_of}
 use Rattle.block.proofs.PartLaws.{seconds_block, hops_block}
-use Rattle.block.proofs.Kept.{BlockKept, block_kept}
+use Rattle.block.specs.Kept.{BlockKept}
+use Rattle.block.proofs.Kept.{block_kept}
 use Rattle.block.specs.declared.Block.{Block}
 
 -- ---- rule 17

@@ -33,7 +33,8 @@ use Rattle.block.specs.Block as block
 use Rattle.block.specs.Twelve.{square, row_unused, square_unused, square_used}
 use Rattle.checks.specs.RuleLists.{named_rules}
 use Rattle.checks.proofs.NameLists.{named_there}
-use Rattle.block.proofs.Kept.{BlockKept, block_kept}
+use Rattle.block.specs.Kept.{BlockKept}
+use Rattle.block.proofs.Kept.{block_kept}
 use Rattle.block.specs.declared.Block.{Block}
 
 -- "17 .. directly after 12", and 21 "directly after 7" (document 02, T-01 and T-06).

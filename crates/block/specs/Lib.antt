@@ -2,3 +2,5 @@ pub mod Block
 pub mod Twelve
 pub mod Parts
 pub mod Near
+pub mod Kept
+pub mod Trials

@@ -11,7 +11,7 @@ use borrow.Author.Tests.{leb-false, lt-leb}
 use Rattle.model.specs.Lists.{range, up_to, any, filter, concat_map, rising}
 use Rattle.model.specs.Bytes.{Bytes, byte, word16, word32, cut}
 use Rattle.model.specs.Contents.{entry, entry_at, body_part, body, edge_body}
-use Rattle.model.specs.Network.{Edge, nodes, edge, edge_count}
+use Rattle.model.specs.Network.{Edge, nodes, edge_count}
 use Rattle.theory.specs.RangeLaws.{length-range}
 use Rattle.theory.specs.ReadLaws.{length_concat_map}
 use Rattle.theory.specs.Members.{filter→, map→, get_d_mem, none_any, length-filter}

@@ -6,7 +6,7 @@ use Rattle.std.proofs.Math.Path.{refl, ap}
 use Rattle.model.specs.Lists.{concat_map}
 use Rattle.model.specs.Bytes.{Bytes, bytes16}
 use Rattle.model.specs.Contents.{body, file, oracle_edition, node_body, edge_body, closed_body}
-use Rattle.model.specs.Network.{Network, network, nodes, edges, distance, closed_listed}
+use Rattle.model.specs.Network.{Network, network, edges, distance, closed_listed}
 use Rattle.model.specs.Grid.{grid_broken, division_bytes}
 use Rattle.model.specs.Oracle.{oracle, oracle_over, access_bytes, table_bytes}
 use Rattle.model.specs.Query.{time_answer, answer_of, kind_between, far_answer, way}

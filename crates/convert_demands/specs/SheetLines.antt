@@ -12,7 +12,6 @@ use borrow.Author.Tests.{le-ltb, eq-eqb}
 use Rattle.model.specs.Lists.{gapless, any, filter, concat_map, rising}
 use Rattle.model.specs.Bytes.{Bytes, byte, word16, word32, bytes16, bytes32, cut}
 use Rattle.model.specs.Contents.{entry, entry_at, body_part, body, entries, contents_broken}
-use Rattle.model.specs.Network.{edge}
 use Rattle.theory.specs.Tests.{eqb-true}
 use Rattle.theory.specs.ReadLaws.{word16_drop, word32_drop, length_concat_map, drop_concat_map, map_range}
 use Rattle.theory.specs.Members.{get_d_mem}
@@ -21,7 +20,6 @@ use Rattle.sheet.specs.Sheet.{is_about, about, last_effect, holds, form_broken}
 use Rattle.convert.specs.Old.{is_open}
 use Rattle.convert.specs.Convert.{new_number, is_kept, renumbered, kept_lines}
 use Rattle.convert.proofs.Counts.{new_same}
-use Rattle.convert_demands.specs.Converted as same
 
 -- ---- lines that were written are read back
 pub line_size : (l : Line) → length (line_bytes l) ≡ 7

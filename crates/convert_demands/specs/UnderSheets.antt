@@ -8,7 +8,7 @@ use Rattle.model.specs.Bytes.{Bytes}
 use Rattle.model.specs.Contents.{node_body, edge_body, network_edition, network_entries}
 use Rattle.model.specs.Network.{node_count, edge_count}
 use Rattle.model.proofs.Meanings.{meaning_injective}
-use Rattle.model.specs.Rules.{rule, first_broken, well_shaped, words_needed}
+use Rattle.model.specs.Rules.{first_broken, well_shaped, words_needed}
 use Rattle.model.specs.Calls.{output_after, answer_after, route_after, Build}
 use Rattle.model.specs.declared.Answer.{Answer}
 use Rattle.model.specs.declared.Built.{Built}
@@ -18,7 +18,6 @@ use Rattle.model.specs.declared.Route.{Route}
 use Rattle.theory.specs.Firsts.{passed, goes, none}
 use Rattle.theory.specs.Passed.{Sound, network_passed}
 use Rattle.theory.specs.Whole.{AreBytes}
-use Rattle.theory.specs.BuiltCalls as calls
 use Rattle.demands.specs.Outcomes.{handed}
 use Rattle.demands.specs.DemandLaws as demands
 use Rattle.sheet.specs.Sheet.{effects, sheet_broken, names_broken}

@@ -1,7 +1,6 @@
 -- `builder::calls::build` meets its contract. Assumes nothing.
 use native.Mathlib.Omega.{arith}
 use mathlib.Core.Path.{sym, ◌∙◌}
-use borrow.Author.Rules.{rules}
 use Rattle.checks.proofs.AfterCall.{needed}
 use Rattle.theory.specs.Sound.{node_bytes}
 use Rattle.model.specs.Rules.{words_needed}
@@ -24,21 +23,21 @@ node_count-requires c =
 
 pub overflow_mul-node_count : goal.overflow_mul-node_count
 overflow_mul-node_count c = omega (
-      arith,
-      c.node_count.ensures,
-      (node_bytes _ (work_kept _ _ _
-          (sym c.build_refusal-rule.ensures ∙
-          c.if-rule-ne0.false)).0.sound).0,
-    )
+  arith,
+  c.node_count.ensures,
+  (node_bytes _ (work_kept _ _ _
+      (sym c.build_refusal-rule.ensures ∙
+      c.if-rule-ne0.false)).0.sound).0,
+)
 
 pub zero_front-requires : goal.zero_front-requires
 unfolding words_needed
 zero_front-requires c = omega (
-      arith,
-      c.node_count.ensures,
-      (work_kept _ _ _ (sym c.build_refusal-rule.ensures ∙
-          c.if-rule-ne0.false)).1,
-    )
+  arith,
+  c.node_count.ensures,
+  (work_kept _ _ _ (sym c.build_refusal-rule.ensures ∙
+      c.if-rule-ne0.false)).1,
+)
 
 pub returns : goal.returns
 returns c =

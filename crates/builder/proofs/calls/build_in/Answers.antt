@@ -3,7 +3,6 @@ use Prim.Native.Nat.{◌<◌}
 use native.Mathlib.Omega.{arith}
 use mathlib.Core.Path.{◌≡◌, ◌∙◌, ap}
 use lib.ListN.{length}
-use borrow.Author.Rules.{rules}
 use Rattle.theory.specs.Whole.{AreBytes}
 use Rattle.model.specs.Oracle.{oracle}
 use Rattle.builder.proofs.Outcomes.{given_short, given_built}
@@ -84,10 +83,10 @@ write_oracle-requires c =
 
 pub overflow_cast-result : goal.overflow_cast-result
 overflow_cast-result c = omega (
-      arith,
-      c.whole_size-size.ensures,
-      small (goal.at.overflow_cast-result c).After-access_size-a,
-    )
+  arith,
+  c.whole_size-size.ensures,
+  small (goal.at.overflow_cast-result c).After-access_size-a,
+)
 
 pub overflow_cast-result-2 : goal.overflow_cast-result-2
 unfolding whole_size
@@ -97,10 +96,13 @@ pub returns : goal.returns
 returns c =
     let pre = c.requires in
     let a = c.args in
-    let p = plan (goal.at.returns c).After-access_size-a in record { given = given_built a.network.now a.dv a.out.now _ _ _ (c.whole_size-size.ensures ∙ sized (goal.at.returns c).After-access_size-a)
+    let p = plan (goal.at.returns c).After-access_size-a in record {
+      given = given_built a.network.now a.dv a.out.now _ _ _ (c.whole_size-size.ensures ∙ sized (goal.at.returns c).After-access_size-a)
           (p.transits ∙ ap length (transits_are a.network.now a.dv a.nodes.now a.edges.now a.grid a.n pre.0))
           (omega (arith, c.if-out-size.false, c.whole_size-size.ensures, sized (goal.at.returns c).After-access_size-a))
           (oracle_written a.network.now a.dv a.nodes.now a.edges.now a.grid a.n pre.0 (bytes (goal.at.returns c).After-access_size-a) _ _
-          p.transits p.access c.write_oracle.ensures.bytes); rest = behind_regions a.network.now a.dv a.nodes.now a.edges.now
+          p.transits p.access c.write_oracle.ensures.bytes);
+      rest = behind_regions a.network.now a.dv a.nodes.now a.edges.now
           a.grid a.n pre.0 _ _ c.write_oracle.ensures.others ∙
-          c.prepare.ensures.behind }
+          c.prepare.ensures.behind;
+    }

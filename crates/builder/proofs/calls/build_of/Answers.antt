@@ -3,7 +3,6 @@ use mathlib.Core.Path.{sym, ◌∙◌, ap}
 use native.Mathlib.Omega.{arith}
 use Rattle.model.specs.Network.{node_count}
 use Rattle.model.specs.Rules.{words_needed}
-use borrow.Author.Rules.{rules}
 use Rattle.builder.proofs.calls.build_of.Goals as goal
 
 pub network_contents-c-requires : goal.network_contents-c-requires
@@ -24,9 +23,9 @@ node_count-n-requires c = (c.requires.0.contents, c.requires.0.bodies)
 pub build_in-requires : goal.build_in-requires
 unfolding words_needed
 build_in-requires c = (
-      record { passed = c.requires.0; of_nodes = c.body-nodes.ensures; of_edges = c.body-edges.ensures; made = c.over-grid.ensures; count = c.node_count-n.ensures ∙ sym (ap node_count c.body-nodes.ensures) },
-      omega (arith, c.node_count-n.ensures, c.requires.1),
-    )
+  record { passed = c.requires.0; of_nodes = c.body-nodes.ensures; of_edges = c.body-edges.ensures; made = c.over-grid.ensures; count = c.node_count-n.ensures ∙ sym (ap node_count c.body-nodes.ensures) },
+  omega (arith, c.node_count-n.ensures, c.requires.1),
+)
 
 pub returns : goal.returns
 unfolding words_needed

@@ -6,7 +6,6 @@ use Rattle.builder.specs.Given.{work_rules}
 use Rattle.checks.proofs.RulesKept.{too_few}
 use Rattle.theory.specs.Sound.{node_bytes}
 use Rattle.checks.proofs.CheckOrder.{sooner, decides}
-use borrow.Author.Rules.{rules}
 use Rattle.builder.proofs.calls.build_refusal.Goals as goal
 
 pub returns-then-r-ne0 : goal.returns-then-r-ne0

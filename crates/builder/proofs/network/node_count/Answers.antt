@@ -1,6 +1,5 @@
 -- `builder::network::node_count` meets its contract. Assumes nothing.
 use mathlib.Core.Path.{ap}
-use borrow.Author.Rules.{rules}
 use Rattle.model.specs.Network.{node_count}
 use Rattle.builder.proofs.network.node_count.Goals as goal
 

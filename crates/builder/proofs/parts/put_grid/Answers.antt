@@ -1,6 +1,5 @@
 -- `builder::parts::put_grid` meets its contract. Assumes nothing.
 use mathlib.Core.Path.{refl}
-use borrow.Author.Rules.{rules}
 use Rattle.model.specs.Bytes.{bytes16}
 use Rattle.model.specs.Grid.{division_bytes}
 use Rattle.builder.proofs.parts.put_grid.Goals as goal

@@ -1,5 +1,4 @@
 -- `builder::parts::put_network` meets its contract. Assumes nothing.
-use borrow.Author.Rules.{rules}
 use Rattle.model.specs.Contents.{network_head}
 use Rattle.words.proofs.Parts.{back_part}
 use Rattle.builder.proofs.parts.put_network.Goals as goal

@@ -1,5 +1,4 @@
 -- `builder::sizes::access_size` meets its contract. Assumes nothing.
-use borrow.Author.Rules.{rules}
 use native.Mathlib.Omega.{arith}
 use Rattle.builder.proofs.sizes.access_size.Goals as goal
 

@@ -1,7 +1,6 @@
 -- `builder::sizes::head_sizes` meets its contract. Assumes nothing.
 use native.Mathlib.Omega.{arith}
 use mathlib.Core.Path.{refl}
-use borrow.Author.Rules.{rules}
 use Rattle.model.specs.Lists.{total}
 use Rattle.builder.specs.Plan.{sizes_in}
 use Rattle.builder.proofs.sizes.head_sizes.Goals as goal

@@ -1,13 +1,7 @@
 -- `builder::sizes::lists_size` meets its contract. Assumes nothing.
-use Prim.Native.Nat.{◌+◌, ◌-◌, ◌*◌, ◌≤◌}
 use native.Mathlib.Omega.{arith}
-use mathlib.Core.Path.{◌≡◌}
 use borrow.Author.Rules.{rules}
-use Rattle.model.specs.Lists.{total}
-use Rattle.model.specs.Network.{max_nodes}
-use Rattle.model.specs.Oracle.{list_size}
-use Rattle.emit.specs.Parts.{list_sizes}
-use Rattle.builder.proofs.Sums.{left, sum_all, sum_step, sum_end}
+use Rattle.builder.proofs.Sums.{sum_all, sum_step, sum_end}
 use Rattle.builder.proofs.sizes.lists_size.Goals as goal
 
 pub loop-v-init : goal.loop-v-init
@@ -23,10 +17,10 @@ overflow_add-sum c = omega (
 
 pub loop-v-preserved : goal.loop-v-preserved
 loop-v-preserved c = (
-      search rules,
-      omega (arith, c.list_size-sum.ensures, c.requires.2 c.loop-v.v c.loop-v-test.true),
-      omega (arith, c.list_size-sum.ensures, sum_step c.args.counts.now c.args.n c.loop-v.v c.loop-v-test.true, c.loop-v.invariant.2),
-    )
+  search rules,
+  omega (arith, c.list_size-sum.ensures, c.requires.2 c.loop-v.v c.loop-v-test.true),
+  omega (arith, c.list_size-sum.ensures, sum_step c.args.counts.now c.args.n c.loop-v.v c.loop-v-test.true, c.loop-v.invariant.2),
+)
 
 pub returns : goal.returns
 returns c =

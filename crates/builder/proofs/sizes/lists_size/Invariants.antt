@@ -1,13 +1,11 @@
 -- `builder::sizes::lists_size` meets its contract. Assumes nothing.
 use Prim.Native.Nat.{◌+◌, ◌-◌, ◌*◌, ◌≤◌}
-use native.Mathlib.Omega.{arith}
 use mathlib.Core.Path.{◌≡◌}
-use borrow.Author.Rules.{rules}
 use Rattle.model.specs.Lists.{total}
 use Rattle.model.specs.Network.{max_nodes}
 use Rattle.model.specs.Oracle.{list_size}
 use Rattle.emit.specs.Parts.{list_sizes}
-use Rattle.builder.proofs.Sums.{left, sum_all, sum_step, sum_end}
+use Rattle.builder.proofs.Sums.{left}
 use Rattle.builder.proofs.sizes.lists_size.Given as goal
 
 abbrev pub invariant-loop-v : goal.invariant-loop-v

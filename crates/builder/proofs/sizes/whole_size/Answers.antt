@@ -1,6 +1,5 @@
 -- `builder::sizes::whole_size` meets its contract. Assumes nothing.
 use native.Mathlib.Omega.{arith}
-use borrow.Author.Rules.{rules}
 use Rattle.builder.specs.Plan.{whole_size}
 use Rattle.builder.proofs.sizes.whole_size.Goals as goal
 

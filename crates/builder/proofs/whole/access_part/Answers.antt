@@ -1,7 +1,6 @@
 -- `builder::whole::access_part` meets its contract. Assumes nothing.
 use native.Mathlib.Omega.{arith}
 use mathlib.Core.Path.{◌∙◌}
-use borrow.Author.Rules.{rules}
 use Rattle.words.proofs.Windows.{part_length}
 use Rattle.emit.proofs.Pieces.{wrote_part}
 use Rattle.builder.proofs.whole.access_part.Goals as goal
@@ -13,5 +12,8 @@ put_access-requires c =
 
 pub returns : goal.returns
 returns c =
-    let a = c.args in record { bytes = wrote_part a.at _ a.out.now c.put_access.new.body _ (omega arith) (omega arith) c.put_access.auto.body
-          c.put_access.ensures.bytes; others = c.put_access.ensures.others }
+    let a = c.args in record {
+      bytes = wrote_part a.at _ a.out.now c.put_access.new.body _ (omega arith) (omega arith) c.put_access.auto.body
+          c.put_access.ensures.bytes;
+      others = c.put_access.ensures.others;
+    }

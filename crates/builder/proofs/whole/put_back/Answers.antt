@@ -29,9 +29,12 @@ table_part-requires c =
 pub returns : goal.returns
 returns c =
     let a = c.args in
-    record { bytes = back_written a.nodes.now a.edges.now a.grid a.n a.t a.a a.work.now c.requires.0 a.at _ a.out.now _
+    record {
+      bytes = back_written a.nodes.now a.edges.now a.grid a.n a.t a.a a.work.now c.requires.0 a.at _ a.out.now _
           c.put_transit-lists.ensures c.requires.1 _ (search rules)
           c.access_part-table.ensures.others _ _
           c.access_part-table.ensures.bytes (search rules)
-          c.table_part.ensures.bytes; others = kept_more (search_words a.n) (region_at a.n transit) _ _ (omega arith) c.table_part.ensures.others
-          ∙ c.access_part-table.ensures.others }
+          c.table_part.ensures.bytes;
+      others = kept_more (search_words a.n) (region_at a.n transit) _ _ (omega arith) c.table_part.ensures.others
+          ∙ c.access_part-table.ensures.others;
+    }

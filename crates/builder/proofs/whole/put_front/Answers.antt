@@ -1,6 +1,5 @@
 -- `builder::whole::put_front` meets its contract. Assumes nothing.
 use native.Mathlib.Omega.{arith}
-use borrow.Author.Rules.{rules}
 use Rattle.builder.proofs.Joins.{front_ends, front_written}
 use Rattle.builder.proofs.whole.put_front.Goals as goal
 

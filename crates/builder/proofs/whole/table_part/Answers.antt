@@ -1,7 +1,6 @@
 -- `builder::whole::table_part` meets its contract. Assumes nothing.
 use Prim.Native.Nat.{◌*◌}
 use native.Mathlib.Omega.{arith}
-use borrow.Author.Rules.{rules}
 use Rattle.model.specs.Oracle.{value_size}
 use Rattle.words.proofs.Windows.{part_length}
 use Rattle.emit.proofs.Pieces.{wrote_part}
@@ -14,5 +13,8 @@ put_table-requires c =
 
 pub returns : goal.returns
 returns c =
-    let a = c.args in record { bytes = wrote_part a.at _ a.out.now c.put_table.new.out _ (omega arith) (omega arith) c.put_table.auto.out
-          c.put_table.ensures.bytes; others = c.put_table.ensures.others }
+    let a = c.args in record {
+      bytes = wrote_part a.at _ a.out.now c.put_table.new.out _ (omega arith) (omega arith) c.put_table.auto.out
+          c.put_table.ensures.bytes;
+      others = c.put_table.ensures.others;
+    }

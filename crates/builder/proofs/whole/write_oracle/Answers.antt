@@ -23,6 +23,9 @@ put_back-requires c =
 
 pub returns : goal.returns
 returns c =
-    let a = c.args in record { bytes = whole_written a.network.now a.nodes.now a.edges.now a.dv a.t a.a c.requires.planned.1 c.requires.a_in_bounds.1 a.out.now _ _ _ _ _
+    let a = c.args in record {
+      bytes = whole_written a.network.now a.nodes.now a.edges.now a.dv a.t a.a c.requires.planned.1 c.requires.a_in_bounds.1 a.out.now _ _ _ _ _
           c.head_sizes-sizes.ensures
-          c.put_front-at.ensures c.requires.a_in_bounds.0 c.put_back.ensures.bytes; others = c.put_back.ensures.others }
+          c.put_front-at.ensures c.requires.a_in_bounds.0 c.put_back.ensures.bytes;
+      others = c.put_back.ensures.others;
+    }

@@ -3,7 +3,6 @@ use mathlib.Core.Path.{◌∙◌, sym}
 use Rattle.opened.proofs.OpenLaws.{stays}
 use Rattle.wages.proofs.KeptLaws.{open_kept}
 use Rattle.wages.proofs.Results.{wages_refused, wages_given}
-use borrow.Author.Rules.{rules}
 use Rattle.wages.proofs.calls.wages.Goals as goal
 
 pub returns-then-rule-ne0 : goal.returns-then-rule-ne0

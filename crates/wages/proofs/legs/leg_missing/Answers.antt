@@ -3,7 +3,6 @@ use mathlib.Core.Path.{sym, ◌∙◌, ap}
 use lib.Dec.{leb}
 use borrow.Author.Tests.{le-leb, lt-leb}
 use Rattle.checks.proofs.CheckOrder.{first_part, second_part}
-use borrow.Author.Rules.{rules}
 use Rattle.wages.proofs.legs.leg_missing.Goals as goal
 
 pub returns-then-n-leg_start : goal.returns-then-n-leg_start

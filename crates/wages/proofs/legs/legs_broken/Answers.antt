@@ -4,7 +4,6 @@ use lib.Dec.{ltb}
 use borrow.Author.Tests.{lt-ltb, le-ltb}
 use Rattle.checks.proofs.CheckOrder.{first_part, second_part}
 use Rattle.wages.specs.Wages.{max_legs, legs_broken}
-use borrow.Author.Rules.{rules}
 use Rattle.wages.proofs.legs.legs_broken.Goals as goal
 
 pub returns-then-leg_count-gt-MAX_LEGS : goal.returns-then-leg_count-gt-MAX_LEGS

@@ -4,7 +4,6 @@ use Rattle.checks.specs.RuleLists.{named_rules}
 use Rattle.checks.proofs.CheckOrder.{sooner}
 use Rattle.checks.proofs.RulesKept.{shaped}
 use Rattle.wages.specs.Wages.{legs_rules}
-use borrow.Author.Rules.{rules}
 use Rattle.wages.proofs.legs.legs_refusal.Goals as goal
 
 pub returns-then-r-ne0 : goal.returns-then-r-ne0

@@ -5,7 +5,6 @@ use Rattle.checks.specs.RuleLists.{named_rules}
 use Rattle.checks.proofs.NameLists.{named_counted, some_missing}
 use Rattle.checks.proofs.CheckOrder.{sooner, decides, decides_shaped}
 use Rattle.wages.specs.Wages.{legs_rules}
-use borrow.Author.Rules.{rules}
 use Rattle.wages.proofs.legs.named_legs_refusal.Goals as goal
 
 pub returns-then-some_leg_missing : goal.returns-then-some_leg_missing

@@ -3,7 +3,6 @@ use mathlib.Core.Path.{sym, ◌∙◌}
 use Rattle.checks.proofs.CheckOrder.{sooner, decides}
 use Rattle.wages.specs.Wages.{open_rules}
 use Rattle.wages.specs.Kept.{legs_counted, legs_kept}
-use borrow.Author.Rules.{rules}
 use Rattle.wages.proofs.legs.open_refusal.Goals as goal
 
 pub returns-then-r-ne0 : goal.returns-then-r-ne0

@@ -1,14 +1,12 @@
 -- `legs::some_leg_missing` meets its contract. The loop's invariant: the answer is that for the legs from i on.
 use Prim.Native.Nat.{◌-◌}
-use mathlib.Core.Path.{◌≡◌, ap, ◌∙◌}
+use mathlib.Core.Path.{◌≡◌}
 use mathlib.Core.List.{map}
 use lib.Dec.{leb}
 use Rattle.model.specs.Lists.{any}
-use Rattle.theory.specs.RangeLaws.{rest, rest_step, rest_end}
-use Rattle.theory.specs.Scans.{scan_all, scan_found, scan_passed, scan_end}
-use Rattle.wages.specs.Wages.{leg, leg_count, legs, leg_nodes}
-use Rattle.wages.specs.Kept.{some_end, leg_by_leg}
-use borrow.Author.Rules.{rules}
+use Rattle.theory.specs.RangeLaws.{rest}
+use Rattle.wages.specs.Wages.{leg, leg_count, leg_nodes}
+use Rattle.wages.specs.Kept.{some_end}
 use Rattle.wages.proofs.legs.some_leg_missing.Given as goal
 
 abbrev pub invariant-loop-i : goal.invariant-loop-i

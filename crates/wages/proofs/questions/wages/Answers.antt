@@ -3,7 +3,6 @@ use mathlib.Core.Path.{refl, sym, ◌∙◌}
 use Rattle.opened.proofs.OpenLaws.{stays}
 use Rattle.wages.specs.Kept.{legs_kept}
 use Rattle.wages.proofs.Results.{wages_refused, wages_given, as_open}
-use borrow.Author.Rules.{rules}
 use Rattle.wages.proofs.questions.wages.Goals as goal
 
 pub returns-then-rule-ne0 : goal.returns-then-rule-ne0

@@ -1,7 +1,6 @@
 -- `times::leg_time` meets its contract.
 use mathlib.Core.Path.{◌∙◌}
 use Rattle.wages.specs.Wages.{leg_time}
-use borrow.Author.Rules.{rules}
 use Rattle.wages.proofs.times.leg_time.Goals as goal
 
 pub seconds_between-requires : goal.seconds_between-requires

@@ -2,7 +2,6 @@
 use borrow.Author.Tests.{eq-eqb, ne_eqb}
 use Rattle.wages.specs.Wages.{is_marked}
 use Rattle.wages.specs.Tallies.{tallied}
-use borrow.Author.Rules.{rules}
 use Rattle.wages.proofs.times.tally_with.Goals as goal
 
 pub returns-then-time-eq-NO_SECONDS : goal.returns-then-time-eq-NO_SECONDS

@@ -2,7 +2,6 @@
 use native.Mathlib.Omega.{arith}
 use mathlib.Core.Path.{refl}
 use Rattle.wages.proofs.Results.{wages_short, wages_whole}
-use borrow.Author.Rules.{rules}
 use Rattle.wages.proofs.times.wages_of.Goals as goal
 
 pub overflow_mul-size : goal.overflow_mul-size

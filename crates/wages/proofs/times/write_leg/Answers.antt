@@ -1,7 +1,6 @@
 -- `times::write_leg` meets its contract.
 use mathlib.Core.Path.{◌∙◌, ap}
 use Rattle.wages.specs.Tallies.{tallied}
-use borrow.Author.Rules.{rules}
 use Rattle.wages.proofs.times.write_leg.Goals as goal
 
 pub returns : goal.returns

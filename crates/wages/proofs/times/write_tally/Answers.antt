@@ -3,7 +3,6 @@ use native.Mathlib.Omega.{arith}
 use mathlib.Core.Path.{◌∙◌, ap}
 use Rattle.model.specs.Bytes.{bytes16, bytes32, bytes64, splice}
 use Rattle.theory.specs.Splices.{splice_then}
-use borrow.Author.Rules.{rules}
 use Rattle.wages.proofs.times.write_tally.Goals as goal
 
 pub returns : goal.returns

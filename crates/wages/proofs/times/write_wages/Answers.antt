@@ -1,16 +1,9 @@
 -- `times::write_wages` meets its contract. The loop's invariant: the first i legs are written and tallied, and the oracle stays opened.
 use native.Mathlib.Omega.{arith}
-use Prim.Native.Nat.{◌-◌}
-use mathlib.Core.Path.{◌≡◌, refl, ◌∙◌}
-use lib.ListN.{length}
-use Rattle.model.specs.Contents.{node_body}
-use Rattle.model.specs.Network.{node_count}
-use Rattle.words.specs.Frames.{KeptFrom}
-use Rattle.words.specs.Regions.{grid_at}
+use mathlib.Core.Path.{refl, ◌∙◌}
 use Rattle.opened.proofs.OpenLaws.{opened_kept}
-use Rattle.wages.specs.Wages.{leg_count}
 use Rattle.wages.specs.Sizes.{length_wages}
-use Rattle.wages.proofs.Paying.{Paying, paying_start, paying_next, paying_end}
+use Rattle.wages.proofs.Paying.{paying_start, paying_next, paying_end}
 use borrow.Author.Rules.{rules}
 use Rattle.wages.proofs.times.write_wages.Goals as goal
 
