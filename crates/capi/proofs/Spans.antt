@@ -13,7 +13,6 @@ use Rattle.model.specs.Query.{list_span}
 use Rattle.theory.specs.Passed.{Shaped}
 use Rattle.theory.specs.Joined.{whole_contents, list_within}
 use Rattle.capi.specs.Replies.{span, list_reply}
-use Rattle.capi.specs.declared.oracles.Part as crossing
 
 module _ (o : Bytes) (shaped : Shaped o) where
   pub long : oracle_head ≤ length o

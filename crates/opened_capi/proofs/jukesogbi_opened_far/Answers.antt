@@ -1,7 +1,6 @@
 -- `jukesogbi_opened_far` meets its contract: the answer as a reply.
 use mathlib.Core.Path.{◌∙◌, ap}
 use Rattle.capi.specs.Replies.{reply}
-use borrow.Author.Rules.{rules}
 use Rattle.opened_capi.proofs.jukesogbi_opened_far.Goals as goal
 
 pub returns : goal.returns

@@ -3,7 +3,6 @@ use mathlib.Core.Path.{sym, ◌∙◌}
 use Rattle.model.specs.Calls.{list_refusal}
 use Rattle.checks.proofs.RulesKept.{list_kept}
 use Rattle.capi.proofs.Spans.{nowhere, given}
-use borrow.Author.Rules.{rules}
 use Rattle.capi.proofs.oracles.jukesogbi_list.Goals as goal
 
 pub returns-then-list_rule-ne0 : goal.returns-then-list_rule-ne0

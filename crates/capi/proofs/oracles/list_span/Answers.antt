@@ -5,7 +5,6 @@ use Rattle.capi.proofs.Spans.{long, start_within, place}
 use native.Mathlib.Omega.{arith}
 use Rattle.tables.specs.Oracles.{has_list}
 use Rattle.theory.specs.Passed.{all_shaped}
-use borrow.Author.Rules.{rules}
 use Rattle.capi.proofs.oracles.list_span.Goals as goal
 
 pub list_part-size-requires : goal.list_part-size-requires

@@ -1,6 +1,5 @@
 -- `oracles::reply_of` meets its contract.
 use Rattle.capi.specs.Replies.{reply}
-use borrow.Author.Rules.{rules}
 use Rattle.capi.proofs.oracles.reply_of.Goals as goal
 
 pub returns-in-Time : goal.returns-in-Time

@@ -2,7 +2,6 @@
 use mathlib.Core.Path.{◌∙◌, ap}
 use Rattle.model.proofs.Meanings.{meaning_injective}
 use Rattle.capi.specs.Replies.{reply}
-use borrow.Author.Rules.{rules}
 use Rattle.capi.proofs.sheets.jukesogbi_time_under.Goals as goal
 
 pub returns : goal.returns
