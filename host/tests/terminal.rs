@@ -117,12 +117,12 @@ fn build(f: &Folder, path: &Path) -> (std::process::Output, String) {
 fn the_first_build_shows_the_crate_that_it_proves() {
     let rt = "PATH=/usr/bin:/bin; this=$(basename $PWD); mkdir -p out ../../proved
         for name in model theory $this; do [ -e ../../proved/$name ] || { echo \"rt: chose --jobs 2 for $name\"; sleep 0.4; : > ../../proved/$name; sleep 0.4; }; done
-        echo $* > out/lib$this.a";
+        echo $* $this > out/lib$this.a";
     let f = repository("terminal_first_build", rt);
     let (done, shown) = build(&f, &f.0.join("bin"));
     assert!(done.status.success(), "{}", String::from_utf8_lossy(&done.stderr));
     for library in ["capi", "opened_capi"] {
-        assert_eq!(f.read(&format!("target/staticlib/lib{library}.a")), b"lib\n");
+        assert_eq!(f.read(&format!("target/staticlib/lib{library}.a")), format!("lib {library}_c\n").as_bytes());
     }
     let lines: Vec<&str> = shown.split_inclusive('\n').collect();
     let line = |what: &str| format!("\r\x1b[K     Proving {what}\r\n");

@@ -13,7 +13,7 @@ use Rattle.model.specs.declared.Kind.{Kind}
 use Rattle.model.specs.declared.Kind.TheVariants.{Far, Local}
 use Rattle.model.specs.declared.Answer.{Answer}
 use Rattle.sheet.specs.Sheet.{Effect}
-use Rattle.sheet.specs.Under.{left_of, isNone, still_driven}
+use Rattle.sheet.specs.Under.{left_of, is_none, still_driven}
 
 -- "Closed roads: 16-bit road numbers, rising, perhaps none. A closed road is in no walk and crosses nothing; all others are open."
 unfoldable pub closed_in : Bytes → List ℕ
@@ -52,7 +52,7 @@ unfoldable pub old_under : (ℕ → Effect) → Bytes → Network
 old_under effect f = record { nodes = nodes (node_body f); edges = concat_map (left_of effect (edge_body f)) (open_in f) }
 
 unfoldable pub old_stood : (ℕ → Effect) → Bytes → ℕ → ℕ → Bool
-old_stood effect o s t = isNone (old_time o s t) || still_driven (λ v. distance (old_network o) v t) (arcs (old_under effect o)) (old_way o s t)
+old_stood effect o s t = is_none (old_time o s t) || still_driven (λ v. distance (old_network o) v t) (arcs (old_under effect o)) (old_way o s t)
 
 unfoldable pub old_time_under : (ℕ → Effect) → Bytes → ℕ → ℕ → Answer
 old_time_under effect o s t = cond (old_stood effect o s t) (old_time o s t) (local_answer (old_under effect o) s t)

@@ -19,7 +19,7 @@ use Rattle.theory.specs.Sound.{count_nodes}
 use Rattle.theory.specs.BuiltCalls as plain
 use Rattle.demands.specs.DemandLaws as demands
 use Rattle.sheet.specs.Sheet.{effects}
-use Rattle.sheet.specs.Under.{network_under, still_driven, isNone, old_stands, way_under}
+use Rattle.sheet.specs.Under.{network_under, still_driven, is_none, old_stands, way_under}
 use Rattle.sheet.specs.SheetCalls.{sheet_rules, WayUnderCall}
 use Rattle.sheet_demands.specs.SheetOutcomes.{roads, Driven}
 use Rattle.sheet_demands.specs.UnderLaws as under
@@ -54,24 +54,24 @@ module _ (o : Bytes) (shaped : well_shaped o ≡ true) (sheet : Bytes) (s t : �
   pub stands_just : {words words' : List ℕ} {b : Answer} → TimeCall o s t words b words' → words_needed o ≤ length words
       → (old_stands (effects sheet) o s t ≡ true) ↔
       (((kind : Kind) × (pairs : ℕ) × (b ≡ None kind pairs)) ⊎ StillDriven)
-  unfolding old_stands isNone
+  unfolding old_stands is_none
   stands_just {b = b} query enough = rw e (step (time_answer o s t) driven still_driven_law)
     where
       e : b ≡ time_answer o s t
       e = demands.time_is o shaped s t hs ht query enough
 
       step : (x : Answer) (c : Bool) → (c ≡ true) ↔ StillDriven
-          → (isNone x || c ≡ true) ↔ (((kind : Kind) × (pairs : ℕ) × (x ≡ None kind pairs)) ⊎ StillDriven)
+          → (is_none x || c ≡ true) ↔ (((kind : Kind) × (pairs : ℕ) × (x ≡ None kind pairs)) ⊎ StillDriven)
       step x c h = (to x, back)
         where
-          to : (y : Answer) → isNone y || c ≡ true → ((kind : Kind) × (pairs : ℕ) × (y ≡ None kind pairs)) ⊎ StillDriven
+          to : (y : Answer) → is_none y || c ≡ true → ((kind : Kind) × (pairs : ℕ) × (y ≡ None kind pairs)) ⊎ StillDriven
           to (Time n hops kind pairs) q = inr (h.0 q)
           to (None kind pairs) q = inl (kind, pairs, refl)
           to (Refused r) q = inr (h.0 q)
 
-          back : ((kind : Kind) × (pairs : ℕ) × (x ≡ None kind pairs)) ⊎ StillDriven → isNone x || c ≡ true
+          back : ((kind : Kind) × (pairs : ℕ) × (x ≡ None kind pairs)) ⊎ StillDriven → is_none x || c ≡ true
           back (inl (kind, pairs, q)) = rw q
-          back (inr g) = rw (h.1 g) (or-true (isNone x))
+          back (inr g) = rw (h.1 g) (or-true (is_none x))
 
   -- The way under the sheet is the old one where that can still be driven.
   driven_same : StillDriven → way_under (effects sheet) o s t ≡ old_way

@@ -25,7 +25,7 @@ use Rattle.theory.specs.Sound.{count_nodes}
 use Rattle.demands.specs.Outcomes.{timed}
 use Rattle.demands.specs.CallLaws as laws
 use Rattle.sheet.specs.Sheet.{effects, line_count, line_body, sheet_broken}
-use Rattle.sheet.specs.Under.{still_driven, isNone, old_stands, time_under}
+use Rattle.sheet.specs.Under.{still_driven, is_none, old_stands, time_under}
 use Rattle.sheet.specs.SheetCalls.{time_under_rules, time_under_refusal, time_under_result, TimeUnderCall, way_under_refusal, WayUnderCall}
 use Rattle.sheet_demands.specs.SheetOutcomes.{HasWay}
 use Rattle.sheet_demands.specs.LineLaws.{empty_network}
@@ -62,7 +62,7 @@ module _ (o sheet : Bytes) (formed : sheet_broken sheet ≡ false) (empty : line
       (call.result ∙ rw (k, w) (sym old.result), call.words ∙ rw k (sym old.words), call.bytes ∙ rw (k, w) (sym old.bytes))
 
   empty_answer : calls.Asked o s t → HasWay o s t (time_answer o s t) → time_under (effects sheet) o s t ≡ time_answer o s t
-  unfolding time_under old_stands isNone
+  unfolding time_under old_stands is_none
   empty_answer asked found = rw (empty_network sheet empty o) (step (time_answer o s t) refl (time_given o s t))
     where
       old_driven : (p : Pair) → PairWalk (timed_arcs (network o)) s t p
@@ -71,7 +71,7 @@ module _ (o sheet : Bytes) (formed : sheet_broken sheet ≡ false) (empty : line
           under.driven_old (effects sheet) o (all_shaped o asked.shaped).sound s t (rw (count_nodes o) asked.hs) (rw (count_nodes o) asked.ht) w
 
       step : (x : Answer) → time_answer o s t ≡ x → IsGiven x
-          → cond (isNone x || still_driven (λ v. distance (network o) v t) (arcs (network o)) (way (network o) s t)) x (local_answer (network o) s t) ≡ x
+          → cond (is_none x || still_driven (λ v. distance (network o) v t) (arcs (network o)) (way (network o) s t)) x (local_answer (network o) s t) ≡ x
       step (Time seconds hops kind pairs) e g =
           let (p, w) = found (record { seconds = seconds; hops = hops }) pairs kind e in
           rw (old_driven p w)

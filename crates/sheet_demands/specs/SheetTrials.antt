@@ -73,7 +73,7 @@ route o ls s t =
 unfoldable pub sheets_computed : Unit {0}
 unfolding sheets.line sheets.line_count sheets.lines_in sheets.line_bytes sheets.sheet_file sheets.sheet_of sheets.closes sheets.effect_of sheets.is_about
     sheets.about sheets.last_effect sheets.holds sheets.effects sheets.form_broken sheets.line_broken sheets.sheet_broken sheets.names_none sheets.names_broken
-    under.left under.left_of under.edges_under under.network_under under.too_slow under.slow_broken under.still_driven under.isNone under.old_stands
+    under.left under.left_of under.edges_under under.network_under under.too_slow under.slow_broken under.still_driven under.is_none under.old_stands
     under.time_under under.way_under calls.sheet_rules calls.pair_under_rules calls.time_under_rules calls.way_under_rules calls.time_under_refusal
     calls.time_under_result calls.way_under_refusal
 sheets_computed = tt

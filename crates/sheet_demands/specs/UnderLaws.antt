@@ -24,7 +24,7 @@ use Rattle.theory.specs.Slower.{Taking, was_walked, still_least, still_none}
 use Rattle.demands.specs.Outcomes.{Answers}
 use Rattle.demands.proofs.AnswerLaws.{answers}
 use Rattle.sheet.specs.Sheet.{Effect}
-use Rattle.sheet.specs.Under.{network_under, still_driven, isNone, old_stands}
+use Rattle.sheet.specs.Under.{network_under, still_driven, is_none, old_stands}
 use Rattle.sheet_demands.specs.Changed.{same_order, slower, sane}
 use Rattle.sheet_demands.specs.Keyed.{to_keys, to_pairs}
 use Rattle.sheet_demands.specs.DrivenLaws.{driven, driven_itself}
@@ -111,10 +111,10 @@ module _ (effect : ℕ → Effect) (o : Bytes) (sound : Sound o) (s t : ℕ) (hs
 
   -- Where the old answer was the least over the old walks and stands, it is the least over what is left.
   stood_keys : IsLeast (Walk old s t) (distance_of (time_answer o s t)) → old_stands effect o s t ≡ true → IsLeast (Walk new s t) (distance_of (time_answer o s t))
-  unfolding old_stands isNone distance_of
+  unfolding old_stands is_none distance_of
   stood_keys l h = step (time_answer o s t) l (still_driven d new old_way) refl h
     where
-      step : (x : Answer) → IsLeast (Walk old s t) (distance_of x) → (b : Bool) → still_driven d new old_way ≡ b → isNone x || b ≡ true
+      step : (x : Answer) → IsLeast (Walk old s t) (distance_of x) → (b : Bool) → still_driven d new old_way ≡ b → is_none x || b ≡ true
           → IsLeast (Walk new s t) (distance_of x)
       step (Time seconds hops kind pairs) l true e h =
           let k = kept e in

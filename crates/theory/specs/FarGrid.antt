@@ -43,6 +43,10 @@ module _ (col row : ℕ → ℕ) where
   →square r c x h = and (true-leb (gap (col x) (col c)) r h.cols) (true-leb (gap (row x) (row c)) r h.rows)
 
   module _ (r R s t : ℕ) (wide : 2 * r ≤ R) where
+    near_both : (x : ℕ) → Near col row r s x → Near col row r t x → Apart col row R s t → ⊥
+    near_both x p q (inl h) = omega (arith, gap_join (col x) (col s) (col t))
+    near_both x p q (inr h) = omega (arith, gap_join (row x) (row s) (row t))
+
     off : Near col row R s t → Apart col row R s t → ⊥
     off p (inl h) = omega (arith, gap_comm (col s) (col t))
     off p (inr h) = omega (arith, gap_comm (row s) (row t))

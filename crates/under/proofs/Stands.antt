@@ -7,7 +7,7 @@ use Rattle.model.specs.Bytes.{Bytes}
 use Rattle.model.specs.Network.{network, arcs, distance}
 use Rattle.model.specs.Query.{time_answer, local_answer, way}
 use Rattle.sheet.specs.Sheet.{Effect}
-use Rattle.sheet.specs.Under.{network_under, still_driven, isNone, old_stands, time_under}
+use Rattle.sheet.specs.Under.{network_under, still_driven, is_none, old_stands, time_under}
 
 or-true : (b : Bool) → b || true ≡ true
 or-true true = refl
@@ -19,13 +19,13 @@ module _ (effect : ℕ → Effect) (o : Bytes) (s t : ℕ) where
 
   pub stands_driven : driven ≡ true → time_answer o s t ≡ time_under effect o s t
   unfolding time_under old_stands
-  stands_driven e = rw (e, or-true (isNone (time_answer o s t)))
+  stands_driven e = rw (e, or-true (is_none (time_answer o s t)))
 
-  pub stands_none : isNone (time_answer o s t) ≡ true → time_answer o s t ≡ time_under effect o s t
+  pub stands_none : is_none (time_answer o s t) ≡ true → time_answer o s t ≡ time_under effect o s t
   unfolding time_under old_stands
   stands_none e = rw e
 
-  pub stands_not : driven ≡ false → isNone (time_answer o s t) ≡ false → local_answer (network_under effect o) s t ≡ time_under effect o s t
+  pub stands_not : driven ≡ false → is_none (time_answer o s t) ≡ false → local_answer (network_under effect o) s t ≡ time_under effect o s t
   unfolding time_under old_stands
   stands_not d e = rw (e, d)
 

@@ -13,7 +13,7 @@ ghost use Rattle.words.specs.Regions.{grid_at};
 ghost use Rattle.words.specs.Times.{time};
 ghost use Rattle.index.specs.Index.{IndexedEdges};
 ghost use Rattle.sheet.specs.Sheet.{lines_in, holds};
-ghost use Rattle.sheet.specs.Under.{too_slow, still_driven, isNone, time_under};
+ghost use Rattle.sheet.specs.Under.{too_slow, still_driven, is_none, time_under};
 ghost use Rattle.sheet.specs.ArcsUnder.{left_under, arcs_under};
 ghost use Rattle.arcs.specs.Leaving.{EdgesUnder};
 ghost use Rattle.way.specs.Distances.{distance_in};
@@ -77,7 +77,7 @@ fn old_answer(o: &[u8], s: usize, t: usize, work: &[u32]) -> Answer
 }
 
 fn is_none(a: Answer) -> bool
-    ensures { result ≡ isNone a }
+    ensures { result ≡ is_none a }
 {
     match a {
         Answer::Time {

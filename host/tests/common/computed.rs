@@ -16,7 +16,7 @@ pub struct Computed {
 
 pub fn computed() -> Computed {
     let (_, table) = FILE.split_once("\ntrials =\n").expect("the file has the table");
-    let (table, _) = table.split_once("\npub trials-hold").expect("the table has an end");
+    let (table, _) = table.split_once("\npub trials_hold").expect("the table has an end");
     let text: Vec<&str> = table.lines().map(|line| line.split_once("--").map_or(line, |(code, _)| code).trim()).collect();
     let (oracles, rows) = oracles(text.join(" ").trim().to_string());
     let mut found = Computed { trials: Vec::new(), others: Vec::new() };
@@ -38,7 +38,7 @@ fn oracles(mut text: String) -> (BTreeMap<String, &'static str>, String) {
         let network = match oracle {
             "oracle line (usual 6)" => "line",
             "oracle (fork []) (usual 6)" => "fork",
-            "oracle forkWithout4 (usual 6)" => "fork-without-4",
+            "oracle fork_without4 (usual 6)" => "fork-without-4",
             "oracle doubled (usual 6)" => "doubled",
             "oracle side (usual 1)" => "side",
             _ => panic!("`{oracle}` is not known here"),
@@ -99,7 +99,7 @@ fn line(text: &str) -> Option<Line> {
         ["close", road] => Some((CLOSED, number(road) as u16, 0)),
         ["delay", road, added] => Some((DELAYED, number(road) as u16, number(added))),
         ["odd", first] => Some((number(first) as u8, 0, 0)),
-        ["close-with", added] => Some((CLOSED, 0, number(added))),
+        ["close_with", added] => Some((CLOSED, 0, number(added))),
         _ => None,
     }
 }

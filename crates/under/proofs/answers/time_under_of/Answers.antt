@@ -1,6 +1,6 @@
 -- `answers::time_under_of` meets its contract: the old answer where it stands, and else that of the search.
 use mathlib.Core.Path.{◌∙◌, sym, ap}
-use Rattle.sheet.specs.Under.{isNone}
+use Rattle.sheet.specs.Under.{is_none}
 use Rattle.theory.specs.Passed.{all_shaped}
 use Rattle.opened.proofs.OpenLaws.{stays, stays_then}
 use Rattle.under.proofs.Networks.{own_itself}
@@ -26,7 +26,7 @@ pub returns-then-driven : goal.returns-then-driven
 returns-then-driven c = record { answer = c.old_answer-old.ensures ∙ stands_driven _ _ _ _ (sym c.judge-driven.ensures.driven ∙ c.if-driven.true); stays = c.judge-driven.ensures.stays }
 
 pub returns-then-is_none : goal.returns-then-is_none
-returns-then-is_none c = record { answer = c.old_answer-old.ensures ∙ stands_none _ _ _ _ (sym (ap isNone c.old_answer-old.ensures) ∙ (sym c.is_none.ensures ∙ c.if-is_none.true)); stays = c.judge-driven.ensures.stays }
+returns-then-is_none c = record { answer = c.old_answer-old.ensures ∙ stands_none _ _ _ _ (sym (ap is_none c.old_answer-old.ensures) ∙ (sym c.is_none.ensures ∙ c.if-is_none.true)); stays = c.judge-driven.ensures.stays }
 
 pub searched-requires : goal.searched-requires
 searched-requires c = record { opened = (c.judge-driven.ensures.stays.opened, c.requires.opened.1, c.requires.opened.2, c.if-s-t.false); edges_under = c.judge-driven.ensures.edges }
@@ -34,6 +34,6 @@ searched-requires c = record { opened = (c.judge-driven.ensures.stays.opened, c.
 pub returns : goal.returns
 returns c = record {
   answer = c.searched.ensures.answer ∙ stands_not _ _ _ _ (sym c.judge-driven.ensures.driven ∙ c.if-driven.false)
-      (sym (ap isNone c.old_answer-old.ensures) ∙ (sym c.is_none.ensures ∙ c.if-is_none.false));
+      (sym (ap is_none c.old_answer-old.ensures) ∙ (sym c.is_none.ensures ∙ c.if-is_none.false));
   stays = stays_then _ _ _ _ c.judge-driven.ensures.stays (stays _ _ _ c.judge-driven.ensures.stays.opened c.searched.auto.work c.searched.ensures.others);
 }
