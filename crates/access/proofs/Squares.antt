@@ -19,7 +19,6 @@ use Rattle.theory.specs.Transit.{one_of}
 use Rattle.theory.specs.Tests.{same_test}
 use Rattle.theory.specs.Members.{map→, →map, filter→, →filter, →up_to, range→}
 use Rattle.theory.specs.Members as lists
-use Rattle.algorithms.specs.Dijkstra.{at}
 use Rattle.algorithms.specs.Settle.{blank}
 use Rattle.bitset.specs.Bits.{set_words}
 use Rattle.bitset.proofs.Members.{length_flags}

@@ -54,6 +54,7 @@ fn put_crossings_at(
 {
     let m = edges.len() / EDGE_SIZE;
     let mut c = first_edge(edges, n, work, v);
+    // A cursor and no range: the index links the edges at v, from one to the next.
     while c.edge < m {
         put_crossing(nodes, edges, square, c.edge, n, k, work);
         c = next_edge(edges, n, work, v, c);
@@ -75,11 +76,9 @@ pub fn put_crossings(
     ensures others { Only n k work.old work.new }
 {
     clear(work, n, k);
-    let mut v = 0;
-    while v < n {
+    for v in 0..n {
         if square.has(nodes, v) {
             put_crossings_at(nodes, edges, square, v, n, k, work);
         }
-        v += 1;
     }
 }

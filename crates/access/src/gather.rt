@@ -39,9 +39,7 @@ pub fn gather(edges: &[u8], n: usize, work: &mut [u32])
 {
     clear(work, n, GATHERED);
     let left = count(work, n, WANT);
-    let mut p = 0;
-    while p < n {
+    for p in 0..n {
         gather_from(edges, n, p, left, work);
-        p += 1;
     }
 }

@@ -63,10 +63,8 @@ pub fn mark_back(edges: &[u8], n: usize, e: usize, work: &mut [u32])
     ensures others { Only n marks work.old work.new }
 {
     clear(work, n, MARKS);
-    let mut i = e;
-    while i < n {
+    for i in e..n {
         mark_at(edges, n, work, i);
-        i += 1;
     }
 }
 

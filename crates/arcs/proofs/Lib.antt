@@ -6,3 +6,4 @@ pub mod Same
 pub mod Passes
 pub mod Kept
 pub mod Tests
+pub mod Walked

@@ -1,13 +1,13 @@
 // Walking the edges at a node.
-ghost use Rattle.std.specs.Prelude.{◌≡◌, true, false, [], ◌*◌, ◌<◌, ◌≤◌, min, length};
+ghost use Rattle.std.specs.Prelude.{◌≡◌, true, false, [], ◌*◌, ◌<◌, ◌≤◌, length};
 ghost use Rattle.model.specs.Network.{max_nodes, edge_count};
 ghost use Rattle.words.specs.Frames.{Enough};
 ghost use Rattle.index.specs.Index.{by_links, by_blocks, linked, Within, Incident, IndexedEdges};
 ghost use Rattle.words.specs.Regions.{place_at, index_in};
 ghost use Rattle.arcs.specs.Cursor.{Valid, PassedEdges, Stepped};
-ghost use Rattle.arcs.specs.Seeking.{Seeking, Since, FoundFrom, FirstIncident, AtEntry, block_at};
+ghost use Rattle.arcs.specs.Seeking.{ending, Seeking, Since, FoundFrom, FirstIncident, AtEntry, block_at};
 
-use codec::records::{EDGE_SIZE, edge_first, edge_second};
+use codec::records::{EDGE_SIZE, Edge};
 use index::positions::{entry_in, head_in, is_linked, link_in};
 use words::regions::index_at;
 
@@ -21,18 +21,31 @@ pub struct Cursor {
     pub size: usize,
 }
 
+impl Cursor {
+    // Where no edge is left. As the number of edges and no option: one comparison an arc tells it from an edge.
+    #[tactic(auto, unfolding(model::specs::Network::edge_count))]
+    fn at_end(edges: &[u8], size: usize) -> Cursor
+        ensures { result ≡ ending edges.now size }
+    {
+        let m = edges.len() / EDGE_SIZE;
+        Cursor {
+            edge: m,
+            stop: m,
+            link: 0,
+            size,
+        }
+    }
+}
+
 // Whether edge i has an end at u.
+#[tactic(auto, unfolding(model::specs::Network::edge_count))]
 fn is_incident(edges: &[u8], u: usize, i: usize) -> bool
     requires { i < edge_count edges.now }
     ensures yes { result ≡ true → Incident edges.now u i }
     ensures no { result ≡ false → Incident edges.now u i → ⊥ }
 {
-    if edge_first(edges, i) != u {
-        if edge_second(edges, i) != u {
-            return false;
-        }
-    }
-    true
+    let edge = Edge::read(edges, i);
+    edge.first == u || edge.second == u
 }
 
 // The first edge at u from i on and below stop, or stop where there is none.
@@ -40,23 +53,12 @@ fn first_incident(edges: &[u8], u: usize, i: usize, stop: usize) -> usize
     requires { (i ≤ stop) × (stop ≤ edge_count edges.now) }
     ensures { FirstIncident edges.now u i stop result }
 {
-    let mut r = i;
-    while r < stop {
+    for r in i..stop {
         if is_incident(edges, u, r) {
             return r;
         }
-        r += 1;
     }
-    r
-}
-
-fn lower(a: usize, b: usize) -> usize
-    ensures { result ≡ min a b }
-{
-    if a < b {
-        return a;
-    }
-    b
+    stop
 }
 
 // The whole block of the entry p, of at most m edges in all.
@@ -66,13 +68,11 @@ fn block_at(m: usize, work: &[u32], n: usize, at: usize, size: usize, p: usize) 
 {
     let entry = entry_in(work, n, at, p);
     let start = entry.block * size;
-    let edge = lower(start, m);
-    let stop = lower(start + size, m);
     Cursor {
-        edge: edge,
-        stop: stop,
+        edge: start.min(m),
+        stop: (start + size).min(m),
         link: entry.next,
-        size: size,
+        size,
     }
 }
 
@@ -82,12 +82,7 @@ fn within_block(edges: &[u8], n: usize, work: &[u32], u: usize, c: Cursor) -> Cu
     ensures { Since edges.now n work.now u c result }
 {
     let edge = first_incident(edges, u, c.edge, c.stop);
-    Cursor {
-        edge: edge,
-        stop: c.stop,
-        link: c.link,
-        size: c.size,
-    }
+    Cursor { edge, ..c }
 }
 
 // The first edge at u from the cursor's on, block by block.
@@ -105,12 +100,7 @@ fn seek(edges: &[u8], n: usize, work: &[u32], at: usize, u: usize, c: Cursor) ->
             return s;
         }
         if s.link < n {
-            return Cursor {
-                edge: m,
-                stop: m,
-                link: 0,
-                size: s.size,
-            };
+            return Cursor::at_end(edges, s.size);
         }
         b = block_at(m, work, n, at, s.size, s.link);
     }
@@ -123,32 +113,28 @@ fn listed(edges: &[u8], n: usize, work: &[u32], at: usize, p: usize) -> Cursor
     ensures { AtEntry edges.now n (by_links n (index_in n work.now)) p result }
 {
     if p < n {
-        let m = edges.len() / EDGE_SIZE;
-        return Cursor {
-            edge: m,
-            stop: m,
-            link: 0,
-            size: 1,
-        };
+        return Cursor::at_end(edges, 1);
     }
     let edge = (p - n) / 2;
     let link = link_in(work, n, at, p);
     Cursor {
-        edge: edge,
+        edge,
         stop: edge + 1,
-        link: link,
+        link,
         size: 1,
     }
 }
 
 // Where the first block of a walk stops: without chains it is of all edges, and else it is empty.
+#[tactic(auto, unfolding(model::specs::Network::edge_count))]
 fn first_stop(edges: &[u8], size: usize) -> usize
     ensures { (result ≤ edge_count edges.now) × (size ≡ 0 → result ≡ edge_count edges.now) }
 {
     if size == 0 {
-        return edges.len() / EDGE_SIZE;
+        edges.len() / EDGE_SIZE
+    } else {
+        0
     }
-    0
 }
 
 // The first edge at u, by blocks.
@@ -161,7 +147,7 @@ fn first_in_blocks(edges: &[u8], n: usize, work: &[u32], at: usize, u: usize) ->
     let stop = first_stop(edges, head.block);
     let c = Cursor {
         edge: 0,
-        stop: stop,
+        stop,
         link: head.next,
         size: head.block,
     };
@@ -195,9 +181,7 @@ pub fn next_edge(edges: &[u8], n: usize, work: &[u32], u: usize, c: Cursor) -> C
     }
     let from = Cursor {
         edge: c.edge + 1,
-        stop: c.stop,
-        link: c.link,
-        size: c.size,
+        ..c
     };
     seek(edges, n, work, at, u, from)
 }

@@ -3,3 +3,4 @@
 
 pub mod cursor;
 pub mod leaving;
+pub mod roads;

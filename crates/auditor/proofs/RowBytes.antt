@@ -18,7 +18,7 @@ use Rattle.emit.specs.Members.{if_in}
 use Rattle.emit.specs.Parts.{row_bytes}
 use Rattle.emit.specs.PartLaws.{length_row}
 use Rattle.emit.specs.Records.{begins, compared}
-use Rattle.emit.specs.declared.compare.Compared.TheVariants.{Same, Differs}
+use Rattle.std.specs.Prelude.{Some, None}
 use Rattle.emit.proofs.Turns.{compared_out, compared_in}
 use Rattle.theory.specs.Audits.{equal→}
 
@@ -39,7 +39,7 @@ module _ (b : Bytes) (at size : ℕ) (times l : List ℕ) (e : size ≡ value_si
   part : mid_of at (at + size - at) b ≡ take (length row) (drop at b)
   part = let q : at + size - at ≡ length row = omega (arith, its_size) in ap (λ (k : ℕ). take k (drop at b)) q
 
-  pub row_short : length b - at < size → Differs ≡ compared b at row
+  pub row_short : length b - at < size → None ≡ compared b at row
   unfolding compared
   row_short h =
       let long : begins row (drop at b) ≡ false = sym (begins_front row (drop at b))
@@ -47,17 +47,17 @@ module _ (b : Bytes) (at size : ℕ) (times l : List ℕ) (e : size ≡ value_si
       in
       rw long
 
-  pub row_same : equal (mid_of at (at + size - at) b) row ≡ true → Same (at + size) ≡ compared b at row
+  pub row_same : equal (mid_of at (at + size - at) b) row ≡ true → Some (at + size) ≡ compared b at row
   unfolding compared
   row_same q = rw (← its_size, ← begins_front row (drop at b), ← part, q)
 
-  pub row_other : equal (mid_of at (at + size - at) b) row ≡ false → Differs ≡ compared b at row
+  pub row_other : equal (mid_of at (at + size - at) b) row ≡ false → None ≡ compared b at row
   unfolding compared
   row_other q = rw (← begins_front row (drop at b), ← part, q)
 
 -- The row of v, where region TRANSIT has v.
 module _ (n v : ℕ) (w : List ℕ) (h : v < n) (b : Bytes) (at : ℕ) (row : Bytes) where
-  pub row_out : is_in (drop (region_at n transit) w) v ≡ false → Same at ≡ compared b at (if_in (region n transit w) v row)
+  pub row_out : is_in (drop (region_at n transit) w) v ≡ false → Some at ≡ compared b at (if_in (region n transit w) v row)
   row_out q = compared_out (region n transit w) v b at row (in_front n (drop (region_at n transit) w) v h ∙ q)
 
   pub row_in : is_in (drop (region_at n transit) w) v ≡ true → compared b at row ≡ compared b at (if_in (region n transit w) v row)

@@ -13,8 +13,7 @@ use Rattle.words.specs.Regions.{region, transit, search_words}
 use Rattle.emit.specs.Members.{if_in}
 use Rattle.emit.specs.Parts.{row_bytes}
 use Rattle.emit.specs.Records.{compared}
-use Rattle.emit.specs.declared.compare.Compared.{Compared}
-use Rattle.emit.specs.declared.compare.Compared.TheVariants.{Same, Differs}
+use Rattle.std.specs.Prelude.{Option, Some, None}
 use Rattle.emit.proofs.Turns.{members_from, members_all, members_step, members_end}
 use Rattle.emit.proofs.Comparing.{Left, left_start, left_different, left_next, left_end}
 use Rattle.passes.specs.Building.{members_in}
@@ -36,15 +35,15 @@ module _ (arcs : List Arc) (n : ℕ) (b : Bytes) (w : List ℕ) where
   pub rows_first : RowsLeft 0 0 w
   rows_first = record { kept = kept_same n w; left = left_start (members_all row_of (region n transit w) n) }
 
-  module _ (v at : ℕ) (x : List ℕ) (p : RowsLeft v at x) (h : v < n) (c : Compared)
+  module _ (v at : ℕ) (x : List ℕ) (p : RowsLeft v at x) (h : v < n) (c : Option ℕ)
       (e : c ≡ compared b at (if_in (region n transit x) v (row_bytes (distance_words arcs n v) (members_in n transit x)))) where
     told : c ≡ compared b at (if_in (region n transit w) v (row_of v))
     told = rw (← transit_behind n w x p.kept.behind) e
 
-    pub rows_differ : c ≡ Differs → equal b whole ≡ false
+    pub rows_differ : c ≡ None → equal b whole ≡ false
     rows_differ q = left_different (members_step row_of (region n transit w) n v h) p.left (sym told ∙ q)
 
-    pub rows_next : (m : ℕ) → c ≡ Same m → (y : List ℕ) → length y ≡ length x → KeptFrom (search_words n) x y → RowsLeft (v + 1) m y
+    pub rows_next : (m : ℕ) → c ≡ Some m → (y : List ℕ) → length y ≡ length x → KeptFrom (search_words n) x y → RowsLeft (v + 1) m y
     rows_next m q y s d = record {
       kept = kept_then n w x y p.kept s d;
       left = left_next (members_step row_of (region n transit w) n v h) p.left

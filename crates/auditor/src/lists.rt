@@ -2,14 +2,13 @@
 ghost use Rattle.std.specs.Prelude.{◌≡◌, ◌<◌, ◌≤◌};
 ghost use Rattle.model.specs.Lists.{all, equal, up_to};
 ghost use Rattle.model.specs.Bytes.{cut};
-ghost use Rattle.model.specs.Network.{max_nodes, node_count};
+ghost use Rattle.model.specs.Network.{max_nodes};
 ghost use Rattle.model.specs.Oracle.{list_part};
 ghost use Rattle.algorithms.specs.Rounds.{distance_words};
 ghost use Rattle.arcs.specs.Arcs.{arcs_in};
 ghost use Rattle.index.specs.Index.{IndexedEdges};
 ghost use Rattle.tables.specs.Premises.{ListedBelow};
 ghost use Rattle.crossing.specs.Beside.{CellSquare};
-ghost use Rattle.crossing.specs.Ground.{Ground};
 ghost use Rattle.words.specs.Regions.{region_at, region, own, transit, times_in, search_words};
 ghost use Rattle.emit.specs.Members.{Among};
 ghost use Rattle.emit.specs.Parts.{list_bytes_of};
@@ -19,8 +18,8 @@ ghost use Rattle.words.specs.Frames.{Enough, KeptFrom};
 ghost use Rattle.auditor.specs.Same.{KeepsLists, same_beside, same_of_cell, same_lists};
 
 use crossing::cells::{beside, cell_square, first_of_cell};
+use crossing::ground::Ground;
 use emit::lists::same_list;
-use grid::Grid;
 use grid::square::Square;
 use passes::own::{own_wanted, search_own};
 use tables::lists::list_part;
@@ -51,105 +50,76 @@ fn same_from(edges: &[u8], access: &[u8], n: usize, v: usize, left: usize, work:
 
 // Whether the list of v is the built one, where v has the cell of u, which the square is of. Region OWN has the `left` access nodes of that cell.
 fn same_beside(
-    nodes: &[u8],
-    edges: &[u8],
-    grid: Grid,
+    ground: &Ground,
     square: Square,
     access: &[u8],
-    n: usize,
     u: usize,
     v: usize,
     left: usize,
     work: &mut [u32],
 ) -> bool
-    requires on_ground { Ground nodes.now edges.now grid × (n ≡ node_count nodes.now) × (n ≤ max_nodes) × (u < n) × (v < n) × Enough n work.old
-        × KeepsLists n access.now × CellSquare nodes.now grid u square }
-    requires work_value { (members_in n transit work.old ≡ transit_in nodes.now edges.now grid)
-        × (members_in n own work.old ≡ access_of nodes.now edges.now grid u) }
-    requires sought { Sought n left work.old × IndexedEdges edges.now n work.old }
-    ensures same { result ≡ same_beside nodes.now edges.now grid access.now u v }
-    ensures others { KeptFrom (search_words n) work.old work.new }
+    requires on_ground { (u < ground.now.n) × (v < ground.now.n) × Enough ground.now.n work.old
+        × KeepsLists ground.now.n access.now × CellSquare ground.now.nodes.now ground.now.grid u square }
+    requires work_value { (members_in ground.now.n transit work.old ≡ transit_in ground.now.nodes.now ground.now.edges.now ground.now.grid)
+        × (members_in ground.now.n own work.old ≡ access_of ground.now.nodes.now ground.now.edges.now ground.now.grid u) }
+    requires sought { Sought ground.now.n left work.old × IndexedEdges ground.now.edges.now ground.now.n work.old }
+    ensures same { result ≡ same_beside ground.now.nodes.now ground.now.edges.now ground.now.grid access.now u v }
+    ensures others { KeptFrom (search_words ground.now.n) work.old work.new }
 {
-    if !beside(nodes, square, v) {
+    if !beside(ground.nodes, square, v) {
         return true;
     }
-    same_from(edges, access, n, v, left, work)
+    same_from(ground.edges, access, ground.n, v, left, work)
 }
 
 // Whether all lists of the cell of u are.
-fn same_in_cell(
-    nodes: &[u8],
-    edges: &[u8],
-    grid: Grid,
-    access: &[u8],
-    n: usize,
-    u: usize,
-    left: usize,
-    work: &mut [u32],
-) -> bool
-    requires on_ground { Ground nodes.now edges.now grid × (n ≡ node_count nodes.now) × (n ≤ max_nodes) × (u < n) × Enough n work.old
-        × KeepsLists n access.now }
-    requires work_value { (members_in n transit work.old ≡ transit_in nodes.now edges.now grid)
-        × (members_in n own work.old ≡ access_of nodes.now edges.now grid u) }
-    requires sought { Sought n left work.old × IndexedEdges edges.now n work.old }
-    ensures same { result ≡ all (same_beside nodes.now edges.now grid access.now u) (up_to n) }
-    ensures others { KeptFrom (search_words n) work.old work.new }
+fn same_in_cell(ground: &Ground, access: &[u8], u: usize, left: usize, work: &mut [u32]) -> bool
+    requires on_ground { (u < ground.now.n) × Enough ground.now.n work.old
+        × KeepsLists ground.now.n access.now }
+    requires work_value { (members_in ground.now.n transit work.old ≡ transit_in ground.now.nodes.now ground.now.edges.now ground.now.grid)
+        × (members_in ground.now.n own work.old ≡ access_of ground.now.nodes.now ground.now.edges.now ground.now.grid u) }
+    requires sought { Sought ground.now.n left work.old × IndexedEdges ground.now.edges.now ground.now.n work.old }
+    ensures same { result ≡ all (same_beside ground.now.nodes.now ground.now.edges.now ground.now.grid access.now u) (up_to ground.now.n) }
+    ensures others { KeptFrom (search_words ground.now.n) work.old work.new }
 {
-    let square = cell_square(nodes, grid, u);
-    let mut v = 0;
-    while v < n {
-        if !same_beside(nodes, edges, grid, square, access, n, u, v, left, work) {
+    let square = cell_square(ground.nodes, ground.grid, u);
+    for v in 0..ground.n {
+        if !same_beside(ground, square, access, u, v, left, work) {
             return false;
         }
-        v += 1;
     }
     true
 }
 
 // Whether they are, where u is the first node of its cell.
-fn same_of_cell(
-    nodes: &[u8],
-    edges: &[u8],
-    grid: Grid,
-    access: &[u8],
-    n: usize,
-    u: usize,
-    work: &mut [u32],
-) -> bool
-    requires on_ground { Ground nodes.now edges.now grid × (n ≡ node_count nodes.now) × (n ≤ max_nodes) × (u < n) × Enough n work.old
-        × KeepsLists n access.now }
-    requires work_value { (members_in n transit work.old ≡ transit_in nodes.now edges.now grid) × IndexedEdges edges.now n work.old }
-    ensures same { result ≡ same_of_cell nodes.now edges.now grid access.now u }
-    ensures others { KeptFrom (region_at n transit) work.old work.new }
+fn same_of_cell(ground: &Ground, access: &[u8], u: usize, work: &mut [u32]) -> bool
+    requires on_ground { (u < ground.now.n) × Enough ground.now.n work.old
+        × KeepsLists ground.now.n access.now }
+    requires work_value { (members_in ground.now.n transit work.old
+        ≡ transit_in ground.now.nodes.now ground.now.edges.now ground.now.grid) × IndexedEdges ground.now.edges.now ground.now.n work.old }
+    ensures same { result ≡ same_of_cell ground.now.nodes.now ground.now.edges.now ground.now.grid access.now u }
+    ensures others { KeptFrom (region_at ground.now.n transit) work.old work.new }
 {
-    if !first_of_cell(nodes, grid, u) {
+    if !first_of_cell(ground.nodes, ground.grid, u) {
         return true;
     }
-    let left = own_wanted(nodes, edges, grid, n, u, work);
-    same_in_cell(nodes, edges, grid, access, n, u, left, work)
+    let left = own_wanted(ground, u, work);
+    same_in_cell(ground, access, u, left, work)
 }
 
 // Whether all lists are the built ones.
-pub fn same_lists(
-    nodes: &[u8],
-    edges: &[u8],
-    grid: Grid,
-    access: &[u8],
-    n: usize,
-    work: &mut [u32],
-) -> bool
-    requires on_ground { Ground nodes.now edges.now grid × (n ≡ node_count nodes.now) × (n ≤ max_nodes) × Enough n work.old
-        × KeepsLists n access.now }
-    requires work_value { (members_in n transit work.old ≡ transit_in nodes.now edges.now grid) × IndexedEdges edges.now n work.old }
-    ensures same { result ≡ same_lists nodes.now edges.now grid access.now }
-    ensures others { KeptFrom (region_at n transit) work.old work.new }
+pub fn same_lists(ground: &Ground, access: &[u8], work: &mut [u32]) -> bool
+    requires on_ground { Enough ground.now.n work.old
+        × KeepsLists ground.now.n access.now }
+    requires work_value { (members_in ground.now.n transit work.old
+        ≡ transit_in ground.now.nodes.now ground.now.edges.now ground.now.grid) × IndexedEdges ground.now.edges.now ground.now.n work.old }
+    ensures same { result ≡ same_lists ground.now.nodes.now ground.now.edges.now ground.now.grid access.now }
+    ensures others { KeptFrom (region_at ground.now.n transit) work.old work.new }
 {
-    let mut u = 0;
-    while u < n {
-        if !same_of_cell(nodes, edges, grid, access, n, u, work) {
+    for u in 0..ground.n {
+        if !same_of_cell(ground, access, u, work) {
             return false;
         }
-        u += 1;
     }
     true
 }

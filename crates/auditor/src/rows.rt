@@ -14,7 +14,6 @@ ghost use Rattle.emit.specs.Records.{compared};
 ghost use Rattle.passes.specs.Building.{members_in};
 ghost use Rattle.words.specs.Frames.{Enough, KeptFrom};
 
-use emit::compare::Compared;
 use emit::rows::same_row;
 use search::front::search_front;
 use words::regions::{TRANSIT, has, region};
@@ -28,18 +27,18 @@ fn is_row(work: &[u32], n: usize, b: &[u8]) -> bool
 }
 
 // Compares that row, of `size` bytes, with what stands at `at`.
-fn row_at(work: &[u32], n: usize, size: usize, table: &[u8], at: usize) -> Compared
+fn row_at(work: &[u32], n: usize, size: usize, table: &[u8], at: usize) -> Option<usize>
     requires { Enough n work.now × (size ≡ value_size * length (members_in n transit work.now)) × (at ≤ length table.now) × (1 ≤ n) }
     ensures { result ≡ compared table.now at (row_bytes (times_in n work.now) (members_in n transit work.now)) }
 {
     if table.len() - at < size {
-        return Compared::Differs;
+        return None;
     }
     let end = at + size;
     if is_row(work, n, &table[at..end]) {
-        Compared::Same(end)
+        Some(end)
     } else {
-        Compared::Differs
+        None
     }
 }
 
@@ -52,7 +51,7 @@ fn same_from(
     at: usize,
     v: usize,
     work: &mut [u32],
-) -> Compared
+) -> Option<usize>
     requires n_le_max_nodes { (n ≤ max_nodes) × (v < n) × Enough n work.old × (size ≡ value_size * length (members_in n transit work.old)) × (at ≤ length table.now) }
     requires indexed_edges { IndexedEdges edges.now n work.old × NotAlone n transit work.old }
     ensures same { result ≡ compared table.now at (if_in (region n transit work.old) v
@@ -60,7 +59,7 @@ fn same_from(
     ensures others { KeptFrom (search_words n) work.old work.new }
 {
     if !has(work, n, TRANSIT, v) {
-        return Compared::Same(at);
+        return Some(at);
     }
     search_front(edges, n, v, work);
     row_at(work, n, size, table, at)
@@ -75,13 +74,11 @@ pub fn same_table(edges: &[u8], n: usize, size: usize, table: &[u8], work: &mut 
     ensures others { KeptFrom (search_words n) work.old work.new }
 {
     let mut at = 0;
-    let mut v = 0;
-    while v < n {
-        let Compared::Same(next) = same_from(edges, n, size, table, at, v, work) else {
+    for v in 0..n {
+        let Some(next) = same_from(edges, n, size, table, at, v, work) else {
             return false;
         };
         at = next;
-        v += 1;
     }
     at == table.len()
 }

@@ -10,7 +10,7 @@ pub fn flag_of(set: &[u32], v: usize) -> u32
     requires { v / word_bits < length set.now }
     ensures { (result ≡ flag set.now v) × (result ≤ 1) }
 {
-    if contains(set, v) { 1 } else { 0 }
+    u32::from(contains(set, v))
 }
 
 // The number of members below n.
@@ -19,10 +19,8 @@ pub fn count(n: usize, set: &[u32]) -> usize
     ensures { (result ≡ length (members_of n set.now)) × (result ≤ n) }
 {
     let mut members = 0;
-    let mut v = 0;
-    while v < n {
+    for v in 0..n {
         members += flag_of(set, v) as usize;
-        v += 1;
     }
     members
 }

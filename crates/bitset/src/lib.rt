@@ -1,6 +1,5 @@
-// Sets of nodes, one bit a node, and words filled with one value.
+// Sets of nodes, one bit a node.
 #![tactic(auto)]
 
 pub mod bits;
 pub mod counts;
-pub mod words;

@@ -1,5 +1,4 @@
 -- The laws that the proofs cite.
-mod FirstNamed
 mod PartLaws
 mod Named
 mod Fill

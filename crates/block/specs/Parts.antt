@@ -3,11 +3,18 @@ use Rattle.std.specs.Prelude.{ℕ, ◌≤◌, ◌<◌, Bool, true, false, List, 
 use Rattle.model.specs.Pair.{seconds_of, hops_of}
 use Rattle.model.specs.Oracle.{no_walk}
 use Rattle.block.specs.Block.{max_names}
+use Rattle.block.specs.declared.parts.Part.{Part}
+use Rattle.block.specs.declared.parts.Part.TheVariants.{Seconds, Hops}
 
 -- The hops of a key, or its seconds.
 unfoldable pub part_of : Bool → ℕ → ℕ
 part_of true k = hops_of k
 part_of false k = seconds_of k
+
+-- Whether what is shown is the hops.
+abbrev pub is_hops : Part → Bool
+is_hops Seconds = false
+is_hops Hops = true
 
 unfoldable pub parts_of : Bool → List (List ℕ) → List (List ℕ)
 parts_of hops keys = map (map (part_of hops)) keys

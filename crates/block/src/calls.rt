@@ -12,9 +12,8 @@ use opened::opening::open_words;
 pub fn block(o: &[u8], starts: &[u32], ends: &[u32], work: &mut [u32]) -> Block
     ensures { BlockCall o.now starts.now ends.now work.old result work.new }
 {
-    let rule = block_refusal(o, starts, ends, work.len());
-    if rule != 0 {
-        return refused_block(rule);
+    if let Err(broken) = block_refusal(o, starts, ends, work.len()) {
+        return refused_block(broken.number());
     }
     open_words(o, work);
     let keys = keys_between(o, starts, ends, work);

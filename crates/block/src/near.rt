@@ -47,10 +47,8 @@ fn want_near(o: &[u8], grid: Grid, s: usize, ends: &[u32], work: &mut [u32]) -> 
     clear(work, n, WANT);
     put(work, n, WANT, s);
     let mut left = 0;
-    let mut j = 0;
-    while j < ends.len() {
-        left += want_end(o, grid, s, ends[j] as usize, work);
-        j += 1;
+    for &t in ends {
+        left += want_end(o, grid, s, t as usize, work);
     }
     left
 }

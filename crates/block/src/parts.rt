@@ -2,45 +2,48 @@
 ghost use Rattle.std.specs.Prelude.{◌≡◌, true, false, map, ◌≤◌};
 ghost use Rattle.model.specs.Oracle.{no_walk};
 ghost use Rattle.block.specs.Block.{refused};
-ghost use Rattle.block.specs.Parts.{part_of, parts_of, SmallRow, SmallKeys};
+ghost use Rattle.block.specs.Parts.{is_hops, part_of, parts_of, SmallRow, SmallKeys};
 
 use crate::names::NAMES;
 use crate::{Block, block_record};
 use codec::keys::{hops_of, seconds_of};
 
-// The hops of a key, or its seconds.
-fn part_of(hops: bool, k: u64) -> u32
-    requires { k ≤ no_walk }
-    ensures { result ≡ part_of hops k }
-{
-    if hops {
-        return hops_of(k);
-    }
-    seconds_of(k)
+// What a block shows of a key.
+#[derive(Clone, Copy)]
+pub enum Part {
+    Seconds,
+    Hops,
 }
 
-fn row_parts(hops: bool, row: [u64; 12]) -> [u32; 12]
+// That part of a key.
+fn part_of(part: Part, k: u64) -> u32
+    requires { k ≤ no_walk }
+    ensures { result ≡ part_of (is_hops part) k }
+{
+    match part {
+        Part::Seconds => seconds_of(k),
+        Part::Hops => hops_of(k),
+    }
+}
+
+fn row_parts(part: Part, row: [u64; 12]) -> [u32; 12]
     requires { SmallRow row }
-    ensures { result ≡ map (part_of hops) row }
+    ensures { result ≡ map (part_of (is_hops part)) row }
 {
     let mut parts = [0u32; 12];
-    let mut j = 0;
-    while j < NAMES {
-        parts[j] = part_of(hops, row[j]);
-        j += 1;
+    for j in 0..NAMES {
+        parts[j] = part_of(part, row[j]);
     }
     parts
 }
 
-fn parts_of(hops: bool, keys: [[u64; 12]; 12]) -> [[u32; 12]; 12]
+fn parts_of(part: Part, keys: [[u64; 12]; 12]) -> [[u32; 12]; 12]
     requires { SmallKeys keys }
-    ensures { result ≡ parts_of hops keys }
+    ensures { result ≡ parts_of (is_hops part) keys }
 {
     let mut parts = [[0u32; 12]; 12];
-    let mut i = 0;
-    while i < NAMES {
-        parts[i] = row_parts(hops, keys[i]);
-        i += 1;
+    for i in 0..NAMES {
+        parts[i] = row_parts(part, keys[i]);
     }
     parts
 }
@@ -49,7 +52,7 @@ pub fn given_block(keys: [[u64; 12]; 12]) -> Block
     requires { SmallKeys keys }
     ensures { (result.rule ≡ 0) × (result.times ≡ parts_of false keys) × (result.hops ≡ parts_of true keys) }
 {
-    block_record(0, parts_of(false, keys), parts_of(true, keys))
+    block_record(0, parts_of(Part::Seconds, keys), parts_of(Part::Hops, keys))
 }
 
 pub fn refused_block(rule: u32) -> Block

@@ -17,9 +17,8 @@ pub fn block(o: &[u8], starts: &[u32], ends: &[u32], work: &mut [u32]) -> Block
     ensures opened { Opened o.now work.new }
     ensures rest { KeptFrom (words_needed o.now) work.old work.new }
 {
-    let rule = sides_refusal(o, starts, ends);
-    if rule != 0 {
-        return refused_block(rule);
+    if let Err(broken) = sides_refusal(o, starts, ends) {
+        return refused_block(broken.number());
     }
     let keys = keys_between(o, starts, ends, work);
     given_block(keys)

@@ -49,10 +49,8 @@ fn with_entries(
     ensures { result ≡ set keys i (row_by (time_word o.now) ends.now s) }
 {
     let mut filled = keys;
-    let mut j = 0;
-    while j < ends.len() {
+    for j in 0..ends.len() {
         filled[i][j] = entry_of(o, s, ends[j] as usize, work);
-        j += 1;
     }
     filled
 }
@@ -82,11 +80,11 @@ fn first_named(names: &[u32], i: usize) -> usize
     requires { i < length names.now }
     ensures { (result ≤ i) × (get_or names.now result 0 ≡ get_or names.now i 0) }
 {
-    let mut k = 0;
-    while names[k] != names[i] {
-        k += 1;
-    }
-    k
+    let named = names[i];
+    names[..i]
+        .iter()
+        .position(|&name| name == named)
+        .unwrap_or(i)
 }
 
 // The block with row k in row i too.
@@ -132,11 +130,9 @@ pub fn keys_between(o: &[u8], starts: &[u32], ends: &[u32], work: &mut [u32]) ->
 {
     let grid = opened_grid(o, work);
     let mut keys = [[0u64; 12]; 12];
-    let mut i = 0;
-    while i < starts.len() {
+    for i in 0..starts.len() {
         let filled = with_start(keys, i, o, grid, starts, ends, work);
         keys = filled;
-        i += 1;
     }
     keys
 }

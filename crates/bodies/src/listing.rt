@@ -13,88 +13,70 @@ ghost use Rattle.bodies.specs.Listed.{Based, Listed, ListedTo, Counts};
 use crate::lists::put_list;
 use codec::records::START_SIZE;
 use crossing::cells::{beside, cell_square, first_of_cell};
+use crossing::ground::Ground;
 use emit::starts::write_starts;
-use grid::Grid;
 use grid::square::Square;
 use passes::own::own_wanted;
 use words::regions::counts;
 
 // Writes the list of v, if v has the cell of u, which the square is of. The cell has `left` access nodes.
 fn list_beside(
-    nodes: &[u8],
-    edges: &[u8],
-    grid: Grid,
+    ground: &Ground,
     square: Square,
-    n: usize,
     u: usize,
     v: usize,
     left: usize,
     work: &mut [u32],
     body: &mut [u8],
 )
-    requires based { Based nodes.now edges.now grid n work.old × (u < n) × (v < n) × CellSquare nodes.now grid u square }
-    requires work_value { (members_in n own work.old ≡ access_of nodes.now edges.now grid u) × Sought n left work.old }
-    requires listed_to { ListedTo nodes.now edges.now grid n u v body.old }
-    ensures lists { ListedTo nodes.now edges.now grid n u (v + 1) body.new }
-    ensures others { KeptFrom (search_words n) work.old work.new }
+    requires based { Based ground.now.nodes.now ground.now.edges.now ground.now.grid ground.now.n work.old
+        × (u < ground.now.n) × (v < ground.now.n) × CellSquare ground.now.nodes.now ground.now.grid u square }
+    requires work_value { (members_in ground.now.n own work.old
+        ≡ access_of ground.now.nodes.now ground.now.edges.now ground.now.grid u) × Sought ground.now.n left work.old }
+    requires listed_to { ListedTo ground.now.nodes.now ground.now.edges.now ground.now.grid ground.now.n u v body.old }
+    ensures lists { ListedTo ground.now.nodes.now ground.now.edges.now ground.now.grid ground.now.n u (v + 1) body.new }
+    ensures others { KeptFrom (search_words ground.now.n) work.old work.new }
 {
-    if beside(nodes, square, v) {
-        put_list(edges, n, v, left, work, body);
+    if beside(ground.nodes, square, v) {
+        put_list(ground.edges, ground.n, v, left, work, body);
     }
 }
 
 // Writes the lists of the cell of u.
-fn lists_of_cell(
-    nodes: &[u8],
-    edges: &[u8],
-    grid: Grid,
-    n: usize,
-    u: usize,
-    work: &mut [u32],
-    body: &mut [u8],
-)
-    requires { Based nodes.now edges.now grid n work.old × (u < n) × Listed nodes.now edges.now grid n u body.old }
-    ensures lists { Listed nodes.now edges.now grid n (u + 1) body.new }
-    ensures others { KeptFrom (region_at n transit) work.old work.new }
+fn lists_of_cell(ground: &Ground, u: usize, work: &mut [u32], body: &mut [u8])
+    requires { Based ground.now.nodes.now ground.now.edges.now ground.now.grid ground.now.n work.old × (u < ground.now.n)
+        × Listed ground.now.nodes.now ground.now.edges.now ground.now.grid ground.now.n u body.old }
+    ensures lists { Listed ground.now.nodes.now ground.now.edges.now ground.now.grid ground.now.n (u + 1) body.new }
+    ensures others { KeptFrom (region_at ground.now.n transit) work.old work.new }
 {
-    let left = own_wanted(nodes, edges, grid, n, u, work);
-    let square = cell_square(nodes, grid, u);
-    let mut v = 0;
-    while v < n {
-        list_beside(nodes, edges, grid, square, n, u, v, left, work, body);
-        v += 1;
+    let left = own_wanted(ground, u, work);
+    let square = cell_square(ground.nodes, ground.grid, u);
+    for v in 0..ground.n {
+        list_beside(ground, square, u, v, left, work, body);
     }
 }
 
 // The same, if u is the first node of its cell: else they are written.
-fn lists_at(
-    nodes: &[u8],
-    edges: &[u8],
-    grid: Grid,
-    n: usize,
-    u: usize,
-    work: &mut [u32],
-    body: &mut [u8],
-)
-    requires { Based nodes.now edges.now grid n work.old × (u < n) × Listed nodes.now edges.now grid n u body.old }
-    ensures lists { Listed nodes.now edges.now grid n (u + 1) body.new }
-    ensures others { KeptFrom (region_at n transit) work.old work.new }
+fn lists_at(ground: &Ground, u: usize, work: &mut [u32], body: &mut [u8])
+    requires { Based ground.now.nodes.now ground.now.edges.now ground.now.grid ground.now.n work.old × (u < ground.now.n)
+        × Listed ground.now.nodes.now ground.now.edges.now ground.now.grid ground.now.n u body.old }
+    ensures lists { Listed ground.now.nodes.now ground.now.edges.now ground.now.grid ground.now.n (u + 1) body.new }
+    ensures others { KeptFrom (region_at ground.now.n transit) work.old work.new }
 {
-    if first_of_cell(nodes, grid, u) {
-        lists_of_cell(nodes, edges, grid, n, u, work, body);
+    if first_of_cell(ground.nodes, ground.grid, u) {
+        lists_of_cell(ground, u, work, body);
     }
 }
 
 // All lists, after the starts.
-fn put_lists(nodes: &[u8], edges: &[u8], grid: Grid, n: usize, work: &mut [u32], body: &mut [u8])
-    requires { Based nodes.now edges.now grid n work.old × Listed nodes.now edges.now grid n 0 body.old }
-    ensures bytes { body.new ≡ whole n (list_in nodes.now edges.now grid) }
-    ensures others { KeptFrom (region_at n transit) work.old work.new }
+fn put_lists(ground: &Ground, work: &mut [u32], body: &mut [u8])
+    requires { Based ground.now.nodes.now ground.now.edges.now ground.now.grid ground.now.n work.old
+        × Listed ground.now.nodes.now ground.now.edges.now ground.now.grid ground.now.n 0 body.old }
+    ensures bytes { body.new ≡ whole ground.now.n (list_in ground.now.nodes.now ground.now.edges.now ground.now.grid) }
+    ensures others { KeptFrom (region_at ground.now.n transit) work.old work.new }
 {
-    let mut u = 0;
-    while u < n {
-        lists_at(nodes, edges, grid, n, u, work, body);
-        u += 1;
+    for u in 0..ground.n {
+        lists_at(ground, u, work, body);
     }
 }
 
@@ -108,19 +90,14 @@ fn put_starts(n: usize, work: &[u32], body: &mut [u8])
 }
 
 // The whole body.
-pub fn put_access(
-    nodes: &[u8],
-    edges: &[u8],
-    grid: Grid,
-    n: usize,
-    work: &mut [u32],
-    body: &mut [u8],
-)
-    requires based { Based nodes.now edges.now grid n work.old × Counts nodes.now edges.now grid n work.old }
-    requires body_len { (length body.old ≡ length (whole n (list_in nodes.now edges.now grid))) × (length body.old < 4294967296) }
-    ensures bytes { body.new ≡ whole n (list_in nodes.now edges.now grid) }
-    ensures others { KeptFrom (region_at n transit) work.old work.new }
+pub fn put_access(ground: &Ground, work: &mut [u32], body: &mut [u8])
+    requires based { Based ground.now.nodes.now ground.now.edges.now ground.now.grid ground.now.n work.old
+        × Counts ground.now.nodes.now ground.now.edges.now ground.now.grid ground.now.n work.old }
+    requires body_len { (length body.old
+        ≡ length (whole ground.now.n (list_in ground.now.nodes.now ground.now.edges.now ground.now.grid))) × (length body.old < 4294967296) }
+    ensures bytes { body.new ≡ whole ground.now.n (list_in ground.now.nodes.now ground.now.edges.now ground.now.grid) }
+    ensures others { KeptFrom (region_at ground.now.n transit) work.old work.new }
 {
-    put_starts(n, work, body);
-    put_lists(nodes, edges, grid, n, work, body);
+    put_starts(ground.n, work, body);
+    put_lists(ground, work, body);
 }

@@ -64,9 +64,7 @@ pub fn put_table(edges: &[u8], n: usize, t: usize, work: &mut [u32], out: &mut [
     ensures others { KeptFrom (search_words n) work.old work.new }
 {
     let mut at = 0;
-    let mut v = 0;
-    while v < n {
+    for v in 0..n {
         at = put_row(edges, n, v, t, work, out, at);
-        v += 1;
     }
 }

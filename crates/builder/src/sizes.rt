@@ -21,10 +21,8 @@ fn lists_size(counts: &[u32], n: usize) -> usize
     ensures { (result ≡ total (list_sizes n counts.now)) × (result ≤ list_size max_nodes * n) }
 {
     let mut sum = 0;
-    let mut v = 0;
-    while v < n {
+    for v in 0..n {
         sum += list_size(half_of(counts, v));
-        v += 1;
     }
     sum
 }

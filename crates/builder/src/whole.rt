@@ -21,7 +21,7 @@ use bodies::listing::put_access;
 use bodies::table::put_table;
 use codec::records::VALUE_SIZE;
 use contents::ORACLE_ENTRIES;
-use grid::Grid;
+use crossing::ground::Ground;
 use model::Division;
 
 // The head, bodies 1 to 3 and body 4. Answers where they end.
@@ -36,24 +36,17 @@ fn put_front(network: &[u8], dv: Division, sizes: [u32; ORACLE_ENTRIES], out: &m
 }
 
 // Body 6, of the size a.
-fn access_part(
-    nodes: &[u8],
-    edges: &[u8],
-    grid: Grid,
-    n: usize,
-    a: usize,
-    work: &mut [u32],
-    out: &mut [u8],
-    at: usize,
-) -> usize
-    requires based { Based nodes.now edges.now grid n work.old × Counts nodes.now edges.now grid n work.old }
-    requires a_value { (a ≡ length (whole n (list_in nodes.now edges.now grid))) × (a < 4294967296) × (at + a ≤ length out.old) }
-    ensures bytes { Wrote out.old at (whole n (list_in nodes.now edges.now grid)) result
+fn access_part(ground: &Ground, a: usize, work: &mut [u32], out: &mut [u8], at: usize) -> usize
+    requires based { Based ground.now.nodes.now ground.now.edges.now ground.now.grid ground.now.n work.old
+        × Counts ground.now.nodes.now ground.now.edges.now ground.now.grid ground.now.n work.old }
+    requires a_value { (a ≡ length (whole ground.now.n (list_in ground.now.nodes.now ground.now.edges.now ground.now.grid)))
+        × (a < 4294967296) × (at + a ≤ length out.old) }
+    ensures bytes { Wrote out.old at (whole ground.now.n (list_in ground.now.nodes.now ground.now.edges.now ground.now.grid)) result
         out.new }
-    ensures others { KeptFrom (region_at n transit) work.old work.new }
+    ensures others { KeptFrom (region_at ground.now.n transit) work.old work.new }
 {
     let end = at + a;
-    put_access(nodes, edges, grid, n, work, &mut out[at..end]);
+    put_access(ground, work, &mut out[at..end]);
     end
 }
 
@@ -80,47 +73,42 @@ fn table_part(
 
 // Bodies 5 to 7. Answers where they end.
 fn put_back(
-    nodes: &[u8],
-    edges: &[u8],
-    grid: Grid,
-    n: usize,
+    ground: &Ground,
     t: usize,
     a: usize,
     work: &mut [u32],
     out: &mut [u8],
     at: usize,
 ) -> usize
-    requires { Planned nodes.now edges.now grid n t a work.old × (at + back_size t a ≤ length out.old) × (a < 4294967296) }
-    ensures bytes { Wrote out.old at (back_bytes nodes.now edges.now grid n) result out.new }
-    ensures others { KeptFrom (region_at n transit) work.old work.new }
+    requires { Planned ground.now.nodes.now ground.now.edges.now ground.now.grid ground.now.n t a work.old
+        × (at + back_size t a ≤ length out.old) × (a < 4294967296) }
+    ensures bytes { Wrote out.old at (back_bytes ground.now.nodes.now ground.now.edges.now ground.now.grid ground.now.n) result out.new }
+    ensures others { KeptFrom (region_at ground.now.n transit) work.old work.new }
 {
-    let lists = put_transit(n, work, out, at);
-    let table = access_part(nodes, edges, grid, n, a, work, out, lists);
-    table_part(edges, n, t, work, out, table)
+    let lists = put_transit(ground.n, work, out, at);
+    let table = access_part(ground, a, work, out, lists);
+    table_part(ground.edges, ground.n, t, work, out, table)
 }
 
 // All of it. Answers where it ends.
 pub fn write_oracle(
     network: &[u8],
-    nodes: &[u8],
-    edges: &[u8],
-    grid: Grid,
+    ground: &Ground,
     dv: Division,
-    n: usize,
     t: usize,
     a: usize,
     work: &mut [u32],
     out: &mut [u8],
 ) -> usize
-    requires planned { Planned nodes.now edges.now grid n t a work.old
-        × (network_head + length nodes.now + length edges.now ≡ length network.now) }
+    requires planned { Planned ground.now.nodes.now ground.now.edges.now ground.now.grid ground.now.n t a work.old
+        × (network_head + length ground.now.nodes.now + length ground.now.edges.now ≡ length network.now) }
     requires a_in_bounds { (whole_size (length network.now) t a ≤ length out.old) × (whole_size (length network.now) t a < 4294967296) }
     ensures bytes { Wrote out.old 0 (front_bytes network.now dv
-        (sizes_in (length nodes.now) (length edges.now) t a) ++ back_bytes nodes.now
-        edges.now grid n) result out.new }
-    ensures others { KeptFrom (region_at n transit) work.old work.new }
+        (sizes_in (length ground.now.nodes.now) (length ground.now.edges.now) t a) ++ back_bytes ground.now.nodes.now
+        ground.now.edges.now ground.now.grid ground.now.n) result out.new }
+    ensures others { KeptFrom (region_at ground.now.n transit) work.old work.new }
 {
-    let sizes = head_sizes(nodes.len(), edges.len(), t, a);
+    let sizes = head_sizes(ground.nodes.len(), ground.edges.len(), t, a);
     let at = put_front(network, dv, sizes, out);
-    put_back(nodes, edges, grid, n, t, a, work, out, at)
+    put_back(ground, t, a, work, out, at)
 }

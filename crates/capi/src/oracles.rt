@@ -47,36 +47,38 @@ fn kind_number(kind: Kind) -> u32
     }
 }
 
-pub fn reply_of(a: Answer) -> Reply
-    ensures { result ≡ reply a }
-{
-    match a {
-        Answer::Time {
-            seconds,
-            hops,
-            kind,
-            pairs,
-        } => Reply {
-            rule: 0,
-            kind: kind_number(kind),
-            seconds,
-            hops,
-            pairs,
-        },
-        Answer::None { kind, pairs } => Reply {
-            rule: 0,
-            kind: kind_number(kind),
-            seconds: NO_SECONDS,
-            hops: NO_HOPS,
-            pairs,
-        },
-        Answer::Refused { rule } => Reply {
-            rule,
-            kind: 0,
-            seconds: 0,
-            hops: 0,
-            pairs: 0,
-        },
+impl From<Answer> for Reply {
+    ghost from_gives = { λ a r. r ≡ reply a };
+
+    fn from(a: Answer) -> Reply {
+        match a {
+            Answer::Time {
+                seconds,
+                hops,
+                kind,
+                pairs,
+            } => Reply {
+                rule: 0,
+                kind: kind_number(kind),
+                seconds,
+                hops,
+                pairs,
+            },
+            Answer::None { kind, pairs } => Reply {
+                rule: 0,
+                kind: kind_number(kind),
+                seconds: NO_SECONDS,
+                hops: NO_HOPS,
+                pairs,
+            },
+            Answer::Refused { rule } => Reply {
+                rule,
+                kind: 0,
+                seconds: 0,
+                hops: 0,
+                pairs: 0,
+            },
+        }
     }
 }
 
@@ -84,13 +86,13 @@ pub fn jukesogbi_time(o: &[u8], s: u32, t: u32, work: &mut [u32]) -> Reply
     ensures result { result ≡ reply (time_result o.now s t work.old) }
     ensures words { work.new ≡ work_after (time_refusal o.now s t work.old) o.now work.old }
 {
-    reply_of(calls::time(o, s, t, work))
+    Reply::from(calls::time(o, s, t, work))
 }
 
 pub fn jukesogbi_far(o: &[u8], s: u32, t: u32) -> Reply
     ensures { result ≡ reply (far_result o.now s t) }
 {
-    reply_of(calls::far(o, s, t))
+    Reply::from(calls::far(o, s, t))
 }
 
 pub fn jukesogbi_list_rule(o: &[u8], u: u32) -> u32

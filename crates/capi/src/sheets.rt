@@ -4,7 +4,7 @@ ghost use Rattle.model.specs.Calls.{work_after};
 ghost use Rattle.sheet.specs.SheetCalls.{time_under_refusal, time_under_result, WayUnderCall};
 ghost use Rattle.capi.specs.Replies.{reply};
 
-use crate::oracles::{Reply, reply_of};
+use crate::oracles::Reply;
 use model::Route;
 use under::calls;
 
@@ -13,7 +13,7 @@ pub fn jukesogbi_time_under(o: &[u8], sheet: &[u8], s: u32, t: u32, work: &mut [
     ensures words { work.new ≡ work_after (time_under_refusal o.now sheet.now s t work.old) o.now
         work.old }
 {
-    reply_of(calls::time_under(o, sheet, s, t, work))
+    Reply::from(calls::time_under(o, sheet, s, t, work))
 }
 
 pub fn jukesogbi_way_under(

@@ -1,12 +1,10 @@
 -- Lists of named nodes: rule 12, as the code tests it, and what it gives when it is kept. Assumes nothing.
-use Prim.Native.Nat.{ℕ, ◌+◌, ◌≤◌, ◌<◌}
+use Prim.Native.Nat.{ℕ, ◌<◌}
 use native.Mathlib.Omega.{arith}
-use native.Mathlib.Numerals.{add-one}
 use mathlib.Core.Path.{◌≡◌, refl, sym, ◌∙◌}
 use mathlib.Core.Bool.{Bool, true, false, ◌||◌}
 use mathlib.Core.List.{List, [], ◌∷◌, ◌++◌}
-use lib.ListN.{length, get_or, drop, drop_of_length-le}
-use lib.Seq.{drop-cons}
+use lib.ListN.{length, get_or}
 use lib.Dec.{leb}
 use borrow.Author.Tests.{leb-false}
 use Rattle.model.specs.Lists.{any}
@@ -18,25 +16,9 @@ use Rattle.theory.specs.Firsts.{counted, split}
 use Rattle.theory.specs.Members.{get_d_mem, none_any}
 use Rattle.theory.specs.Passed.{shape_counted, or-false}
 use Rattle.checks.specs.RuleLists.{named_rules}
-use Rattle.checks.proofs.RulesKept.{shaped}
+use Rattle.checks.proofs.RulesKept.{shaped, checked}
 
--- ---- a test of the elements of a list, one after the other
 module _ (p : ℕ → Bool) where
-  module _ (l : List ℕ) (i : ℕ) where
-    here : i < length l → any p (drop i l) ≡ p (get_or l i 0) || any p (drop (i + 1) l)
-    unfolding any
-    here h = rw (drop-cons l i 0 h, add-one i)
-
-    pub scan_found : i < length l → p (get_or l i 0) ≡ true → any p (drop i l) ≡ true
-    scan_found h e = rw (here h, e)
-
-    pub scan_passed : i < length l → p (get_or l i 0) ≡ false → any p (drop i l) ≡ any p (drop (i + 1) l)
-    scan_passed h e = rw (here h, e)
-
-    pub scan_end : length l ≤ i → any p (drop i l) ≡ false
-    unfolding any
-    scan_end h = rw (drop_of_length-le l {i = i} h)
-
   any_append : (a b : List ℕ) → any p (a ++ b) ≡ any p a || any p b
   unfolding any
   any_append [] b = refl
@@ -64,6 +46,9 @@ named_counted o names = refl
 module _ (o : Bytes) (starts ends : List ℕ) where
   pub two_lists : any (no_such_node o) (starts ++ ends) ≡ any (no_such_node o) starts || any (no_such_node o) ends
   two_lists = any_append (no_such_node o) starts ends
+
+-- What the checks of nodes that are named in lists need beside.
+pub ruleset named = (checked, some_missing, two_lists, named_counted)
 
 pub record NamedKept (o : Bytes) (starts ends : List ℕ) : Type 0 where
   pub shape : well_shaped o ≡ true

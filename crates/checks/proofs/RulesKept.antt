@@ -15,11 +15,15 @@ use Rattle.theory.specs.Firsts.{split}
 use Rattle.theory.specs.Passed.{shape_counted, or-false, all_shaped}
 use Rattle.theory.specs.Sound.{node_bytes}
 use Rattle.checks.specs.RuleLists.{room_rules}
-use Rattle.checks.proofs.CheckOrder.{last_kept}
+use Rattle.checks.proofs.CheckOrder.{last_kept, no_rule}
+use Rattle.reader.proofs.Order.{in_order}
 
 pub shaped : (o : Bytes) → first_broken (shape_rules o) ≡ 0 → well_shaped o ≡ true
 unfolding well_shaped
 shaped o e = eq-eqb (first_broken (shape_rules o)) 0 e
+
+-- What the checks of an oracle need, one after the other.
+pub ruleset checked = (in_order, shape_counted, pair_counted, no_rule, shaped)
 
 pub some_node : (o : Bytes) → well_shaped o ≡ true → 0 < node_count (node_body o)
 some_node o h = (node_bytes o (all_shaped o h).sound).1

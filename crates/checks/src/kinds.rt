@@ -38,11 +38,9 @@ pub fn kind_between(o: &[u8], s: usize, t: usize) -> Kind
     kind_in(o, grid_of(o), s, t)
 }
 
+#[tactic(auto, unfolding(model::specs::Rules::is_local))]
 pub fn is_local(k: Kind) -> bool
     ensures { result ≡ is_local k }
 {
-    match k {
-        Kind::Far => false,
-        Kind::Local => true,
-    }
+    matches!(k, Kind::Local)
 }

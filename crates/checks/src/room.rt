@@ -3,7 +3,6 @@ ghost use Rattle.std.specs.Prelude.{◌≡◌, true, ◌≤◌, length};
 ghost use Rattle.model.specs.Calls.{cleared};
 ghost use Rattle.model.specs.Rules.{well_shaped, work_too_small, words_needed};
 
-use bitset::words::fill;
 use reader::oracle::node_count;
 use words::regions::WORDS;
 
@@ -16,11 +15,12 @@ pub fn work_too_small(o: &[u8], words: usize) -> bool
 }
 
 // Sets the first k words to zero.
+#[tactic(auto, unfolding(model::specs::Calls::cleared))]
 pub fn zero_front(work: &mut [u32], k: usize)
     requires { k ≤ length work.old }
     ensures { work.new ≡ cleared k work.old }
 {
-    fill(&mut work[..k], 0);
+    work[..k].fill(0);
 }
 
 // Sets the words of the oracle's nodes to zero.

@@ -1,6 +1,7 @@
--- Stores of one byte after another are a splice. Assumes nothing.
-use Rattle.std.proofs.Common.{◌≡◌, ℕ, suc, ◌+◌, ◌/◌, ◌%◌, ◌≤◌, [], ◌∷◌, length, set, arith}
-use lib.Seq.{sets-eq}
+-- Bytes written over others are a splice. Assumes nothing.
+use Rattle.std.proofs.Common.{◌≡◌, ℕ, ◌+◌, ◌-◌, ◌/◌, ◌%◌, ◌≤◌, [], ◌∷◌, ◌++◌, length, take, drop, arith, ap, append_assoc}
+use lib.Seq.{drop-drop}
+use borrow.Rule.Slice.PartMut.{put_mid}
 use Rattle.model.specs.Bytes.{Bytes, bytes16, bytes32, bytes64, splice}
 use Rattle.theory.specs.FileLaws.{bytes_low, length_32}
 use Rattle.model.specs.Pair.{seconds_of, hops_of}
@@ -8,26 +9,35 @@ use Rattle.model.specs.Oracle.{seconds_size, value_size, value_bytes, decoded}
 use Rattle.theory.specs.Splices.{splice_then}
 use Rattle.theory.specs.ReadLaws.{value_bytes_law}
 
-pub write_2 : (b : Bytes) (i x : ℕ) → i + 2 ≤ length b → set (set b i (x % 256)) (i + 1) (x / 256 % 256) ≡ splice i (bytes16 x) b
-unfolding splice bytes16
-write_2 b i x h = let one : i + 1 ≡ suc i = omega arith in rw one (sets-eq (x % 256 ∷ x / 256 % 256 ∷ []) b i h)
+-- The bytes ys, put in the place of as many from i on.
+pub put_bytes : (b : Bytes) (i n : ℕ) (xs ys : Bytes) → xs ≡ ys → length ys ≡ n → put_mid i (i + n - i) b xs ≡ splice i ys b
+unfolding splice
+put_bytes b i n xs ys e h =
+    let size : i + n - i ≡ n = omega arith in
+    let past : i + length ys ≡ i + n = omega arith in
+    rw (size, e, past, append_assoc (take i b) ys (drop (i + n) b)) (ap (λ l. take i b ++ (ys ++ l)) (drop-drop n i b))
 
-pub write_4 : (b : Bytes) (i x : ℕ) → i + 4 ≤ length b
-    → set (set (set (set b i (x % 256)) (i + 1) (x / 256 % 256)) (i + 2) (x / 65536 % 256)) (i + 3) (x / 65536 / 256 % 256) ≡ splice i (bytes32 x) b
-unfolding splice bytes32 bytes16
-write_4 b i x h =
-    let one : i + 1 ≡ suc i = omega arith in
-    let two : i + 2 ≡ suc (suc i) = omega arith in
-    let three : i + 3 ≡ suc (suc (suc i)) = omega arith in
-    rw (one, two, three) (sets-eq (x % 256 ∷ x / 256 % 256 ∷ x / 65536 % 256 ∷ x / 65536 / 256 % 256 ∷ []) b i h)
+-- The bytes of a number as it is divided by their worth at once.
+pub bytes_16 : (x : ℕ) → (x % 65536) % 256 ∷ (x % 65536) / 256 % 256 ∷ [] ≡ bytes16 x
+unfolding bytes16
+bytes_16 x =
+    let low : (x % 65536) % 256 ≡ x % 256 = omega arith in
+    let high : (x % 65536) / 256 % 256 ≡ x / 256 % 256 = omega arith in
+    rw (low, high)
 
--- The low half and the high half.
-pub write_8 : (b : Bytes) (i x : ℕ) → i + 8 ≤ length b
-    → splice (i + 4) (bytes32 (x / 4294967296)) (splice i (bytes32 (x % 4294967296)) b) ≡ splice i (bytes64 x) b
-unfolding bytes64
-write_8 b i x h =
-    let e : i + 4 ≡ i + length (bytes32 x) = omega (arith, length_32 x) in
-    rw (bytes_low x, e) (splice_then b i (bytes32 x) (omega (arith, length_32 x)) (bytes32 (x / 4294967296)))
+pub bytes_32 : (x : ℕ) → x % 256 ∷ x / 256 % 256 ∷ x / 65536 % 256 ∷ x / 16777216 % 256 ∷ [] ≡ bytes32 x
+unfolding bytes32 bytes16
+bytes_32 x = let e : x / 16777216 % 256 ≡ x / 65536 / 256 % 256 = omega arith in rw e
+
+pub bytes_64 : (x : ℕ) → x % 256 ∷ x / 256 % 256 ∷ x / 65536 % 256 ∷ x / 16777216 % 256 ∷ x / 4294967296 % 256 ∷ x / 1099511627776 % 256
+    ∷ x / 281474976710656 % 256 ∷ x / 72057594037927936 % 256 ∷ [] ≡ bytes64 x
+unfolding bytes64 bytes32 bytes16
+bytes_64 x =
+    let three : x / 16777216 % 256 ≡ x / 65536 / 256 % 256 = omega arith in
+    let five : x / 1099511627776 % 256 ≡ x / 4294967296 / 256 % 256 = omega arith in
+    let six : x / 281474976710656 % 256 ≡ x / 4294967296 / 65536 % 256 = omega arith in
+    let seven : x / 72057594037927936 % 256 ≡ x / 4294967296 / 65536 / 256 % 256 = omega arith in
+    rw (three, five, six, seven)
 
 -- Seconds, and hops behind them.
 pub write_value : (b : Bytes) (i x : ℕ) → i + value_size ≤ length b

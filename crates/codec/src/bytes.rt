@@ -13,14 +13,14 @@ pub fn read16(b: &[u8], i: usize) -> u32
     requires { i + 2 ≤ length b.now }
     ensures { (result ≡ word16 b.now i) × (result < 65536) }
 {
-    byte(b, i) + 256 * byte(b, i + 1)
+    u32::from(u16::from_le_bytes([b[i], b[i + 1]]))
 }
 
 pub fn read32(b: &[u8], i: usize) -> u32
     requires { i + 4 ≤ length b.now }
     ensures { result ≡ word32 b.now i }
 {
-    read16(b, i) + 65536 * read16(b, i + 2)
+    u32::from_le_bytes([b[i], b[i + 1], b[i + 2], b[i + 3]])
 }
 
 // The low 16 bits of x.
@@ -28,24 +28,19 @@ pub fn write16(b: &mut [u8], i: usize, x: u32)
     requires { i + 2 ≤ length b.old }
     ensures { b.new ≡ splice i (bytes16 x) b.old }
 {
-    b[i] = (x % 256) as u8;
-    b[i + 1] = (x / 256 % 256) as u8;
+    b[i..i + 2].copy_from_slice(&((x % 65536) as u16).to_le_bytes());
 }
 
 pub fn write32(b: &mut [u8], i: usize, x: u32)
     requires { i + 4 ≤ length b.old }
     ensures { b.new ≡ splice i (bytes32 x) b.old }
 {
-    b[i] = (x % 256) as u8;
-    b[i + 1] = (x / 256 % 256) as u8;
-    b[i + 2] = (x / 65536 % 256) as u8;
-    b[i + 3] = (x / 65536 / 256 % 256) as u8;
+    b[i..i + 4].copy_from_slice(&x.to_le_bytes());
 }
 
 pub fn write64(b: &mut [u8], i: usize, x: u64)
     requires { i + 8 ≤ length b.old }
     ensures { b.new ≡ splice i (bytes64 x) b.old }
 {
-    write32(b, i, (x % 4294967296) as u32);
-    write32(b, i + 4, (x / 4294967296) as u32);
+    b[i..i + 8].copy_from_slice(&x.to_le_bytes());
 }

@@ -4,7 +4,7 @@ ghost use Rattle.model.specs.Pair.{hop_base, key, seconds_of, hops_of};
 ghost use Rattle.model.specs.Network.{edge, edge_size};
 ghost use Rattle.model.specs.Oracle.{no_walk};
 
-use crate::records::{HOP_BASE, edge_seconds};
+use crate::records::{Edge, HOP_BASE};
 
 pub fn key_of(seconds: u32, hops: u32) -> u64
     ensures { result ≡ key seconds hops }
@@ -30,5 +30,5 @@ pub fn edge_key(b: &[u8], i: usize) -> u64
     requires { edge_size * i + edge_size ≤ length b.now }
     ensures { (result ≡ key (edge b.now i).seconds 1) × (result ≤ no_walk) }
 {
-    key_of(edge_seconds(b, i), 1)
+    key_of(Edge::read(b, i).seconds, 1)
 }

@@ -59,39 +59,49 @@ fn shifted(raw: u32) -> u32
     std::num::wrapping_add_u32(raw, MAX_METRES)
 }
 
-pub fn node_x(b: &[u8], i: usize) -> u32
-    requires { node_size * i + node_size ≤ length b.now }
-    ensures { result ≡ (node b.now i).x }
-{
-    shifted(read32(b, NODE_SIZE * i))
+#[derive(Clone, Copy)]
+pub struct Node {
+    pub x: u32,
+    pub y: u32,
 }
 
-pub fn node_y(b: &[u8], i: usize) -> u32
-    requires { node_size * i + node_size ≤ length b.now }
-    ensures { result ≡ (node b.now i).y }
-{
-    shifted(read32(b, NODE_SIZE * i + COORDINATE_SIZE))
+impl Node {
+    // Node i of a nodes body.
+    pub fn read(b: &[u8], i: usize) -> Node
+        requires { node_size * i + node_size ≤ length b.now }
+        ensures x { result.x ≡ (node b.now i).x }
+        ensures y { result.y ≡ (node b.now i).y }
+    {
+        let at = NODE_SIZE * i;
+        Node {
+            x: shifted(read32(b, at)),
+            y: shifted(read32(b, at + COORDINATE_SIZE)),
+        }
+    }
 }
 
-pub fn edge_first(b: &[u8], i: usize) -> usize
-    requires { edge_size * i + edge_size ≤ length b.now }
-    ensures { (result ≡ (edge b.now i).first) × (result < 65536) }
-{
-    read16(b, EDGE_SIZE * i) as usize
+#[derive(Clone, Copy)]
+pub struct Edge {
+    pub first: usize,
+    pub second: usize,
+    pub seconds: u32,
 }
 
-pub fn edge_second(b: &[u8], i: usize) -> usize
-    requires { edge_size * i + edge_size ≤ length b.now }
-    ensures { (result ≡ (edge b.now i).second) × (result < 65536) }
-{
-    read16(b, EDGE_SIZE * i + END_SIZE) as usize
-}
-
-pub fn edge_seconds(b: &[u8], i: usize) -> u32
-    requires { edge_size * i + edge_size ≤ length b.now }
-    ensures { result ≡ (edge b.now i).seconds }
-{
-    read32(b, EDGE_SIZE * i + SECONDS_AT)
+impl Edge {
+    // Edge i of an edges body.
+    pub fn read(b: &[u8], i: usize) -> Edge
+        requires { edge_size * i + edge_size ≤ length b.now }
+        ensures first { (result.first ≡ (edge b.now i).first) × (result.first < 65536) }
+        ensures second { (result.second ≡ (edge b.now i).second) × (result.second < 65536) }
+        ensures seconds { result.seconds ≡ (edge b.now i).seconds }
+    {
+        let at = EDGE_SIZE * i;
+        Edge {
+            first: read16(b, at) as usize,
+            second: read16(b, at + END_SIZE) as usize,
+            seconds: read32(b, at + SECONDS_AT),
+        }
+    }
 }
 
 // Number i of a list of 16-bit numbers.

@@ -44,7 +44,8 @@ pub struct Entry {
     pub size: u32,
 }
 
-// The entries read so far, and where their bodies end, so where the next body is to start.
+// The entries read so far, and where their bodies end, so where the next body is to start. The count is no Option's: `read` says what was read of any file
+// (`contents_of`), also where it stopped.
 #[derive(Clone, Copy)]
 pub struct Contents {
     pub entries: [Entry; ORACLE_ENTRIES],
@@ -160,10 +161,8 @@ pub fn read(entries: usize, f: &[u8]) -> Contents
     ensures { result ≡ contents_of entries f.now }
 {
     let mut c = Contents::new(entries);
-    let mut i = 0;
-    while i < entries {
+    for i in 0..entries {
         c = c.next(f);
-        i += 1;
     }
     c
 }

@@ -2,8 +2,8 @@
 use Prim.Native.Nat.{ℕ, ◌*◌, ◌/◌, ◌%◌, ◌<◌, ◌≤◌}
 use native.Mathlib.Omega.{arith}
 use mathlib.Core.Path.{◌≡◌, refl, sym, ◌∙◌}
-use mathlib.Core.Bool.{Bool, true, false, not, ◌||◌}
-use mathlib.Core.List.{List, [], ◌∷◌}
+use mathlib.Core.Bool.{true, false, not, ◌||◌}
+use mathlib.Core.List.{List, []}
 use lib.Dec.{eqb, ltb, leb}
 use lib.ListN.{length, get_or, drop, length-take}
 use borrow.Author.Tests.{ltb-false, eqb-true}
@@ -11,13 +11,13 @@ use Rattle.model.specs.Lists.{any, rising}
 use Rattle.model.specs.Bytes.{Bytes, word16, word32, words16, cut, number_size}
 use Rattle.model.specs.Contents.{network_edition, network_entries, entry, entry_at, body_part, body, node_body, edge_body, closed_body}
 use Rattle.model.specs.Network.{node_size, edge_size, max_nodes, max_edges, node_count, edge_count, nodes_broken, edges_broken, numbers_broken}
-use Rattle.model.specs.Rules.{Rule, rule, first_broken, network_rules}
+use Rattle.model.specs.Rules.{Rule, first_broken, network_rules}
 use Rattle.model.specs.declared.Output.{Output}
-use Rattle.theory.specs.Firsts.{counted, passed, none, first_append, first_stays}
+use Rattle.theory.specs.Firsts.{counted, passed, none}
 use Rattle.theory.specs.Passed.{Sound, Rest, or-false, not-false, network_counted, network_passed}
 use Rattle.contents.specs.Reading.{contents_of, HasBodies}
 use Rattle.contents.specs.declared.Contents.{Contents}
-use Rattle.sheet.specs.Sheet.{lines_in, line_body, sheet_broken, names_none, names_broken}
+use Rattle.sheet.specs.Sheet.{line_body, sheet_broken}
 use Rattle.convert.specs.Old.{closed_in}
 use Rattle.convert.specs.Convert.{converted, convert_rules, convert_refusal, ConvertCall}
 use Rattle.convert.specs.Convert.{converted_sheet, convert_sheet_rules, convert_sheet_refusal, ConvertSheetCall}
@@ -80,24 +80,7 @@ module _ (f : Bytes) (k : ℕ) (e : k ≡ first_broken (old_rules f)) where
         same : converted f ≡ network_of nodes edges closed
         same = rw (p, q, s) (unfold converted network_of closed_in in refl)
 
--- ---- the sheet's call: rules 1 to 7, and then 18 and 19
-module _ (f sheet : Bytes) (k : ℕ) (e : k ≡ first_broken (old_rules f)) where
-  pub lines_sooner : (k ≡ 0 → ⊥) → k ≡ first_broken (lines_rules f sheet)
-  unfolding lines_rules
-  lines_sooner h = e ∙ sym (first_stays (old_rules f) _ (λ z. h (e ∙ z)))
-
-  pub lines_later : k ≡ 0 → {r : ℕ} → r ≡ first_broken (rule 18 (sheet_broken sheet) ∷ rule 19 (names_broken (edge_count (edge_body f)) sheet) ∷ [])
-      → r ≡ first_broken (lines_rules f sheet)
-  unfolding lines_rules
-  lines_later z q = q ∙ sym (first_append (old_rules f) _ (network_counted network_edition network_entries f) (sym e ∙ z))
-
--- The edges and the lines that were lent are those of the files.
-pub named_as : (f sheet : Bytes) {b lines : Bytes} {r x : Bool} → b ≡ edge_body f → lines ≡ line_body sheet
-    → r ≡ any (names_none (length b / edge_size)) (lines_in lines) → r ≡ x → names_broken (edge_count (edge_body f)) sheet ≡ x
-unfolding names_broken edge_count
-named_as f sheet p q e x = rw (← p, ← q) (sym e ∙ x)
-
--- `k` is the first of them that is broken.
+-- ---- the sheet's call: rules 1 to 7, and then 18 and 19; `k` is the first of them that is broken
 module _ (f sheet : Bytes) (k : ℕ) (e : k ≡ first_broken (lines_rules f sheet)) where
   lines_counted : counted (lines_rules f sheet) ≡ true
   unfolding counted lines_rules network_rules

@@ -13,9 +13,11 @@ use sheet::form::line_body;
 pub fn convert(f: &[u8], out: &mut [u8]) -> Output
     ensures { ConvertCall f.now out.old result out.new }
 {
-    let rule = old_refusal(f);
-    if rule != 0 {
-        return Output { rule, size: 0 };
+    if let Err(broken) = old_refusal(f) {
+        return Output {
+            rule: broken.number(),
+            size: 0,
+        };
     }
     let c = read(NETWORK_ENTRIES, f);
     leave_out(c.body(f, NODES), c.body(f, EDGES), c.body(f, CLOSED), out)
@@ -25,9 +27,11 @@ pub fn convert(f: &[u8], out: &mut [u8]) -> Output
 pub fn convert_sheet(f: &[u8], sheet: &[u8], out: &mut [u8]) -> Output
     ensures { ConvertSheetCall f.now sheet.now out.old result out.new }
 {
-    let rule = lines_refusal(f, sheet);
-    if rule != 0 {
-        return Output { rule, size: 0 };
+    if let Err(broken) = lines_refusal(f, sheet) {
+        return Output {
+            rule: broken.number(),
+            size: 0,
+        };
     }
     renumber(body_of(NETWORK_ENTRIES, f, CLOSED), line_body(sheet), out)
 }

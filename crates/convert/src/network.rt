@@ -46,10 +46,8 @@ fn write_edges(edges: &[u8], closed: &[u8], out: &mut [u8], at: usize) -> usize
 {
     let m = edges.len() / EDGE_SIZE;
     let mut end = at;
-    let mut i = 0;
-    while i < m {
+    for i in 0..m {
         end = write_edge(edges, closed, i, out, end);
-        i += 1;
     }
     end
 }

@@ -7,7 +7,7 @@ ghost use Rattle.convert.specs.Convert.{is_before};
 
 use codec::records::{NUMBER_SIZE, number};
 
-// How many stand before edge i, by a binary search.
+// How many stand before edge i, by a binary search. By hand: the library searches slices, and these are numbers of 16 bits in bytes.
 pub fn closed_before(closed: &[u8], i: usize) -> usize
     requires { rising (words16 closed.now) ≡ true }
     ensures { result ≡ length (filter (is_before i) (words16 closed.now)) }

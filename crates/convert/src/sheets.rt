@@ -59,10 +59,8 @@ fn write_lines(closed: &[u8], lines: &[u8], out: &mut [u8], at: usize) -> usize
 {
     let count = lines.len() / LINE_SIZE;
     let mut end = at;
-    let mut k = 0;
-    while k < count {
+    for k in 0..count {
         end = write_line(closed, lines, k, out, end);
-        k += 1;
     }
     end
 }
@@ -85,10 +83,8 @@ fn lines_left(closed: &[u8], lines: &[u8]) -> usize
 {
     let count = lines.len() / LINE_SIZE;
     let mut size = 0;
-    let mut k = 0;
-    while k < count {
+    for k in 0..count {
         size += line_left(closed, lines, k);
-        k += 1;
     }
     size
 }

@@ -31,12 +31,10 @@ pub fn first_of_cell(nodes: &[u8], grid: Grid, u: usize) -> bool
     ensures { result ≡ first_of_cell (cells_in grid nodes.now) u }
 {
     let square = cell_square(nodes, grid, u);
-    let mut v = 0;
-    while v < u {
+    for v in 0..u {
         if beside(nodes, square, v) {
             return false;
         }
-        v += 1;
     }
     true
 }

@@ -2,4 +2,5 @@
 #![tactic(auto)]
 
 pub mod cells;
+pub mod ground;
 pub mod square;

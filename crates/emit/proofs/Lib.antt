@@ -2,6 +2,7 @@
 pub mod Writing
 pub mod Pieces
 pub mod Comparing
+pub mod Taking
 pub mod Turns
 mod Indexes
 mod Offsets

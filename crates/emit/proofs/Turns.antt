@@ -12,7 +12,7 @@ use Rattle.bitset.specs.Bits.{is_in}
 use Rattle.bitset.specs.Members.{members_of}
 use Rattle.emit.specs.Members.{if_in}
 use Rattle.emit.specs.Records.{Wrote, begins, compared}
-use Rattle.emit.specs.declared.compare.Compared.TheVariants.{Same}
+use Rattle.std.specs.Prelude.{Some}
 use Rattle.emit.proofs.Writing.{Then}
 
 -- ---- one node: its record where the set has it
@@ -32,7 +32,7 @@ module _ (s : List ℕ) (v : ℕ) (old : Bytes) (at : ℕ) (bytes : Bytes) where
   unfolding if_in
   wrote_in m new e q p = record { ends = rw e q; spliced = rw e p }
 
-  pub compared_out : is_in s v ≡ false → Same at ≡ compared old at (if_in s v bytes)
+  pub compared_out : is_in s v ≡ false → Some at ≡ compared old at (if_in s v bytes)
   unfolding if_in compared begins
   compared_out e = let z : at + 0 ≡ at = omega arith in rw (e, z)
 
@@ -58,6 +58,15 @@ module _ (f : ℕ → Bytes) (s : List ℕ) (n : ℕ) where
       pick : (b : Bool) (l : List ℕ) → concat_map f (cond b (v ∷ l) l) ≡ cond b (f v) [] ++ concat_map f l
       pick true l = unfold concat_map in refl
       pick false l = refl
+
+  -- Node v has a record, or none.
+  pub member_in : (v : ℕ) → v < n → is_in s v ≡ true → Then (members_from f s n v) (f v) (members_from f s n (v + 1))
+  unfolding if_in
+  member_in v h e = rw e at (members_step v h)
+
+  pub member_out : (v : ℕ) → v < n → is_in s v ≡ false → members_from f s n v ≡ members_from f s n (v + 1)
+  unfolding if_in
+  member_out v h e = (rw e at (members_step v h)).is
 
   pub members_end : (v : ℕ) → n ≤ v → members_from f s n v ≡ []
   unfolding filter concat_map

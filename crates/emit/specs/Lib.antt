@@ -3,3 +3,5 @@ pub mod MemberLaws
 pub mod Parts
 pub mod PartLaws
 pub mod Records
+pub mod RecordLaws
+pub mod Sinks

@@ -1,8 +1,6 @@
 -- What writing a record at a position does, and what comparing one there tells. Assumes nothing.
-use Rattle.std.specs.Prelude.{ℕ, ◌+◌, ◌≡◌, Bool, true, false, ◌&&◌, cond, [], ◌∷◌, length, drop, eqb}
+use Rattle.std.specs.Prelude.{ℕ, ◌+◌, ◌≡◌, Bool, true, false, ◌&&◌, cond, Option, Some, None, [], ◌∷◌, length, drop, eqb}
 use Rattle.model.specs.Bytes.{Bytes, splice}
-use Rattle.emit.specs.declared.compare.Compared.{Compared}
-use Rattle.emit.specs.declared.compare.Compared.TheVariants.{Same, Differs}
 
 -- `new` is `old` with these bytes written over it at position `at`, which end at `end`.
 pub record Wrote (old : Bytes) (at : ℕ) (bytes : Bytes) (end : ℕ) (new : Bytes) : Type 0 where
@@ -15,6 +13,6 @@ begins [] b = true
 begins (x ∷ xs) [] = false
 begins (x ∷ xs) (y ∷ ys) = eqb y x && begins xs ys
 
--- What comparing b from position `at` on with these bytes tells.
-unfoldable pub compared : Bytes → ℕ → Bytes → Compared
-compared b at bytes = cond (begins bytes (drop at b)) (Same (at + length bytes)) Differs
+-- What comparing b from position `at` on with these bytes tells: where they end, if they stand there.
+unfoldable pub compared : Bytes → ℕ → Bytes → Option ℕ
+compared b at bytes = cond (begins bytes (drop at b)) (Some (at + length bytes)) None

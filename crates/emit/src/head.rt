@@ -30,10 +30,8 @@ pub fn write_head(edition: u32, sizes: &[u32], out: &mut [u8])
     out[0] = edition as u8;
     out[1] = entries as u8;
     let mut offset = entry_at(entries) as u32;
-    let mut k = 0;
-    while k < entries {
+    for k in 0..entries {
         write_entry(k, offset, sizes[k], out);
         offset += sizes[k];
-        k += 1;
     }
 }

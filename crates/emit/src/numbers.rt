@@ -1,29 +1,27 @@
 // Body 5: the members of a set as rising 16-bit numbers.
-ghost use Rattle.std.specs.Prelude.{◌≡◌, ◌+◌, ◌*◌, ◌/◌, ◌<◌, ◌≤◌, length};
+ghost use Rattle.std.specs.Prelude.{◌≡◌, ◌+◌, ◌*◌, ◌≤◌, length};
 ghost use Rattle.model.specs.Lists.{equal};
-ghost use Rattle.model.specs.Bytes.{bytes16, number_size};
+ghost use Rattle.model.specs.Bytes.{number_size};
 ghost use Rattle.model.specs.Network.{max_nodes};
-ghost use Rattle.bitset.specs.Bits.{word_bits};
 ghost use Rattle.bitset.specs.Members.{members_of, HasBits};
-ghost use Rattle.emit.specs.Members.{if_in};
 ghost use Rattle.emit.specs.Parts.{numbers_bytes};
-ghost use Rattle.emit.specs.Records.{Wrote, compared};
+ghost use Rattle.emit.specs.Records.{Wrote};
 
-use crate::compare::{Compared, same16};
+use crate::bytes::number_bytes;
+use crate::sink::{Checker, Sink, Writer};
 use bitset::bits::contains;
-use codec::bytes::write16;
-use codec::records::NUMBER_SIZE;
 
-// Writes v at `at`, where the set has v, and answers where that ends.
-fn write_number(set: &[u32], v: usize, out: &mut [u8], at: usize) -> usize
-    requires { (v < max_nodes) × (v / word_bits < length set.now) × (at + length (if_in set.now v (bytes16 v)) ≤ length out.old) }
-    ensures { Wrote out.old at (if_in set.now v (bytes16 v)) result out.new }
+// The members below n, to the sink.
+fn numbers<S: Sink>(n: usize, set: &[u32], to: &mut S) -> bool
+    requires { (n ≤ max_nodes) × HasBits n set.now × S.fits to.old (numbers_bytes (members_of n set.now)) }
+    ensures { S.took to.old (numbers_bytes (members_of n set.now)) result to.new }
 {
-    if !contains(set, v) {
-        return at;
+    for v in 0..n {
+        if contains(set, v) && !to.take(&number_bytes(v as u32)) {
+            return false;
+        }
     }
-    write16(out, at, v as u32);
-    at + NUMBER_SIZE
+    true
 }
 
 // Writes the members below n from `at` on, and answers where they end.
@@ -31,24 +29,9 @@ pub fn write_numbers(n: usize, set: &[u32], out: &mut [u8], at: usize) -> usize
     requires { (n ≤ max_nodes) × HasBits n set.now × (at + number_size * length (members_of n set.now) ≤ length out.old) }
     ensures { Wrote out.old at (numbers_bytes (members_of n set.now)) result out.new }
 {
-    let mut end = at;
-    let mut v = 0;
-    while v < n {
-        end = write_number(set, v, out, end);
-        v += 1;
-    }
-    end
-}
-
-// Compares u with what stands at `at`, where the set has u.
-fn same_number(set: &[u32], u: usize, b: &[u8], at: usize) -> Compared
-    requires { (u < max_nodes) × (u / word_bits < length set.now) × (at ≤ length b.now) }
-    ensures { result ≡ compared b.now at (if_in set.now u (bytes16 u)) }
-{
-    if !contains(set, u) {
-        return Compared::Same(at);
-    }
-    same16(b, at, u as u32)
+    let mut writer = Writer { out, at };
+    numbers(n, set, &mut writer);
+    writer.at
 }
 
 // Whether b, of any length, is those members.
@@ -56,14 +39,6 @@ pub fn same_numbers(n: usize, set: &[u32], b: &[u8]) -> bool
     requires { (n ≤ max_nodes) × HasBits n set.now }
     ensures { result ≡ equal b.now (numbers_bytes (members_of n set.now)) }
 {
-    let mut at = 0;
-    let mut u = 0;
-    while u < n {
-        let Compared::Same(next) = same_number(set, u, b, at) else {
-            return false;
-        };
-        at = next;
-        u += 1;
-    }
-    at == b.len()
+    let mut checker = Checker { stands: b, at: 0 };
+    numbers(n, set, &mut checker) && checker.at == b.len()
 }

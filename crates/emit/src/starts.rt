@@ -14,10 +14,8 @@ pub fn write_starts(counts: &[u32], n: usize, out: &mut [u8])
     ensures { out.new ≡ starts_of (start_size * n) (list_sizes n counts.now) }
 {
     let mut start = START_SIZE * n;
-    let mut v = 0;
-    while v < n {
+    for v in 0..n {
         write32(out, START_SIZE * v, start as u32);
         start += list_size(half_of(counts, v));
-        v += 1;
     }
 }

@@ -1,5 +1,5 @@
 -- What acceptance says of the coordinates: each lies from the least to the greatest, and these are 2,000,000 apart at most. Assumes nothing.
-use Rattle.std.proofs.Common.{◌≡◌, ℕ, ◌%◌, ◌<◌, ◌≤◌, max, Bool, true, false, not, ◌||◌, eqb, ltb, List, [], ◌∷◌, length, refl, arith, ltb-false}
+use Rattle.std.proofs.Common.{◌≡◌, ℕ, ◌%◌, ◌<◌, ◌≤◌, max, Bool, false, not, ◌||◌, eqb, ltb, List, [], ◌∷◌, length, refl, arith, ltb-false}
 use mathlib.Core.List.{Memᴰ}
 use Rattle.model.specs.Lists.{up_to, greatest_of, least, greatest}
 use Rattle.model.specs.Bytes.{Bytes}
@@ -8,6 +8,8 @@ use Rattle.theory.specs.Passed.{or-false}
 use Rattle.theory.specs.Extremes.{least_le, greatest_ge}
 use Rattle.theory.specs.Members.{none_any, map→, →map, →up_to}
 use Rattle.grid.specs.Stored.{along, max_spread}
+use Rattle.grid.specs.declared.span.Axis.{Axis}
+use Rattle.grid.specs.declared.span.Axis.TheVariants.{X, Y}
 use Rattle.grid.proofs.Spans.{every}
 
 greatest_most : (k x : ℕ) (l : List ℕ) → x ≤ k → ((y : ℕ) → Memᴰ y l → y ≤ k) → greatest_of x l ≤ k
@@ -29,7 +31,7 @@ some_node b ok =
     let p = or-false (odd || ltb (node_count b) 1) (ltb max_nodes (node_count b)) ok in
     ltb-false (node_count b) 1 (or-false odd (ltb (node_count b) 1) p.0).1
 
-module _ (d : Bool) (b : Bytes) where
+module _ (d : Axis) (b : Bytes) where
   pub in_every : (i : ℕ) → i < node_count b → Memᴰ (along d (node b i)) (every d b)
   unfolding nodes
   in_every i h = →map (along d) (nodes b) (→map (node b) (up_to (node_count b)) (→up_to (node_count b) i h))
@@ -41,9 +43,9 @@ module _ (d : Bool) (b : Bytes) where
   unfolding node_broken
   node_most v h = step d (or-false (ltb max_spread v.x) (ltb max_spread v.y) h)
     where
-      step : (d : Bool) → (ltb max_spread v.x ≡ false) × (ltb max_spread v.y ≡ false) → along d v ≤ max_spread
-      step false p = ltb-false max_spread v.x p.0
-      step true p = ltb-false max_spread v.y p.1
+      step : (d : Axis) → (ltb max_spread v.x ≡ false) × (ltb max_spread v.y ≡ false) → along d v ≤ max_spread
+      step X p = ltb-false max_spread v.x p.0
+      step Y p = ltb-false max_spread v.y p.1
 
   pub every_most : coordinates_broken b ≡ false → greatest (every d b) ≤ max_spread
   unfolding coordinates_broken

@@ -13,6 +13,8 @@ use Rattle.theory.specs.Passed.{or-false}
 use Rattle.theory.specs.Extremes.{least_le, greatest_ge}
 use Rattle.grid.specs.Stored.{grid_of, division_of, along, origin, Over, InSpan, max_spread}
 use Rattle.grid.specs.declared.Grid.{Grid}
+use Rattle.grid.specs.declared.span.Axis.{Axis}
+use Rattle.grid.specs.declared.span.Axis.TheVariants.{X, Y}
 use Rattle.grid.proofs.Spans.{every}
 use Rattle.grid.proofs.Bounds.{in_every, every_most}
 
@@ -37,21 +39,21 @@ over_made r b dv e n c k =
     record { made = subst (λ (d : Division). grid_of r ≡ grid_over d (nodes b)) (sym q) e; nodes_rule = n; coordinates = c; grid_rule = rw p k }
 
 module _ {r : Grid} {b : Bytes} (over : Over r b) where
-  starts : (d : Bool) → origin d r ≡ least (every d b)
+  starts : (d : Axis) → origin d r ≡ least (every d b)
   unfolding grid_over
-  starts false = ap (λ (m : model.Grid). m.left) over.made
-  starts true = ap (λ (m : model.Grid). m.bottom) over.made
+  starts X = ap (λ (m : model.Grid). m.left) over.made
+  starts Y = ap (λ (m : model.Grid). m.bottom) over.made
 
-  spreads : r.spread ≡ max (greatest (every false b) - least (every false b)) (greatest (every true b) - least (every true b))
+  spreads : r.spread ≡ max (greatest (every X b) - least (every X b)) (greatest (every Y b) - least (every Y b))
   unfolding grid_over
   spreads = ap (λ (m : model.Grid). m.spread) over.made
 
-  pub holds : (d : Bool) (i : ℕ) → i < node_count b → InSpan r (origin d r) (along d (node b i))
+  pub holds : (d : Axis) (i : ℕ) → i < node_count b → InSpan r (origin d r) (along d (node b i))
   holds d i h = record {
     least = omega (arith, starts d, mid);
     most = omega (arith, starts d, mid, wide d);
     narrow =
-        omega (arith, spreads, every_most false b over.coordinates, every_most true b over.coordinates);
+        omega (arith, spreads, every_most X b over.coordinates, every_most Y b over.coordinates);
     some = bounds.0;
     few = bounds.1;
   }
@@ -62,9 +64,9 @@ module _ {r : Grid} {b : Bytes} (over : Over r b) where
       mid : (least (every d b) ≤ along d (node b i)) × (along d (node b i) ≤ greatest (every d b))
       mid = (least_le (every d b) (in_every d b i h), greatest_ge (every d b) (in_every d b i h))
 
-      wide : (d : Bool) → greatest (every d b) - least (every d b) ≤ r.spread
-      wide false = omega (arith, spreads)
-      wide true = omega (arith, spreads)
+      wide : (d : Axis) → greatest (every d b) - least (every d b) ≤ r.spread
+      wide X = omega (arith, spreads)
+      wide Y = omega (arith, spreads)
 
 -- ---- the cell of a node, by the list of cells
 

@@ -1,5 +1,5 @@
 -- A node lies in a square of cells exactly where the square's coordinates reach over it. Assumes nothing.
-use Rattle.std.proofs.Common.{◌≡◌, ℕ, suc, ◌+◌, ◌-◌, ◌*◌, ◌/◌, ◌%◌, ◌<◌, ◌≤◌, min, Bool, true, false, leb, ◌↔◌, suc-mul, mul_comm, div-lt_iff_lt-mul, mul-le-mul, le-div_iff_mul-le, div-mul-le_self, arith, ltb-true, lt-ltb, le-leb, leb-true}
+use Rattle.std.proofs.Common.{◌≡◌, ℕ, suc, ◌+◌, ◌-◌, ◌*◌, ◌/◌, ◌%◌, ◌<◌, ◌≤◌, min, leb, ◌↔◌, suc-mul, mul_comm, div-lt_iff_lt-mul, mul-le-mul, le-div_iff_mul-le, div-mul-le_self, arith, ltb-true, lt-ltb, le-leb, leb-true}
 use Rattle.model.specs.Bytes.{Bytes}
 use Rattle.model.specs.Network.{node, node_count}
 use Rattle.model.specs.Grid as model
@@ -9,6 +9,8 @@ use Rattle.theory.specs.Extremes.{greatest_ge}
 use Rattle.theory.specs.GridLaws.{index_below}
 use Rattle.grid.specs.Stored.{grid_of, origin, Over, InSpan, max_spread}
 use Rattle.grid.specs.Squares.{Bounded, SquareOf, start_of, reaches, reaches_node}
+use Rattle.grid.specs.declared.span.Axis.{Axis}
+use Rattle.grid.specs.declared.span.Axis.TheVariants.{X, Y}
 use Rattle.grid.specs.declared.Grid.{Grid}
 use Rattle.grid.specs.declared.square.Square.{Square}
 use Rattle.grid.proofs.Spans.{every}
@@ -95,7 +97,7 @@ module _ (r : Grid) (b : Bounded r) where
 -- ---- an accepted network
 
 module _ {r : Grid} {b : Bytes} (over : Over r b) where
-  origin_most : (d : Bool) → origin d r ≤ max_spread
+  origin_most : (d : Axis) → origin d r ≤ max_spread
   origin_most d =
       let h = some_node b over.nodes_rule in
       omega (arith, (holds over d 0 h).least, greatest_ge (every d b) (in_every d b 0 h), every_most d b over.coordinates)
@@ -103,8 +105,8 @@ module _ {r : Grid} {b : Bytes} (over : Over r b) where
   -- The bounds of a grid over accepted nodes.
   pub bounded : Bounded r
   bounded =
-      let p = holds over false 0 (some_node b over.nodes_rule) in
-      record { some = p.some; few = p.few; narrow = p.narrow; left = origin_most false; bottom = origin_most true }
+      let p = holds over X 0 (some_node b over.nodes_rule) in
+      record { some = p.some; few = p.few; narrow = p.narrow; left = origin_most X; bottom = origin_most Y }
 
   pub has_within : (c : model.Cell) (k : ℕ) (s : Square) → SquareOf r c k s → (v : ℕ) → v < node_count b
       → reaches_node s (node b v) ≡ within k c (cell_of (grid_of r) (node b v))
@@ -115,6 +117,6 @@ module _ {r : Grid} {b : Bytes} (over : Over r b) where
         q.width,
         q.bottom,
         q.height,
-        reached r bounded r.left (node b v).x (holds over false v h) c.column k bounded.left,
-        reached r bounded r.bottom (node b v).y (holds over true v h) c.row k bounded.bottom,
+        reached r bounded r.left (node b v).x (holds over X v h) c.column k bounded.left,
+        reached r bounded r.bottom (node b v).y (holds over Y v h) c.row k bounded.bottom,
       )

@@ -1,11 +1,13 @@
 -- What the grid and the cells of the code stand for in the model, and which grids cells are worked out by. Assumes nothing.
-use Rattle.std.specs.Prelude.{◌≡◌, ℕ, ◌+◌, ◌-◌, ◌<◌, ◌≤◌, Bool, true, false}
+use Rattle.std.specs.Prelude.{◌≡◌, ℕ, ◌+◌, ◌-◌, ◌<◌, ◌≤◌, false}
 use Rattle.model.specs.Bytes.{Bytes}
 use Rattle.model.specs.Network.{Node, nodes, max_metres, nodes_broken, coordinates_broken}
 use Rattle.model.specs.Grid as model
 use Rattle.model.specs.declared.Division.{Division}
 use Rattle.grid.specs.declared.Grid.{Grid}
 use Rattle.grid.specs.declared.Cell.{Cell}
+use Rattle.grid.specs.declared.span.Axis.{Axis}
+use Rattle.grid.specs.declared.span.Axis.TheVariants.{X, Y}
 
 -- The radii are the constants of the code's grid.
 abbrev pub grid_of : Grid → model.Grid
@@ -19,13 +21,13 @@ abbrev pub model_cell : Cell → model.Cell
 model_cell c = record { column = c.column; row = c.row }
 
 -- The coordinate of a node in one direction, and where the grid begins in that direction.
-abbrev pub along : Bool → Node → ℕ
-along false v = v.x
-along true v = v.y
+abbrev pub along : Axis → Node → ℕ
+along X v = v.x
+along Y v = v.y
 
-abbrev pub origin : Bool → Grid → ℕ
-origin false r = r.left
-origin true r = r.bottom
+abbrev pub origin : Axis → Grid → ℕ
+origin X r = r.left
+origin Y r = r.bottom
 
 -- The grid is the one over the nodes body b, under its own division, and no rule about the two is broken.
 pub record Over (r : Grid) (b : Bytes) : Type 0 where

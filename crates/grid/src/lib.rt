@@ -1,15 +1,15 @@
 // The grid over the nodes: the cell of each node, the squares about a cell, and which cells are far.
 #![tactic(auto)]
 
-ghost use Rattle.std.specs.Prelude.{◌≡◌, ◌+◌, ◌-◌, ◌<◌, ◌≤◌, min, false, not};
+ghost use Rattle.std.specs.Prelude.{◌≡◌, ◌+◌, ◌-◌, ◌<◌, ◌≤◌, false, not};
 ghost use Rattle.model.specs.Network.{node, nodes, node_count, nodes_broken};
-ghost use Rattle.model.specs.Grid.{grid_over, cell_index, cell_of, gap, within, kind_of};
+ghost use Rattle.model.specs.Grid.{grid_over, cell_index, cell_of, within, kind_of};
 ghost use Rattle.grid.specs.Stored.{grid_of, model_cell, Over, InSpan};
 ghost use Rattle.grid.specs.Squares.{Bounded, SquareOf, start_of};
 
-use crate::span::{Span, larger};
+use crate::span::{Axis, Span};
 use crate::square::Square;
-use codec::records::{node_x, node_y};
+use codec::records::Node;
 use model::{Division, Kind};
 
 mod span;
@@ -30,27 +30,6 @@ pub struct Cell {
     pub row: u32,
 }
 
-// By how much two columns or two rows differ.
-fn difference(x: u32, y: u32) -> u32
-    ensures { result ≡ gap x y }
-{
-    if x < y { y - x } else { x - y }
-}
-
-// The smaller of k and g.
-fn cut(k: u64, g: u32) -> u32
-    ensures { result ≡ min k g }
-{
-    if k < g as u64 { k as u32 } else { g }
-}
-
-// x less y, and no less than 0.
-fn less(x: u32, y: u32) -> u64
-    ensures { result ≡ x - y }
-{
-    if y < x { (x - y) as u64 } else { 0 }
-}
-
 impl Grid {
     // The radii of the squares of 5 × 5 and of 9 × 9 cells about a cell.
     pub const INNER: u32 = 2;
@@ -61,11 +40,11 @@ impl Grid {
         requires { nodes_broken b.now ≡ false }
         ensures { grid_of result ≡ grid_over dv (nodes b.now) }
     {
-        let across = Span::over(b, false);
-        let up = Span::over(b, true);
+        let across = Span::over(b, Axis::X);
+        let up = Span::over(b, Axis::Y);
         let left = across.low;
         let bottom = up.low;
-        let spread = larger(across.high - left, up.high - bottom);
+        let spread = (across.high - left).max(up.high - bottom);
         Grid {
             g: dv.g,
             left,
@@ -100,11 +79,10 @@ impl Grid {
         requires { Over self b.now × (i < node_count b.now) }
         ensures { model_cell result ≡ cell_of (grid_of self) (node b.now i) }
     {
-        let x = node_x(b, i);
-        let y = node_y(b, i);
+        let node = Node::read(b, i);
         Cell {
-            column: self.column(x),
-            row: self.row(y),
+            column: self.column(node.x),
+            row: self.row(node.y),
         }
     }
 
@@ -113,7 +91,8 @@ impl Grid {
         requires { Bounded self }
         ensures { (result ≡ start_of self k) × (result ≤ self.spread + 1) }
     {
-        (cut(k, self.g) * (self.spread + 1) + (self.g - 1)) / self.g
+        let k = k.min(u64::from(self.g)) as u32;
+        (k * (self.spread + 1) + (self.g - 1)) / self.g
     }
 
     // From where on, and up to where, the cells lie whose index differs from k by r at most.
@@ -122,8 +101,8 @@ impl Grid {
         ensures { (result.low ≡ start_of self (k - r)) × (result.high ≡ start_of self (k + r + 1)) × (result.low ≤ result.high) × (result.high ≤ self.spread + 1) }
     {
         Span {
-            low: self.start(less(k, r)),
-            high: self.start(k as u64 + r as u64 + 1),
+            low: self.start(u64::from(k.saturating_sub(r))),
+            high: self.start(u64::from(k) + u64::from(r) + 1),
         }
     }
 
@@ -142,7 +121,8 @@ impl Grid {
         }
     }
 
-    // The squares about the cell c that document 01 names inner and outer.
+    // The squares about the cell c that document 01 names inner and outer. Two functions, since each contract ties one constant above to the definitions'
+    // radius.
     pub fn inner_square(self, c: Cell) -> Square
         requires { Bounded self }
         ensures { SquareOf self (model_cell c) (grid_of self).inner result }
@@ -161,7 +141,7 @@ impl Grid {
     fn within(r: u32, c: Cell, e: Cell) -> bool
         ensures { result ≡ within r (model_cell c) (model_cell e) }
     {
-        difference(e.column, c.column) <= r && difference(e.row, c.row) <= r
+        e.column.abs_diff(c.column) <= r && e.row.abs_diff(c.row) <= r
     }
 
     // The cells c and e are far.

@@ -4,7 +4,7 @@ ghost use Rattle.model.specs.Lists.{least, greatest};
 ghost use Rattle.model.specs.Network.{node, nodes, node_size, nodes_broken};
 ghost use Rattle.grid.specs.Stored.{along};
 
-use codec::records::{NODE_SIZE, node_x, node_y};
+use codec::records::{NODE_SIZE, Node};
 
 #[derive(Clone, Copy)]
 pub struct Span {
@@ -12,24 +12,23 @@ pub struct Span {
     pub high: u32,
 }
 
-fn smaller(x: u32, y: u32) -> u32
-    ensures { result ≡ min x y }
-{
-    if x < y { x } else { y }
+// The direction of a coordinate.
+#[derive(Clone, Copy, PartialEq, Eq)]
+pub enum Axis {
+    X,
+    Y,
 }
 
-pub fn larger(x: u32, y: u32) -> u32
-    ensures { result ≡ max x y }
-{
-    if x < y { y } else { x }
-}
-
-// The y of node i, or its x.
-fn coordinate(b: &[u8], i: usize, vertical: bool) -> u32
+// The coordinate of node i in one direction.
+fn coordinate(b: &[u8], i: usize, axis: Axis) -> u32
     requires { node_size * i + node_size ≤ length b.now }
-    ensures { result ≡ along vertical (node b.now i) }
+    ensures { result ≡ along axis (node b.now i) }
 {
-    if vertical { node_y(b, i) } else { node_x(b, i) }
+    let node = Node::read(b, i);
+    match axis {
+        Axis::X => node.x,
+        Axis::Y => node.y,
+    }
 }
 
 impl Span {
@@ -37,26 +36,23 @@ impl Span {
         ensures { (result.low ≡ min self.low x) × (result.high ≡ max self.high x) }
     {
         Span {
-            low: smaller(self.low, x),
-            high: larger(self.high, x),
+            low: self.low.min(x),
+            high: self.high.max(x),
         }
     }
 
-    pub fn over(b: &[u8], vertical: bool) -> Span
+    pub fn over(b: &[u8], axis: Axis) -> Span
         requires { nodes_broken b.now ≡ false }
-        ensures { (result.low ≡ least (map (along vertical) (nodes b.now)))
-            × (result.high ≡ greatest (map (along vertical) (nodes b.now))) }
+        ensures { (result.low ≡ least (map (along axis) (nodes b.now)))
+            × (result.high ≡ greatest (map (along axis) (nodes b.now))) }
     {
-        let n = b.len() / NODE_SIZE;
-        let first = coordinate(b, 0, vertical);
+        let first = coordinate(b, 0, axis);
         let mut s = Span {
             low: first,
             high: first,
         };
-        let mut i = 1;
-        while i < n {
-            s = s.with(coordinate(b, i, vertical));
-            i += 1;
+        for i in 1..b.len() / NODE_SIZE {
+            s = s.with(coordinate(b, i, axis));
         }
         s
     }

@@ -3,7 +3,7 @@ ghost use Rattle.std.specs.Prelude.{◌≡◌, ◌+◌, ◌*◌, ◌≤◌, leng
 ghost use Rattle.model.specs.Network.{node, node_size};
 ghost use Rattle.grid.specs.Squares.{reaches, reaches_node};
 
-use codec::records::{node_x, node_y};
+use codec::records::Node;
 
 // The coordinates from `left` on, `width` of them, and from `bottom` on, `height` of them.
 #[derive(Clone, Copy)]
@@ -27,8 +27,9 @@ impl Square {
         requires { node_size * v + node_size ≤ length nodes.now }
         ensures { result ≡ reaches_node self (node nodes.now v) }
     {
-        let across = inside(self.left, self.width, node_x(nodes, v));
-        let up = inside(self.bottom, self.height, node_y(nodes, v));
+        let node = Node::read(nodes, v);
+        let across = inside(self.left, self.width, node.x);
+        let up = inside(self.bottom, self.height, node.y);
         across & up
     }
 }

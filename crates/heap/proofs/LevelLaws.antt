@@ -1,13 +1,9 @@
 -- 12 levels are enough for 4,096 positions: a level up halves the position, and a level down doubles it. Assumes nothing.
-use Prim.Native.Nat.{ℕ, zero, suc, ◌+◌, ◌-◌, ◌≤◌, ◌<◌}
+use Prim.Native.Nat.{ℕ, suc, ◌+◌, ◌-◌, ◌≤◌, ◌<◌}
 use native.Mathlib.Omega.{arith}
 use mathlib.Core.Path.{◌≡◌}
 use Rattle.model.specs.Network.{max_nodes}
-use Rattle.heap.specs.Levels.{max_levels}
-
-unfoldable pub doubled : ℕ → ℕ
-doubled zero = 1
-doubled (suc n) = doubled n + doubled n
+use Rattle.heap.specs.Levels.{max_levels, doubled}
 
 pub level_top : (n i : ℕ) → n ≤ max_nodes → i < n → i < doubled (max_levels - 0)
 unfolding doubled

@@ -12,10 +12,11 @@ use mir.Val.{bool_byte}
 use lib.Dec.{ltb}
 use Rattle.heap.specs.Words.{Positioned, key, swapped}
 use Rattle.heap.specs.Order.{Below, Ordered, OrderedUp, OrderedDown, Lesser}
-use Rattle.heap.specs.Levels.{max_levels, Up, Down, Passes, stays, passes}
+use Rattle.model.specs.Network.{max_nodes}
+use Rattle.heap.specs.Levels.{max_levels, Up, Down, Rises, Sinks, Passes, stays, passes}
 use Rattle.heap.specs.Sifts.{Rearranged, Level, Sifted}
 use Rattle.heap.proofs.OrderLaws.{Exchanged, up_root, up_done, up_step, down_leaf, down_done, down_step}
-use Rattle.heap.proofs.LevelLaws.{doubled, level_top, level_up, level_end, level_first, level_down, level_leaf}
+use Rattle.heap.proofs.LevelLaws.{level_up, level_end, level_down, level_leaf}
 use Rattle.heap.proofs.SwapLaws.{Swapped, swap_is, swap_kept, swap_keys, kept_refl, kept_then}
 
 -- A comparison as a number.
@@ -124,67 +125,42 @@ module _ (n k : ℕ) (On : ℕ → ℕ → Type 0) (Partly : ℕ → ℕ → (�
     stopped : level ≤ max_levels → (w' : List ℕ) (r : ℕ) → Level n k On Partly i w w' r → r ≡ i → Sifted n k On from w₀ w'
     stopped h w' r t e = let d = t.done e in subst (Sifted n k On from w₀) (sym d.1) (ended h (subst (λ (l : List ℕ). Ordered k (key n l)) d.1 d.0))
 
--- ---- upwards the position halves
-pub record Rising (n k from : ℕ) (w₀ w : List ℕ) (i level : ℕ) : Type 0 where
-  pub going : Going n k Up OrderedUp from w₀ w i level
-  pub inside : i < k
-  pub low : i < doubled (max_levels - level)
+-- ---- what the loop keeps, with where the way may stand
+pub record Sifting (n k : ℕ) (On : ℕ → ℕ → Type 0) (Partly : ℕ → ℕ → (ℕ → ℕ) → Type 0) (Stands : ℕ → ℕ → ℕ → Type 0) (from : ℕ) (w₀ w : List ℕ) (i level : ℕ) :
+    Type 0 where
+  pub going : Going n k On Partly from w₀ w i level
+  pub stands : Stands k level i
   pub last : level ≤ max_levels
 
-module _ (n k from : ℕ) (w₀ : List ℕ) where
-  pub rising_first : Positioned n w₀ → k ≤ n → from < k → OrderedUp k from (key n w₀) → Rising n k from w₀ w₀ from 0
-  rising_first p h l u = record {
-    going = going_first n k Up OrderedUp from w₀ p u;
-    inside = l;
-    low = level_top n from p.few (omega arith);
-    last = omega
-        arith;
-  }
+module _ (n k : ℕ) (On : ℕ → ℕ → Type 0) (Partly : ℕ → ℕ → (ℕ → ℕ) → Type 0) (Stands : ℕ → ℕ → ℕ → Type 0) (from : ℕ) (w₀ : List ℕ) where
+  pub sifting_first : Positioned n w₀ → Partly k from (key n w₀) → Stands k 0 from → Sifting n k On Partly Stands from w₀ w₀ from 0
+  sifting_first p u s = record { going = going_first n k On Partly from w₀ p u; stands = s; last = omega arith }
 
-  module _ (w : List ℕ) (i level : ℕ) (s : Rising n k from w₀ w i level) where
-    pub rising_turn : level < max_levels → (w' : List ℕ) (r : ℕ) → Level n k Up OrderedUp i w w' r → (r ≡ i → ⊥) → Rising n k from w₀ w' r (level + 1)
-    rising_turn h w' r t m =
+  module _ (w : List ℕ) (i level : ℕ) (s : Sifting n k On Partly Stands from w₀ w i level) where
+    pub sifting_turn : ((level i r : ℕ) → level < max_levels → Stands k level i → On i r → r < k → Stands k (level + 1) r) → level < max_levels
+        → (w' : List ℕ) (r : ℕ) → Level n k On Partly i w w' r → (r ≡ i → ⊥) → Sifting n k On Partly Stands from w₀ w' r (level + 1)
+    sifting_turn turns h w' r t m =
         let d = t.moved m in
-        record {
-          going = going_turn n k Up OrderedUp from w₀ w i level s.going w' r t m;
-          inside = d.1;
-          low = level_up level i r h s.low d.0.0;
-          last =
-              omega arith;
-        }
+        record { going = going_turn n k On Partly from w₀ w i level s.going w' r t m; stands = turns level i r h s.stands d.0 d.1; last = omega arith }
 
-    pub rising_stop : (w' : List ℕ) (r : ℕ) → Level n k Up OrderedUp i w w' r → r ≡ i → Sifted n k Up from w₀ w'
-    rising_stop = stopped n k Up OrderedUp from w₀ w i level s.going s.last
+    pub sifting_stop : (w' : List ℕ) (r : ℕ) → Level n k On Partly i w w' r → r ≡ i → Sifted n k On from w₀ w'
+    sifting_stop = stopped n k On Partly from w₀ w i level s.going s.last
 
-    pub rising_end : max_levels ≤ level → Sifted n k Up from w₀ w
-    rising_end h = ended n k Up OrderedUp from w₀ w i level s.going s.last (up_root k (key n w) i (level_end level i h s.low) s.going.order)
+    pub sifting_end : ((i : ℕ) (key : ℕ → ℕ) → Stands k max_levels i → Partly k i key → Ordered k key) → max_levels ≤ level → Sifted n k On from w₀ w
+    sifting_end ends h =
+        let e : level ≡ max_levels = omega (arith, s.last) in
+        ended n k On Partly from w₀ w i level s.going s.last (ends i (key n w) (subst (λ (l : ℕ). Stands k l i) e s.stands) s.going.order)
+
+-- ---- upwards the position halves
+pub rises_turn : (k level i r : ℕ) → level < max_levels → Rises k level i → Up i r → r < k → Rises k (level + 1) r
+rises_turn k level i r h s b l = (l, level_up level i r h s.1 b.0)
+
+pub rises_end : (k i : ℕ) (key : ℕ → ℕ) → Rises k max_levels i → OrderedUp k i key → Ordered k key
+rises_end k i key s o = up_root k key i (level_end max_levels i (omega arith) s.1) o
 
 -- ---- downwards it doubles
-pub record Falling (n k : ℕ) (w₀ w : List ℕ) (i level : ℕ) : Type 0 where
-  pub going : Going n k Down OrderedDown 0 w₀ w i level
-  pub inside : i ≤ k
-  pub low : doubled level ≤ i + 1
-  pub last : level ≤ max_levels
+pub sinks_turn : (k level i r : ℕ) → level < max_levels → Sinks k level i → Down i r → r < k → Sinks k (level + 1) r
+sinks_turn k level i r h s b l = (omega arith, level_down level i r s.1 b.0)
 
-module _ (n k : ℕ) (w₀ : List ℕ) where
-  pub falling_first : Positioned n w₀ → OrderedDown k 0 (key n w₀) → Falling n k w₀ w₀ 0 0
-  falling_first p u = record { going = going_first n k Down OrderedDown 0 w₀ p u; inside = omega arith; low = level_first 0; last = omega arith }
-
-  module _ (w : List ℕ) (i level : ℕ) (s : Falling n k w₀ w i level) where
-    pub falling_turn : level < max_levels → (w' : List ℕ) (r : ℕ) → Level n k Down OrderedDown i w w' r → (r ≡ i → ⊥) → Falling n k w₀ w' r (level + 1)
-    falling_turn h w' r t m =
-        let d = t.moved m in
-        record {
-          going = going_turn n k Down OrderedDown 0 w₀ w i level s.going w' r t m;
-          inside = omega (arith, d.1);
-          low = level_down level i r s.low
-              d.0.0;
-          last = omega arith;
-        }
-
-    pub falling_stop : (w' : List ℕ) (r : ℕ) → Level n k Down OrderedDown i w w' r → r ≡ i → Sifted n k Down 0 w₀ w'
-    falling_stop = stopped n k Down OrderedDown 0 w₀ w i level s.going s.last
-
-    pub falling_end : max_levels ≤ level → k ≤ n → Sifted n k Down 0 w₀ w
-    falling_end h l = ended n k Down OrderedDown 0 w₀ w i level s.going s.last
-        (down_leaf k (key n w) i (level_leaf level i k h s.last (omega (arith, s.going.kept.positioned.few)) s.low) s.going.order)
+pub sinks_end : (k i : ℕ) (key : ℕ → ℕ) → k ≤ max_nodes → Sinks k max_levels i → OrderedDown k i key → Ordered k key
+sinks_end k i key few s o = down_leaf k key i (level_leaf max_levels i k (omega arith) (omega arith) few s.1) o

@@ -1,5 +1,5 @@
 -- How far a node goes in the heap: "no entering, lowering or taking out passes more than 12 levels" (T-02). Assumes nothing.
-use Rattle.std.specs.Prelude.{ℕ, suc, ◌≤◌, List}
+use Rattle.std.specs.Prelude.{ℕ, zero, suc, ◌+◌, ◌-◌, ◌<◌, ◌≤◌, List}
 use Rattle.heap.specs.Words.{swapped}
 use Rattle.heap.specs.Order.{Below}
 
@@ -13,6 +13,17 @@ Up i j = Below j i
 
 abbrev pub Down : ℕ → ℕ → Type 0
 Down i j = Below i j
+
+-- A level up halves the position, and a level down doubles it: where a node may stand among the first k after so many levels.
+unfoldable pub doubled : ℕ → ℕ
+doubled zero = 1
+doubled (suc n) = doubled n + doubled n
+
+abbrev pub Rises : ℕ → ℕ → ℕ → Type 0
+Rises k level i = (i < k) × (i < doubled (max_levels - level))
+
+abbrev pub Sinks : ℕ → ℕ → ℕ → Type 0
+Sinks k level i = (i ≤ k) × (doubled level ≤ i + 1)
 
 -- From the words w, the node at position i passes so many levels, and then stands at j, in words w': at each level it changes positions with the node one
 -- level on,

@@ -10,11 +10,8 @@ pub fn number(s: &mut [u32])
     requires { length s.old ≤ half }
     ensures { s.new ≡ map own (up_to (length s.old)) }
 {
-    let n = s.len();
-    let mut i = 0;
-    while i < n {
-        s[i] = i as u32 * HALF + i as u32;
-        i += 1;
+    for (i, x) in s.iter_mut().enumerate() {
+        *x = i as u32 * HALF + i as u32;
     }
 }
 
@@ -22,10 +19,7 @@ pub fn number(s: &mut [u32])
 pub fn strip(s: &mut [u32])
     ensures { s.new ≡ map low s.old }
 {
-    let n = s.len();
-    let mut i = 0;
-    while i < n {
-        s[i] = s[i] % HALF;
-        i += 1;
+    for x in s.iter_mut() {
+        *x %= HALF;
     }
 }

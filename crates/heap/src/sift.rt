@@ -1,8 +1,8 @@
 // The ways up and down the heap, level by level.
-ghost use Rattle.std.specs.Prelude.{◌≡◌, cond, ltb, ◌+◌, ◌<◌, ◌≤◌};
+ghost use Rattle.std.specs.Prelude.{◌≡◌, ℕ, cond, ltb, ◌+◌, ◌<◌, ◌≤◌};
 ghost use Rattle.heap.specs.Words.{Positioned, key};
-ghost use Rattle.heap.specs.Order.{OrderedUp, OrderedDown, Lesser};
-ghost use Rattle.heap.specs.Levels.{Up, Down};
+ghost use Rattle.heap.specs.Order.{Ordered, OrderedUp, OrderedDown, Lesser};
+ghost use Rattle.heap.specs.Levels.{max_levels, Up, Down, Rises, Sinks};
 ghost use Rattle.heap.specs.Sifts.{Level, Sifted};
 
 use crate::positions::{is_sooner, swap};
@@ -10,20 +10,58 @@ use crate::positions::{is_sooner, swap};
 // The levels below the first: 4,096 positions have no more.
 const LEVELS: usize = 12;
 
-// One level up from i, if the order asks for it: where that leads.
-fn rise(w: &mut [u32], n: usize, k: usize, i: usize) -> usize
-    requires { Positioned n w.old × (k ≤ n) × (i < k) × OrderedUp k i (key n w.old) }
-    ensures { Level n k Up OrderedUp i w.old w.new result }
+// A way through the heap, level by level: on which positions it goes, what holds of the keys as long as it may go on, and where it may stand after so many
+// levels.
+trait Way {
+    ghost on: { ℕ → ℕ → Type 0 };
+
+    ghost partly: { ℕ → ℕ → (ℕ → ℕ) → Type 0 };
+
+    ghost stands: { ℕ → ℕ → ℕ → Type 0 };
+
+    // One level on from i, if the order asks for it: where that leads.
+    fn level(w: &mut [u32], n: usize, k: usize, i: usize) -> usize
+        requires { Positioned n w.old × (k ≤ n) × ((level : ℕ) × stands k level i) × partly k i (key n w.old) }
+        ensures { Level n k on partly i w.old w.new result };
+}
+
+// From position `from` to where its node belongs.
+fn sift<W: Way>(w: &mut [u32], n: usize, k: usize, from: usize)
+    requires begins { Positioned n w.old × (k ≤ n) × W.stands k 0 from × W.partly k from (key n w.old) }
+    requires turns { (level i r : ℕ) → level < max_levels → W.stands k level i → W.on i r → r < k → W.stands k (level + 1) r }
+    requires ends { (i : ℕ) (key : ℕ → ℕ) → W.stands k max_levels i → W.partly k i key → Ordered k key }
+    ensures { Sifted n k W.on from w.old w.new }
 {
-    if i == 0 {
-        return i;
+    let mut i = from;
+    for _level in 0..LEVELS {
+        let r = W::level(w, n, k, i);
+        if r == i {
+            return;
+        }
+        i = r;
     }
-    let p = (i - 1) / 2;
-    if !is_sooner(w, n, i, p) {
-        return i;
+}
+
+struct Rise;
+
+impl Way for Rise {
+    ghost on = { Up };
+
+    ghost partly = { OrderedUp };
+
+    ghost stands = { Rises };
+
+    fn level(w: &mut [u32], n: usize, k: usize, i: usize) -> usize {
+        if i == 0 {
+            return i;
+        }
+        let p = (i - 1) / 2;
+        if !is_sooner(w, n, i, p) {
+            return i;
+        }
+        swap(w, n, i, p);
+        p
     }
-    swap(w, n, i, p);
-    p
 }
 
 // Up from position `from` to where its node belongs.
@@ -31,14 +69,7 @@ pub fn up(w: &mut [u32], n: usize, k: usize, from: usize)
     requires { Positioned n w.old × (k ≤ n) × (from < k) × OrderedUp k from (key n w.old) }
     ensures { Sifted n k Up from w.old w.new }
 {
-    let mut i = from;
-    for level in 0..LEVELS {
-        let r = rise(w, n, k, i);
-        if r == i {
-            return;
-        }
-        i = r;
-    }
+    sift::<Rise>(w, n, k, from);
 }
 
 // 1 where the key at i is less than that at j, and else 0.
@@ -65,20 +96,26 @@ fn lesser(w: &[u32], n: usize, k: usize, i: usize) -> usize
     a
 }
 
-// One level down from i, if the order asks for it: where that leads.
-fn fall(w: &mut [u32], n: usize, k: usize, i: usize) -> usize
-    requires { Positioned n w.old × (k ≤ n) × (i ≤ k) × OrderedDown k i (key n w.old) }
-    ensures { Level n k Down OrderedDown i w.old w.new result }
-{
-    let c = lesser(w, n, k, i);
-    if c >= k {
-        return i;
+struct Sink;
+
+impl Way for Sink {
+    ghost on = { Down };
+
+    ghost partly = { OrderedDown };
+
+    ghost stands = { Sinks };
+
+    fn level(w: &mut [u32], n: usize, k: usize, i: usize) -> usize {
+        let c = lesser(w, n, k, i);
+        if c >= k {
+            return i;
+        }
+        if !is_sooner(w, n, c, i) {
+            return i;
+        }
+        swap(w, n, i, c);
+        c
     }
-    if !is_sooner(w, n, c, i) {
-        return i;
-    }
-    swap(w, n, i, c);
-    c
 }
 
 // Down from the first position to where its node belongs.
@@ -86,12 +123,5 @@ pub fn down(w: &mut [u32], n: usize, k: usize)
     requires { Positioned n w.old × (k ≤ n) × OrderedDown k 0 (key n w.old) }
     ensures { Sifted n k Down 0 w.old w.new }
 {
-    let mut i = 0;
-    for level in 0..LEVELS {
-        let r = fall(w, n, k, i);
-        if r == i {
-            return;
-        }
-        i = r;
-    }
+    sift::<Sink>(w, n, k, 0);
 }

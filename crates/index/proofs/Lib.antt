@@ -6,3 +6,4 @@ pub mod ByLinks
 pub mod Listing
 pub mod Laid
 pub mod Readings
+pub mod Had

@@ -5,14 +5,14 @@ ghost use Rattle.index.specs.Index.{block, by_blocks, linked, Chained, IndexOf};
 ghost use Rattle.index.specs.Grown.{Growing, ListedAt, ListedEdge};
 
 use crate::positions::{block_of, next_of};
-use bitset::words::fill;
-use codec::records::{EDGE_SIZE, edge_first, edge_second};
+use codec::records::{EDGE_SIZE, Edge};
 
-// The smallest block and the greatest, and how many edges are listed at most.
+// The smallest block, and how many sizes there are, each twice the one before it.
 const MIN_SIZE: usize = 2;
 
-const MAX_SIZE: usize = 16384;
+const SIZES: usize = 14;
 
+// How many edges are listed at most.
 const MAX_LISTED: usize = 65536;
 
 fn put_link(ix: &mut [u32], p: usize, q: usize, e: usize)
@@ -27,10 +27,7 @@ fn has_last(ix: &[u32], n: usize, h: usize, q: usize) -> bool
     requires { n ≤ h → h < length ix.now }
     ensures { result ≡ true → (n ≤ h) × (block ix.now h ≡ q) }
 {
-    if h < n {
-        return false;
-    }
-    block_of(ix, h) == q
+    h >= n && block_of(ix, h) == q
 }
 
 // Lists block q at the node x, where it is not the last that was listed there. The new end of the words in use.
@@ -56,10 +53,9 @@ fn list_edge(edges: &[u8], i: usize, q: usize, ix: &mut [u32], n: usize, k: usiz
     requires growing { Growing n k (by_blocks ix.old) }
     ensures { ListedEdge edges.now i n k (by_blocks ix.old) result (by_blocks ix.new) q }
 {
-    let first = edge_first(edges, i);
-    let second = edge_second(edges, i);
-    let j = list_at(ix, n, k, first, q);
-    list_at(ix, n, j, second, q)
+    let edge = Edge::read(edges, i);
+    let j = list_at(ix, n, k, edge.first, q);
+    list_at(ix, n, j, edge.second, q)
 }
 
 // Lists all edges in blocks of s; false where the words do not suffice.
@@ -70,15 +66,12 @@ fn list_all(edges: &[u8], s: usize, ix: &mut [u32], n: usize) -> bool
     ensures { result ≡ true → Chained edges.now (edge_count edges.now) n s (length ix.new)
         (by_blocks ix.new) }
 {
-    let m = edges.len() / EDGE_SIZE;
     let mut k = n;
-    let mut i = 0;
-    while i < m {
+    for i in 0..edges.len() / EDGE_SIZE {
         if ix.len() - k < 2 {
             return false;
         }
         k = list_edge(edges, i, i / s, ix, n, k);
-        i += 1;
     }
     true
 }
@@ -88,8 +81,8 @@ fn clear(ix: &mut [u32], n: usize, s: usize)
     requires { (n ≤ length ix.old) × (s ≤ 16384) }
     ensures { ((x : ℕ) → x < n → get_or ix.new x 0 ≡ s * 65536) × ((x : ℕ) → n ≤ x → get_or ix.new x 0 ≡ 0) }
 {
-    fill(ix, 0);
-    fill(&mut ix[..n], (s * 65536) as u32);
+    ix.fill(0);
+    ix[..n].fill((s * 65536) as u32);
 }
 
 // The index in blocks of s; false where the words do not suffice.
@@ -112,12 +105,10 @@ fn build_any(edges: &[u8], ix: &mut [u32], n: usize) -> bool
     if MAX_LISTED < edges.len() / EDGE_SIZE {
         return false;
     }
-    let mut s = MIN_SIZE;
-    while s <= MAX_SIZE {
-        if build_by(edges, s, ix, n) {
+    for doublings in 0..SIZES {
+        if build_by(edges, MIN_SIZE << doublings, ix, n) {
             return true;
         }
-        s = s * 2;
     }
     false
 }

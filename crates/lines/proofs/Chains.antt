@@ -1,12 +1,11 @@
 -- One text written behind another. Assumes nothing.
-use Prim.Native.Nat.{ℕ, ◌+◌, ◌-◌}
+use Prim.Native.Nat.{ℕ, ◌+◌}
 use native.Mathlib.Omega.{arith}
 use native.Mathlib.Nat.{add-zero, zero-add}
 use mathlib.Core.Path.{◌≡◌, refl, sym, ◌∙◌}
 use mathlib.Core.List.{[], ◌∷◌, ◌++◌, append-nil, append_assoc}
 use lib.ListN.{length, take, drop, set, length-append, take-append-drop}
 use lib.Seq.{take_at}
-use borrow.Rule.Slice.PartMut.{put_mid, Post-is}
 use Rattle.model.specs.Bytes.{Bytes, splice}
 use Rattle.emit.specs.Records.{Wrote}
 use Rattle.theory.specs.Splices.{length_splice, splice_then, splice_byte}
@@ -18,15 +17,6 @@ wrote_none old at = record { ends = sym (add-zero at); spliced = sym (unfold spl
 
 pub wrote_byte : {old : Bytes} {at x : ℕ} → Room old at (x ∷ []) → Wrote old at (x ∷ []) (at + 1) (set old at x)
 wrote_byte {old} {at} {x} room = record { ends = refl; spliced = splice_byte old at x (omega (arith, room.fits)) }
-
--- A part that was lent and came back as the text.
-pub wrote_part : (old text ys : Bytes) (at : ℕ) → ys ≡ text → Wrote old at text (at + length text) (put_mid at (at + length text - at) old ys)
-wrote_part old text ys at e =
-    record {
-      ends = refl;
-      spliced = rw (e, Post-is at (at + length text) old (omega arith))
-          (unfold splice in sym (append_assoc (take at old) text (drop (at + length text) old)));
-    }
 
 -- Room for two texts is room for the first, and then for the second; and writing both is writing the two as one.
 module _ {old : Bytes} {at : ℕ} (r s : Bytes) (room : Room old at (r ++ s)) where

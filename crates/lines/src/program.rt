@@ -21,7 +21,7 @@ const WORDS: usize = READ;
 
 const ROOM: usize = 5 * READ + 40;
 
-// Reads until the buffer is full or the input ends.
+// Reads until the buffer is full or the input ends: no range, as a read gives as many bytes as it has.
 fn read_full(input: &mut impl Read, buf: &mut [u8]) -> io::Result<usize>
     ensures { IfOk result (λ n. n ≤ length buf.new) }
 {
@@ -69,10 +69,8 @@ fn print_rows(rt: &impl Print, o: &[u8], work: &mut [u32], out: &mut [u8]) -> io
     requires { Opened o.now work.old × (5 * length o.now ≤ length out.old) }
 {
     let n = node_count(o);
-    let mut s = 0;
-    while s < n {
+    for s in 0..n {
         print_row(rt, o, s, work, out)?;
-        s += 1;
     }
     Ok(())
 }
@@ -82,9 +80,8 @@ fn print_rows(rt: &impl Print, o: &[u8], work: &mut [u32], out: &mut [u8]) -> io
 fn print_listing(rt: &impl Print, o: &[u8], work: &mut [u32], out: &mut [u8]) -> io::Result<()>
     requires { (length o.now ≤ length work.old) × (5 * length o.now + 40 ≤ length out.old) }
 {
-    let rule = shape_refusal(o);
-    if rule != 0 {
-        return print_refused(rt, rule, out);
+    if let Err(broken) = shape_refusal(o) {
+        return print_refused(rt, broken.number(), out);
     }
     print_header(rt, o, out)?;
     open_words(o, work);

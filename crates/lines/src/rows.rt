@@ -44,10 +44,8 @@ fn write_lines(o: &[u8], s: usize, work: &[u32], out: &mut [u8]) -> usize
 {
     let n = node_count(o);
     let mut at = 0;
-    let mut t = s + 1;
-    while t < n {
+    for t in s + 1..n {
         at = write_line(o, s, t, work, out, at);
-        t += 1;
     }
     at
 }

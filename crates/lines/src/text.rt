@@ -1,10 +1,11 @@
-// Text in a lent buffer. Each function writes at a position, and answers where that ends.
+// Text in a lent buffer. Each function writes at a position, and answers where that ends. No `Display`: a line's text is said as the bytes that it is in the
+// buffer, from one position to another.
 ghost use Rattle.std.specs.Prelude.{[], ◌∷◌};
 ghost use Rattle.model.specs.Listing.{digits, decimal};
 ghost use Rattle.emit.specs.Records.{Wrote};
 ghost use Rattle.lines.specs.Texts.{Room, field_text};
 
-use emit::copy::copy;
+use emit::copy::put;
 
 pub fn write_byte(x: u8, out: &mut [u8], at: usize) -> usize
     requires { Room out.old at (x ∷ []) }
@@ -18,9 +19,7 @@ pub fn write_text(text: &[u8], out: &mut [u8], at: usize) -> usize
     requires { Room out.old at text.now }
     ensures { Wrote out.old at text.now result out.new }
 {
-    let end = at + text.len();
-    copy(text, &mut out[at..end]);
-    end
+    put(text, out, at)
 }
 
 // At most so many digits of n: it calls itself for those before the last.

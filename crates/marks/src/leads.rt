@@ -21,10 +21,7 @@ fn leads_to(n: usize, work: &[u32], v: usize, to: usize, cost: u64) -> bool
     ensures { result ≡ leading (times_in n work.now) (marks_in n work.now) v (record { from = v; to = to; cost = cost }) }
 {
     let m = queue_words(n);
-    if !contains(&work[m..], to) {
-        return false;
-    }
-    time_of(work, n, to) == time_of(work, n, v) + cost
+    contains(&work[m..], to) && time_of(work, n, to) == time_of(work, n, v) + cost
 }
 
 // Whether some arc leads on from v.

@@ -8,7 +8,7 @@ pub struct Division {
 }
 
 // Document 01's "far" and "local".
-#[derive(Clone, Copy)]
+#[derive(Clone, Copy, PartialEq, Eq, Debug)]
 pub enum Kind {
     Far,
     Local,
@@ -16,7 +16,7 @@ pub enum Kind {
 
 // The answer to a question about two nodes: "a time, none, or a refusal; the first two carry far or local and the pairs tried". Of a time "each answer states
 // both numbers" (document 02, T-07): its seconds, and its hops, which are document 02's number of roads.
-#[derive(Clone, Copy)]
+#[derive(Clone, Copy, PartialEq, Eq, Debug)]
 pub enum Answer {
     Time {
         seconds: u32,

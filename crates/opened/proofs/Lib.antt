@@ -2,7 +2,6 @@
 pub mod SearchWords
 pub mod OpenLaws
 pub mod Outputs
-mod GridWords
 mod EarlyWays
 pub mod StoppedWays
 pub mod WayLaws

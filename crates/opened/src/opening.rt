@@ -23,10 +23,7 @@ fn put_grid(work: &mut [u32], n: usize, grid: Grid)
     ensures others { KeptFrom (grid_at n + 4) work.old work.new }
 {
     let a = grid_at(n);
-    work[a] = grid.g;
-    work[a + 1] = grid.left;
-    work[a + 2] = grid.bottom;
-    work[a + 3] = grid.spread;
+    work[a..a + 4].copy_from_slice(&[grid.g, grid.left, grid.bottom, grid.spread]);
 }
 
 // The numbers of the grid that stand there.

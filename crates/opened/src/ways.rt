@@ -8,13 +8,13 @@ ghost use Rattle.words.specs.Frames.{Enough, KeptFrom};
 ghost use Rattle.opened.specs.Opened.{Opened};
 ghost use Rattle.opened.specs.Room.{NodesGiven};
 ghost use Rattle.opened.specs.TimesFrom.{TimesFrom, way_over};
-ghost use Rattle.way.specs.Distances.{nodes_in};
+ghost use Rattle.way.specs.Distances.{nodes_by};
 ghost use Rattle.words.specs.Regions.{grid_at};
 
 use crate::local::search_to;
+use arcs::roads::Roads;
 use codec::bytes::write16;
 use codec::records::NUMBER_SIZE;
-use emit::copy::copy;
 use model::Route;
 use reader::oracle::{EDGES, node_count, oracle_body};
 use search::front::search_front;
@@ -43,25 +43,16 @@ pub fn write_way_itself(s: usize, out: &mut [u8]) -> Route
 }
 
 // Writes the way from s at the front of the output, by the times in the working words. It is found before any output is written.
-fn write_way_from(
-    edges: &[u8],
-    lines: &[u8],
-    n: usize,
-    work: &[u32],
-    s: usize,
-    out: &mut [u8],
-) -> Route
-    requires s_lt_n { (s < n) × (n ≤ max_nodes) × Enough n work.now }
-    requires edges_under { EdgesUnder edges.now lines.now n work.now }
-    ensures { NodesGiven (nodes_in edges.now lines.now n work.now s) out.old result
-        out.new }
+fn write_way_from(roads: &Roads, s: usize, out: &mut [u8]) -> Route
+    requires { s < roads.now.n }
+    ensures { NodesGiven (nodes_by roads.now s) out.old result out.new }
 {
     let mut nodes = [0u8; LONGEST];
-    let size = whole_way(edges, lines, n, work, s, &mut nodes);
+    let size = whole_way(roads, s, &mut nodes);
     if out.len() < size {
         return Route { rule: 15, nodes: 0 };
     }
-    copy(&nodes[..size], &mut out[..size]);
+    out[..size].copy_from_slice(&nodes[..size]);
     Route {
         rule: 0,
         nodes: (size / NUMBER_SIZE) as u32,
@@ -88,5 +79,11 @@ pub fn write_way_to(
         return write_way_itself(s, out);
     }
     search_to(edges, lines, n, t, s, work);
-    write_way_from(edges, lines, n, work, s, out)
+    let roads = Roads {
+        edges,
+        lines,
+        n,
+        work: &*work,
+    };
+    write_way_from(&roads, s, out)
 }

@@ -20,7 +20,7 @@ ghost use Rattle.wages.specs.Wages.{wages_bytes, wages_refusal};
 ghost use Rattle.capi.specs.Replies.{reply};
 
 use block::{Block, questions as blocks};
-use capi::oracles::{Reply, reply_of};
+use capi::oracles::Reply;
 use model::{Output, Route};
 use query::questions;
 use under::questions as sheets;
@@ -39,14 +39,14 @@ pub fn jukesogbi_opened_time(o: &[u8], s: u32, t: u32, work: &mut [u32]) -> Repl
     ensures opened { Opened o.now work.new }
     ensures rest { drop (words_needed o.now) work.new ≡ drop (words_needed o.now) work.old }
 {
-    reply_of(questions::time(o, s, t, work))
+    Reply::from(questions::time(o, s, t, work))
 }
 
 pub fn jukesogbi_opened_far(o: &[u8], s: u32, t: u32, work: &[u32]) -> Reply
     requires { Opened o.now work.now }
     ensures { result ≡ reply (far_result o.now s t) }
 {
-    reply_of(questions::far(o, s, t, work))
+    Reply::from(questions::far(o, s, t, work))
 }
 
 pub fn jukesogbi_opened_way(o: &[u8], s: u32, t: u32, work: &mut [u32], out: &mut [u8]) -> Route
@@ -92,7 +92,7 @@ pub fn jukesogbi_opened_time_under(
     ensures result { result ≡ reply (time_under_result o.now sheet.now s t work.old) }
     ensures stays { Stays o.now work.old work.new }
 {
-    reply_of(sheets::time_under(o, sheet, s, t, work))
+    Reply::from(sheets::time_under(o, sheet, s, t, work))
 }
 
 pub fn jukesogbi_opened_way_under(

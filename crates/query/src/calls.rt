@@ -14,9 +14,10 @@ use tables::lists::list_part;
 pub fn far(o: &[u8], s: u32, t: u32) -> Answer
     ensures { FarCall o.now s t result }
 {
-    let rule = far_refusal(o, s, t);
-    if rule != 0 {
-        return Answer::Refused { rule };
+    if let Err(broken) = far_refusal(o, s, t) {
+        return Answer::Refused {
+            rule: broken.number(),
+        };
     }
     far_of(o, s as usize, t as usize)
 }
@@ -25,9 +26,10 @@ pub fn far(o: &[u8], s: u32, t: u32) -> Answer
 pub fn time(o: &[u8], s: u32, t: u32, work: &mut [u32]) -> Answer
     ensures { TimeCall o.now s t work.old result work.new }
 {
-    let rule = time_refusal(o, s, t, work.len());
-    if rule != 0 {
-        return Answer::Refused { rule };
+    if let Err(broken) = time_refusal(o, s, t, work.len()) {
+        return Answer::Refused {
+            rule: broken.number(),
+        };
     }
     open_words(o, work);
     let answer = time_of(o, s as usize, t as usize, work);
@@ -39,26 +41,31 @@ pub fn time(o: &[u8], s: u32, t: u32, work: &mut [u32]) -> Answer
 pub fn list(o: &[u8], u: u32) -> &[u8]
     ensures { result.now ≡ list_result o.now u }
 {
-    if list_refusal(o, u) != 0 {
-        return &o[0..0];
+    match list_refusal(o, u) {
+        Ok(()) => list_part(oracle_body(o, ACCESS), u as usize),
+        Err(_) => &o[0..0],
     }
-    list_part(oracle_body(o, ACCESS), u as usize)
 }
 
-// The number of the rule for which `list` hands back the empty part, or 0.
+// The number of the rule for which `list` hands back the empty part, or 0: the C interface hands it on.
 pub fn list_rule(o: &[u8], u: u32) -> u32
     ensures { result ≡ list_refusal o.now u }
 {
-    list_refusal(o, u)
+    match list_refusal(o, u) {
+        Ok(()) => 0,
+        Err(broken) => broken.number(),
+    }
 }
 
 // The way from s to t: the first least walk by node numbers, written at the front of the output.
 pub fn way(o: &[u8], s: u32, t: u32, work: &mut [u32], out: &mut [u8]) -> Route
     ensures { WayCall o.now s t work.old out.old result work.new out.new }
 {
-    let rule = time_refusal(o, s, t, work.len());
-    if rule != 0 {
-        return Route { rule, nodes: 0 };
+    if let Err(broken) = time_refusal(o, s, t, work.len()) {
+        return Route {
+            rule: broken.number(),
+            nodes: 0,
+        };
     }
     open_words(o, work);
     let route = way_of(o, s as usize, t as usize, work, out);

@@ -6,22 +6,23 @@ ghost use Rattle.model.specs.Network.{network};
 ghost use Rattle.model.specs.Query.{way};
 ghost use Rattle.model.specs.Rules.{first_broken, far_rules, words_needed};
 ghost use Rattle.model.specs.Calls.{time_result, far_result, way_refusal, route_after, output_after};
+ghost use Rattle.rules.specs.Refusals.{refused};
 ghost use Rattle.opened.specs.Opened.{Opened, OpenCall};
 ghost use Rattle.words.specs.Frames.{KeptFrom};
 
 use checks::kinds::is_local;
-use checks::refusals::{named_pair_refusal, number_if, room_refusal};
+use checks::refusals::{named_pair_refusal, room_refusal};
 use model::{Answer, Route};
 use opened::answers::{far_of, time_of, way_of};
 use opened::opening::{open_words, opened_kind};
+use rules::refusal::{Refusal, broken_if};
 
-// Checks an oracle and opens it: 0, or the number of the broken rule, where nothing is written.
+// Checks an oracle and opens it: 0, or the number of the broken rule, where nothing is written. The C interface hands that number on.
 pub fn open(o: &[u8], work: &mut [u32]) -> u32
     ensures { OpenCall o.now work.old result work.new }
 {
-    let rule = room_refusal(o, work.len());
-    if rule != 0 {
-        return rule;
+    if let Err(broken) = room_refusal(o, work.len()) {
+        return broken.number();
     }
     open_words(o, work);
     0
@@ -33,32 +34,35 @@ pub fn time(o: &[u8], s: u32, t: u32, work: &mut [u32]) -> Answer
     ensures opened { Opened o.now work.new }
     ensures rest { KeptFrom (words_needed o.now) work.old work.new }
 {
-    let rule = named_pair_refusal(o, s, t);
-    if rule != 0 {
-        return Answer::Refused { rule };
+    if let Err(broken) = named_pair_refusal(o, s, t) {
+        return Answer::Refused {
+            rule: broken.number(),
+        };
     }
     time_of(o, s as usize, t as usize, work)
 }
 
 // Rules 12 and 13.
-fn opened_far_refusal(o: &[u8], s: u32, t: u32, work: &[u32]) -> u32
+#[tactic(auto, using(checks::proofs::RulesKept::checked), unfolding(model::specs::Rules::far_rules, model::specs::Rules::local_pair))]
+fn opened_far_refusal(o: &[u8], s: u32, t: u32, work: &[u32]) -> Result<(), Refusal>
     requires { Opened o.now work.now }
-    ensures { result ≡ first_broken (far_rules o.now s t) }
+    ensures { refused result ≡ first_broken (far_rules o.now s t) }
 {
-    let r = named_pair_refusal(o, s, t);
-    if r != 0 {
-        return r;
-    }
-    number_if(13, is_local(opened_kind(o, s as usize, t as usize, work)))
+    named_pair_refusal(o, s, t)?;
+    broken_if(
+        Refusal::LocalPair,
+        is_local(opened_kind(o, s as usize, t as usize, work)),
+    )
 }
 
 pub fn far(o: &[u8], s: u32, t: u32, work: &[u32]) -> Answer
     requires { Opened o.now work.now }
     ensures { result ≡ far_result o.now s t }
 {
-    let rule = opened_far_refusal(o, s, t, work);
-    if rule != 0 {
-        return Answer::Refused { rule };
+    if let Err(broken) = opened_far_refusal(o, s, t, work) {
+        return Answer::Refused {
+            rule: broken.number(),
+        };
     }
     far_of(o, s as usize, t as usize)
 }
@@ -71,9 +75,11 @@ pub fn way(o: &[u8], s: u32, t: u32, work: &mut [u32], out: &mut [u8]) -> Route
     ensures opened { Opened o.now work.new }
     ensures rest { KeptFrom (words_needed o.now) work.old work.new }
 {
-    let rule = named_pair_refusal(o, s, t);
-    if rule != 0 {
-        return Route { rule, nodes: 0 };
+    if let Err(broken) = named_pair_refusal(o, s, t) {
+        return Route {
+            rule: broken.number(),
+            nodes: 0,
+        };
     }
     way_of(o, s as usize, t as usize, work, out)
 }

@@ -2,6 +2,7 @@
 ghost use Rattle.std.specs.Prelude.{◌≡◌, ◌≤◌};
 ghost use Rattle.model.specs.Rules.{first_broken};
 ghost use Rattle.model.specs.Network.{max_nodes};
+ghost use Rattle.rules.specs.Refusals.{refused};
 ghost use Rattle.reader.specs.Bodies.{network_body_rules, oracle_body_rules};
 
 use codec::records::{EDGE_SIZE, NODE_SIZE, NUMBER_SIZE};
@@ -10,53 +11,42 @@ use rules::edges::{edges_broken, some_edge_broken};
 use rules::grid::grid_body_broken;
 use rules::nodes::{coordinates_broken, nodes_broken};
 use rules::numbers::numbers_broken;
+use rules::refusal::{Refusal, broken_if};
 use rules::table::table_broken;
 
 // Rules 3 to 7.
-pub fn network_bodies<'a>(nodes: &'a [u8], edges: &'a [u8], closed: &'a [u8]) -> u32
-    ensures { result ≡ first_broken (network_body_rules nodes.now edges.now closed.now) }
+#[tactic(auto, using(crate::proofs::Order::in_order), unfolding(model::specs::Network::node_count, model::specs::Network::edge_count))]
+pub fn network_bodies<'a>(nodes: &'a [u8], edges: &'a [u8], closed: &'a [u8]) -> Result<(), Refusal>
+    ensures { refused result ≡ first_broken (network_body_rules nodes.now edges.now closed.now) }
 {
-    if nodes_broken(nodes) {
-        return 3;
-    }
-    if coordinates_broken(nodes) {
-        return 4;
-    }
-    if edges_broken(edges) {
-        return 5;
-    }
-    if some_edge_broken(nodes.len() / NODE_SIZE, edges) {
-        return 6;
-    }
-    if numbers_broken(edges.len() / EDGE_SIZE, closed) {
-        return 7;
-    }
-    0
+    broken_if(Refusal::Nodes, nodes_broken(nodes))?;
+    broken_if(Refusal::Coordinates, coordinates_broken(nodes))?;
+    broken_if(Refusal::Edges, edges_broken(edges))?;
+    broken_if(
+        Refusal::SomeEdge,
+        some_edge_broken(nodes.len() / NODE_SIZE, edges),
+    )?;
+    broken_if(
+        Refusal::Closed,
+        numbers_broken(edges.len() / EDGE_SIZE, closed),
+    )
 }
 
 // Rules 8 to 11, of an oracle with n nodes.
+#[tactic(auto, using(crate::proofs::Order::in_order), unfolding(model::specs::Oracle::transit_count))]
 pub fn oracle_bodies<'a>(
     n: usize,
     grid: &'a [u8],
     transit: &'a [u8],
     access: &'a [u8],
     table: &'a [u8],
-) -> u32
+) -> Result<(), Refusal>
     requires { n ≤ max_nodes }
-    ensures { result ≡ first_broken (oracle_body_rules n grid.now transit.now access.now table.now) }
+    ensures { refused result ≡ first_broken (oracle_body_rules n grid.now transit.now access.now table.now) }
 {
-    if grid_body_broken(grid) {
-        return 8;
-    }
-    if numbers_broken(n, transit) {
-        return 9;
-    }
+    broken_if(Refusal::Grid, grid_body_broken(grid))?;
+    broken_if(Refusal::Transit, numbers_broken(n, transit))?;
     let t = transit.len() / NUMBER_SIZE;
-    if access_broken(n, t, access) {
-        return 10;
-    }
-    if table_broken(t, table) {
-        return 11;
-    }
-    0
+    broken_if(Refusal::Access, access_broken(n, t, access))?;
+    broken_if(Refusal::Table, table_broken(t, table))
 }

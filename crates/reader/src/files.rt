@@ -1,6 +1,7 @@
 // The rules of whole files.
 ghost use Rattle.std.specs.Prelude.{◌≡◌, ◌≤◌};
 ghost use Rattle.model.specs.Contents.{network_entries, oracle_edition, oracle_entries};
+ghost use Rattle.rules.specs.Refusals.{refused};
 ghost use Rattle.model.specs.Rules.{first_broken, network_rules, plain_rules, accept_rules, shape_rules};
 
 use crate::bodies::{network_bodies, oracle_bodies};
@@ -12,55 +13,46 @@ use contents::{
 };
 use model::Division;
 use rules::grid::grid_broken;
+use rules::refusal::{Refusal, broken_if};
 
 // Rules 1 to 7, of a network or an oracle.
-pub fn network_refusal(edition: u32, entries: usize, f: &[u8]) -> u32
+#[tactic(auto, using(crate::proofs::Order::in_order), unfolding(model::specs::Rules::network_rules))]
+pub fn network_refusal(edition: u32, entries: usize, f: &[u8]) -> Result<(), Refusal>
     requires { (network_entries ≤ entries) × (entries ≤ oracle_entries) }
-    ensures { result ≡ first_broken (network_rules edition entries f.now) }
+    ensures { refused result ≡ first_broken (network_rules edition entries f.now) }
 {
-    if contents_broken(edition, entries, f) {
-        return 1;
-    }
+    broken_if(Refusal::Contents, contents_broken(edition, entries, f))?;
     let c = read(entries, f);
-    if c.bodies_broken(entries, f) {
-        return 2;
-    }
+    broken_if(Refusal::Bodies, c.bodies_broken(entries, f))?;
     network_bodies(c.body(f, NODES), c.body(f, EDGES), c.body(f, CLOSED))
 }
 
 // The same with 21, which every call but the converter checks.
-fn plain_refusal(edition: u32, entries: usize, f: &[u8]) -> u32
+#[tactic(auto, using(crate::proofs::Order::in_order, theory::specs::Passed::network_counted), unfolding(model::specs::Network::closed_listed))]
+fn plain_refusal(edition: u32, entries: usize, f: &[u8]) -> Result<(), Refusal>
     requires { (network_entries ≤ entries) × (entries ≤ oracle_entries) }
-    ensures { result ≡ first_broken (plain_rules edition entries f.now) }
+    ensures { refused result ≡ first_broken (plain_rules edition entries f.now) }
 {
-    let r = network_refusal(edition, entries, f);
-    if r != 0 {
-        return r;
-    }
-    if body_of(entries, f, CLOSED).len() != 0 {
-        return 21;
-    }
-    0
+    network_refusal(edition, entries, f)?;
+    broken_if(
+        Refusal::ClosedListed,
+        body_of(entries, f, CLOSED).len() != 0,
+    )
 }
 
 // The rules that building checks before 14.
-pub fn accept_refusal(f: &[u8], dv: Division) -> u32
-    ensures { result ≡ first_broken (accept_rules f.now dv) }
+#[tactic(auto, using(crate::proofs::Order::in_order, theory::specs::Passed::plain_counted), unfolding(model::specs::Rules::accept_rules))]
+pub fn accept_refusal(f: &[u8], dv: Division) -> Result<(), Refusal>
+    ensures { refused result ≡ first_broken (accept_rules f.now dv) }
 {
-    let r = plain_refusal(NETWORK_EDITION, NETWORK_ENTRIES, f);
-    if r != 0 {
-        return r;
-    }
-    if grid_broken(dv.g) {
-        return 8;
-    }
-    0
+    plain_refusal(NETWORK_EDITION, NETWORK_ENTRIES, f)?;
+    broken_if(Refusal::Grid, grid_broken(dv.g))
 }
 
 // Rules 8 to 11 of an oracle that keeps 1 to 7 and 21.
-fn oracle_refusal(o: &[u8]) -> u32
+fn oracle_refusal(o: &[u8]) -> Result<(), Refusal>
     requires { first_broken (plain_rules oracle_edition oracle_entries o.now) ≡ 0 }
-    ensures { result ≡ first_broken (shape_rules o.now) }
+    ensures { refused result ≡ first_broken (shape_rules o.now) }
 {
     let c = read(ORACLE_ENTRIES, o);
     let n = c.body(o, NODES).len() / NODE_SIZE;
@@ -74,12 +66,10 @@ fn oracle_refusal(o: &[u8]) -> u32
 }
 
 // The rules of an oracle that every call over it checks first.
-pub fn shape_refusal(o: &[u8]) -> u32
-    ensures { result ≡ first_broken (shape_rules o.now) }
+#[tactic(auto, using(crate::proofs::Order::in_order), unfolding(model::specs::Rules::shape_rules))]
+pub fn shape_refusal(o: &[u8]) -> Result<(), Refusal>
+    ensures { refused result ≡ first_broken (shape_rules o.now) }
 {
-    let r = plain_refusal(ORACLE_EDITION, ORACLE_ENTRIES, o);
-    if r != 0 {
-        return r;
-    }
+    plain_refusal(ORACLE_EDITION, ORACLE_ENTRIES, o)?;
     oracle_refusal(o)
 }

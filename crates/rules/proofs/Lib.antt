@@ -1,4 +1,5 @@
 -- The laws that the proofs cite.
+pub mod Refusals
 mod Flags
 mod Climb
 mod TableLaws

@@ -41,13 +41,11 @@ fn lists_gapless(n: usize, b: &[u8]) -> bool
     if b.len() < at {
         return false;
     }
-    let mut u = 0;
-    while u < n {
+    for u in 0..n {
         if !list_fits(b, u, at) {
             return false;
         }
         at += size_at(b, at);
-        u += 1;
     }
     at == b.len()
 }
@@ -75,14 +73,12 @@ fn list_broken(transit: usize, b: &[u8], u: usize) -> bool
     let start = list_start(b, u);
     let count = read16(b, start) as usize;
     let mut least = 0;
-    let mut i = 0;
-    while i < count {
+    for i in 0..count {
         let at = start + COUNT_SIZE + LIST_ENTRY_SIZE * i;
         if entry_broken(transit, least, b, at) {
             return true;
         }
         least = read16(b, at) as usize + 1;
-        i += 1;
     }
     false
 }
@@ -91,14 +87,7 @@ fn some_list_broken(n: usize, transit: usize, b: &[u8]) -> bool
     requires { (n ≤ max_nodes) × (gapless (start_size * n) (map (list_part b.now) (up_to n)) (length b.now) ≡ true) }
     ensures { result ≡ any (list_broken transit b.now) (up_to n) }
 {
-    let mut u = 0;
-    while u < n {
-        if list_broken(transit, b, u) {
-            return true;
-        }
-        u += 1;
-    }
-    false
+    (0..n).any(|u| list_broken(transit, b, u))
 }
 
 // "An access body that breaks its layout, an index not below T, or a value out of range."

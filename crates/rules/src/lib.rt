@@ -6,4 +6,5 @@ pub mod edges;
 pub mod grid;
 pub mod nodes;
 pub mod numbers;
+pub mod refusal;
 pub mod table;

@@ -2,7 +2,7 @@
 ghost use Rattle.std.specs.Prelude.{◌≡◌, ◌+◌, ◌*◌, ◌≤◌, length};
 ghost use Rattle.model.specs.Network.{node, node_size, nodes_broken, node_broken, coordinates_broken};
 
-use codec::records::{MAX_METRES, NODE_SIZE, node_x, node_y};
+use codec::records::{MAX_METRES, NODE_SIZE, Node};
 
 const MIN_NODES: usize = 1;
 
@@ -23,20 +23,13 @@ fn node_broken(b: &[u8], i: usize) -> bool
     requires { node_size * i + node_size ≤ length b.now }
     ensures { result ≡ node_broken (node b.now i) }
 {
-    MAX_COORDINATE < node_x(b, i) || MAX_COORDINATE < node_y(b, i)
+    let node = Node::read(b, i);
+    MAX_COORDINATE < node.x || MAX_COORDINATE < node.y
 }
 
 // Rule 4: a coordinate out of range.
 pub fn coordinates_broken(b: &[u8]) -> bool
     ensures { result ≡ coordinates_broken b.now }
 {
-    let n = b.len() / NODE_SIZE;
-    let mut i = 0;
-    while i < n {
-        if node_broken(b, i) {
-            return true;
-        }
-        i += 1;
-    }
-    false
+    (0..b.len() / NODE_SIZE).any(|i| node_broken(b, i))
 }

@@ -11,17 +11,14 @@ pub fn numbers_broken(limit: usize, b: &[u8]) -> bool
     if b.len() % NUMBER_SIZE != 0 {
         return true;
     }
-    let n = b.len() / NUMBER_SIZE;
     // The least number that may come next.
     let mut least = 0;
-    let mut i = 0;
-    while i < n {
+    for i in 0..b.len() / NUMBER_SIZE {
         let x = number(b, i);
         if x < least || limit <= x {
             return true;
         }
         least = x + 1;
-        i += 1;
     }
     false
 }

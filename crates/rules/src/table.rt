@@ -1,5 +1,5 @@
 // Rule 11, and the range of a value, which rule 10 asks for too.
-ghost use Rattle.std.specs.Prelude.{◌≡◌, true, false, ◌+◌, ◌*◌, ◌<◌, ◌≤◌, length};
+ghost use Rattle.std.specs.Prelude.{◌≡◌, true, false, ◌+◌, ◌*◌, ◌<◌, ◌≤◌, length, MatchOption};
 ghost use Rattle.model.specs.Network.{max_nodes};
 ghost use Rattle.model.specs.Oracle.{value_size, value_broken, cell_broken, table_broken};
 ghost use Rattle.rules.specs.Values.{excess, NoneBroken};
@@ -37,19 +37,20 @@ fn four_exceed(b: &[u8], i: usize) -> bool
     front | back
 }
 
-// How many of the n values are in range from number i on, as far as is looked at here: four, or one, or none where value i is not. Nearly all values of a
+// How many of the n values are in range from number i on, as far as is looked at here: four or one; None where value i is not. Nearly all values of a
 // table are times, and four at a time take half as long as one by one.
-fn fine_from(b: &[u8], n: usize, i: usize) -> usize
+fn fine_from(b: &[u8], n: usize, i: usize) -> Option<usize>
     requires { (i < n) × (length b.now ≡ value_size * n) }
-    ensures { (i + result ≤ n) × NoneBroken b.now i result × (result ≡ 0 → cell_broken b.now i ≡ true) }
+    ensures { MatchOption result (cell_broken b.now i ≡ true) (λ fine. (0 < fine) × (i + fine ≤ n) × NoneBroken b.now i fine) }
 {
     if 4 <= n - i && !four_exceed(b, i) {
-        return 4;
+        return Some(4);
     }
     if value_broken(b, VALUE_SIZE * i) {
-        return 0;
+        None
+    } else {
+        Some(1)
     }
-    1
 }
 
 // A table not of 6 × T × T bytes, or a value out of range.
@@ -62,11 +63,11 @@ pub fn table_broken(transit: usize, b: &[u8]) -> bool
         return true;
     }
     let mut i = 0;
+    // The step is four values or one, which no range or chain has.
     while i < values {
-        let fine = fine_from(b, values, i);
-        if fine == 0 {
+        let Some(fine) = fine_from(b, values, i) else {
             return true;
-        }
+        };
         i += fine;
     }
     false

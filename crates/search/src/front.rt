@@ -32,7 +32,7 @@ pub fn search_front_under(edges: &[u8], lines: &[u8], n: usize, s: usize, work: 
     e
 }
 
-// The same over the edges as they are.
+// The same over the edges as they are, whose arcs the contracts of building speak of: without lines they are the same.
 pub fn search_front(edges: &[u8], n: usize, s: usize, work: &mut [u32]) -> usize
     requires n_le_max_nodes { (n ≤ max_nodes) × (s < n) × Enough n work.old × (2 ≤ n) }
     requires indexed_edges { IndexedEdges edges.now n work.old }

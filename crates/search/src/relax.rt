@@ -14,7 +14,7 @@ ghost use Rattle.words.specs.Regions.{front_in, times_in, search_words};
 use crate::regions::offer_in;
 use arcs::cursor::{first_edge, next_edge};
 use arcs::leaving::{arc_at, next_arc, other_end};
-use codec::records::{EDGE_SIZE, NO_WALK, edge_first, edge_second};
+use codec::records::{EDGE_SIZE, Edge, NO_WALK};
 use sheet::spans::cost_left;
 use words::regions::search_words;
 use words::times::time_of;
@@ -63,7 +63,8 @@ fn offer_edge(
     if cost == NO_WALK {
         return k;
     }
-    let v = other_end(edge_first(edges, i), edge_second(edges, i), u);
+    let edge = Edge::read(edges, i);
+    let v = other_end(edge.first, edge.second, u);
     let front = search_words(n);
     offer_in(&mut work[..front], n, k, e, v, d + cost)
 }

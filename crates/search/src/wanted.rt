@@ -59,7 +59,7 @@ pub fn search_wanted_under(
     e
 }
 
-// The same over the edges as they are.
+// The same over the edges as they are, whose arcs the contracts of building speak of: without lines they are the same.
 pub fn search_wanted(edges: &[u8], n: usize, s: usize, left: usize, work: &mut [u32]) -> usize
     requires n_le_max_nodes { (n ≤ max_nodes) × (s < n) × Enough n work.old × (lacking (want_in n work.old) (replicate n 0) ≤ left) × (2 ≤ n) }
     requires indexed_edges { IndexedEdges edges.now n work.old }

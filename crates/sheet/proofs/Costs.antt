@@ -1,10 +1,10 @@
 -- The cost of an edge under the lines of a sheet. Assumes nothing.
 use Prim.Native.Nat.{ℕ, ◌+◌, ◌*◌, ◌/◌, ◌%◌, ◌<◌, ◌≤◌}
+use Rattle.std.specs.Prelude.{min}
 use native.Mathlib.Omega.{arith}
 use native.Mathlib.Nat.{add-zero, zero-mul, mul-le-mul}
 use mathlib.Core.Path.{◌≡◌, sym, ◌∙◌, ap, subst}
 use mathlib.Core.List.{List, Memᴰ}
-use borrow.Author.Tests.{lt-ltb, le-ltb}
 use Rattle.model.specs.Lists.{up_to}
 use Rattle.model.specs.Bytes.{Bytes}
 use Rattle.model.specs.Pair.{key}
@@ -13,6 +13,7 @@ use Rattle.model.specs.Oracle.{no_walk}
 use Rattle.theory.specs.Members.{map→, range→}
 use Rattle.sheet.specs.Sheet.{Line, Effect, Effect.delayed, line, line_count, lines_in, holds}
 use Rattle.sheet.specs.Codes.{effect_in, lines_from}
+use Rattle.sheet.specs.declared.lines.Effect.TheVariants.{Shut, Delayed}
 use Rattle.sheet.specs.Spans.{block_lines, span_of, span_end, InSpan, Spanned, cost_left}
 use Rattle.sheet.proofs.Abouts.{holds_part}
 use Rattle.sheet.proofs.Lasts.{none_holds}
@@ -33,11 +34,10 @@ unfolding block_lines
 span_fits b m size q e p h = let z = mul-le-mul {n₁ = q} {m₁ = size} {n₂ = 65535} {m₂ = size} (omega arith) (omega arith) in omega arith
 
 module _ (b : Bytes) (m size x i : ℕ) (e : m ≡ line_count b) (p : size ≡ block_lines b) (all : AllIn b x i) where
-  pub whole_span : x % 65536 * size < m → holds (lines_in b) i ≡ holds (lines_from b (x / 65536 * size) (x % 65536 * size)) i
-  whole_span h = holds_part b i (x / 65536 * size) (x % 65536 * size) (omega arith) (λ k l q. rw p (all k l q))
-
-  pub cut_span : holds (lines_in b) i ≡ holds (lines_from b (x / 65536 * size) m) i
-  cut_span = holds_part b i (x / 65536 * size) m (omega arith) (λ k l q. ((rw p (all k l q).0), omega arith))
+  pub cut_span : (end : ℕ) → end ≡ min (x % 65536 * size) m → holds (lines_in b) i ≡ holds (lines_from b (x / 65536 * size) end) i
+  cut_span end h =
+      holds_part b i (x / 65536 * size) end (omega arith)
+      (λ k l q. let z : InSpan size x k = rw p (all k l q) in (z.0, omega (arith, z.1)))
 
 -- A word 0: no line is about the edge.
 pub nothing_held : (b : Bytes) (x i : ℕ) → x ≡ 0 → AllIn b x i → holds (lines_in b) i ≡ delayed 0
@@ -56,11 +56,11 @@ pub as_was : (f : Effect) (k : ℕ) (e : Edge) → f ≡ delayed 0 → k ≡ key
 unfolding cost_left
 as_was f k e z p = rw (z, add-zero, p)
 
-module _ (f : Effect) (x : ℕ) (e : Edge) (p : effect_in x ≡ f) where
-  pub by_shut : 4294967296 ≤ x → no_walk ≡ cost_left f e
+module _ (f : Effect) (e : Edge) where
+  pub by_shut : effect_in Shut ≡ f → no_walk ≡ cost_left f e
   unfolding effect_in cost_left
-  by_shut h = rw (← p, le-ltb x 4294967296 h)
+  by_shut p = rw (← p)
 
-  pub by_delay : x < 4294967296 → (k : ℕ) → k ≡ key e.seconds 1 → k + x * 65536 ≡ cost_left f e
+  pub by_delay : (x : ℕ) → effect_in (Delayed x) ≡ f → (k : ℕ) → k ≡ key e.seconds 1 → k + x * 65536 ≡ cost_left f e
   unfolding effect_in cost_left
-  by_delay h k q = rw (← p, lt-ltb x 4294967296 h) (omega arith)
+  by_delay x p k q = rw (← p) (omega arith)

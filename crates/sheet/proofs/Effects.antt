@@ -1,37 +1,75 @@
 -- Laws of the lines' effects as the code reads them. Assumes nothing.
 use Prim.Native.Nat.{ℕ, ◌+◌, ◌≤◌, ◌<◌}
+use native.Mathlib.Omega.{arith}
 use mathlib.Core.Path.{◌≡◌, refl, sym, ◌∙◌}
 use mathlib.Core.Bool.{Bool, true, false, cond, ◌||◌}
 use mathlib.Core.List.{List, [], ◌∷◌, map}
-use borrow.Author.Tests.{lt-ltb, le-ltb, eq-eqb, ne_eqb}
+use lib.Dec.{eqb}
+use borrow.Author.Tests.{eq-eqb, ne_eqb}
+use Rattle.std.specs.Prelude.{Option, Some, None}
 use Rattle.model.specs.Lists.{any, filter}
 use Rattle.model.specs.Bytes.{Bytes}
 use Rattle.theory.specs.RangeLaws.{rest, rest_step, rest_end, rest_all}
 use Rattle.sheet.specs.Sheet.{Line, Effect, Effect.shut, Effect.delayed, line, line_count, lines_in, closes, effect_of, is_about, about, last_effect, holds}
-use Rattle.sheet.specs.Codes.{effect_in, held_after, lines_from}
+use Rattle.sheet.specs.Codes.{status_of, effect_in, held_after, lines_from}
+use Rattle.sheet.specs.declared.lines.Status.{Status}
+use Rattle.sheet.specs.declared.lines.Status.TheVariants.{Closed, Delayed as Slowed}
+use Rattle.sheet.specs.declared.lines.Effect.{Effect as Done}
+use Rattle.sheet.specs.declared.lines.Effect.TheVariants.{Shut, Delayed}
 
-pub as_closed : (l : Line) (x : ℕ) → x ≡ l.status → x ≡ 1 → effect_in 4294967296 ≡ effect_of l
-unfolding effect_in effect_of closes
-as_closed l x p q = rw (eq-eqb l.status 1 (sym p ∙ q))
+-- ---- a line alone
 
-pub as_delayed : (l : Line) (x y : ℕ) → x ≡ l.status → (x ≡ 1 → ⊥) → y ≡ l.added → y < 4294967296 → effect_in y ≡ effect_of l
-unfolding effect_in effect_of closes
-as_delayed l x y p q r h = rw (ne_eqb l.status 1 (λ e. q (p ∙ e)), lt-ltb y 4294967296 h, r)
+-- The first byte x, as the code has read it.
+module _ (l : Line) (x : ℕ) (p : x ≡ l.status) where
+  pub status_closed : x ≡ 1 → Some Closed ≡ status_of l
+  unfolding status_of
+  status_closed q = rw (eq-eqb l.status 1 (sym p ∙ q))
+
+  pub status_slowed : x ≡ 2 → Some Slowed ≡ status_of l
+  unfolding status_of
+  status_slowed q = rw (eq-eqb l.status 2 (sym p ∙ q), ne_eqb l.status 1 (λ z. omega arith))
+
+  pub status_none : (x ≡ 1 → ⊥) → (x ≡ 2 → ⊥) → None ≡ status_of l
+  unfolding status_of
+  status_none q r = rw (ne_eqb l.status 1 (λ z. q (p ∙ z)), ne_eqb l.status 2 (λ z. r (p ∙ z)))
+
+module _ (l : Line) where
+  first_is : (a b : Bool) → cond a (Some Closed) (cond b (Some Slowed) None) ≡ Some Closed → a ≡ true
+  first_is true b e = refl
+  first_is false true e = cc
+  first_is false false e = cc
+
+  pub as_closed : Some Closed ≡ status_of l → effect_in Shut ≡ effect_of l
+  unfolding status_of effect_in effect_of closes
+  as_closed e = rw (first_is (eqb l.status 1) (eqb l.status 2) (sym e))
+
+  pub as_delayed : (s : Option Status) (y : ℕ) → s ≡ status_of l → (s ≡ Some Closed → ⊥) → y ≡ l.added → effect_in (Delayed y) ≡ effect_of l
+  unfolding status_of effect_in effect_of closes
+  as_delayed s y e q r = rw r (pick (eqb l.status 1) (eqb l.status 2) e)
+    where
+      pick : (a b : Bool) → s ≡ cond a (Some Closed) (cond b (Some Slowed) None) → delayed l.added ≡ cond a shut (delayed l.added)
+      pick true b f = absurd (q f)
+      pick false b f = refl
 
 -- ---- one line after x
-module _ (l : Line) (i e x : ℕ) (p : e ≡ l.edge) where
-  pub about_yes : e ≡ i → x < 4294967296 → {y : Effect} → y ≡ effect_of l → y ≡ cond (is_about i l) (held_after (effect_in x) (effect_of l)) (effect_in x)
+module _ (l : Line) (i e : ℕ) (p : e ≡ l.edge) where
+  pub about_yes : (x : ℕ) → e ≡ i → {y : Effect} → y ≡ effect_of l
+      → y ≡ cond (is_about i l) (held_after (effect_in (Delayed x)) (effect_of l)) (effect_in (Delayed x))
   unfolding is_about effect_in held_after
-  about_yes q b h = rw (eq-eqb l.edge i (sym p ∙ q), lt-ltb x 4294967296 b) h
+  about_yes x q h = rw (eq-eqb l.edge i (sym p ∙ q)) h
 
-  -- A closure stays.
-  pub about_shut : e ≡ i → 4294967296 ≤ x → effect_in x ≡ cond (is_about i l) (held_after (effect_in x) (effect_of l)) (effect_in x)
-  unfolding is_about effect_in held_after
-  about_shut q b = rw (eq-eqb l.edge i (sym p ∙ q), le-ltb x 4294967296 b)
-
-  pub about_no : (e ≡ i → ⊥) → effect_in x ≡ cond (is_about i l) (held_after (effect_in x) (effect_of l)) (effect_in x)
+  pub about_no : (x : Done) → (e ≡ i → ⊥) → effect_in x ≡ cond (is_about i l) (held_after (effect_in x) (effect_of l)) (effect_in x)
   unfolding is_about
-  about_no q = rw (ne_eqb l.edge i (λ z. q (p ∙ z)))
+  about_no x q = rw (ne_eqb l.edge i (λ z. q (p ∙ z)))
+
+-- A closure stays.
+pub about_shut : (l : Line) (i : ℕ) → effect_in Shut ≡ cond (is_about i l) (held_after (effect_in Shut) (effect_of l)) (effect_in Shut)
+unfolding effect_in held_after
+about_shut l i = pick (is_about i l)
+  where
+    pick : (b : Bool) → shut ≡ cond b shut shut
+    pick true = refl
+    pick false = refl
 
 -- ---- line after line
 

@@ -2,7 +2,7 @@
 use Prim.Native.Nat.{ℕ, ◌+◌, ◌-◌, ◌%◌, ◌≤◌}
 use native.Mathlib.Omega.{arith}
 use mathlib.Core.Path.{◌≡◌, refl, sym, ◌∙◌, ap}
-use mathlib.Core.Bool.{Bool, true, false, not, ◌&&◌, ◌||◌, or-true}
+use mathlib.Core.Bool.{Bool, true, false, not, cond, ◌&&◌, ◌||◌, or-true}
 use mathlib.Core.List.{[], ◌∷◌}
 use lib.ListN.{length, take, drop, length-drop}
 use lib.Seq.{length-take-le}
@@ -13,6 +13,10 @@ use Rattle.model.specs.Bytes.{Bytes, byte, word32, cut}
 use Rattle.model.specs.Contents.{entry, entry_at, body_part, body, contents_broken}
 use Rattle.theory.specs.Passed.{or-false, not-false}
 use Rattle.theory.specs.Tests.{both}
+use Rattle.std.specs.Prelude.{Option, Some, None}
+use Rattle.sheet.specs.Codes.{status_of}
+use Rattle.sheet.specs.declared.lines.Status.{Status}
+use Rattle.sheet.specs.declared.lines.Status.TheVariants.{Closed, Delayed as Slowed}
 use Rattle.sheet.specs.Sheet.{Line, lines_in, line_body, closes, line_broken, form_broken, sheet_broken}
 
 -- ---- the form
@@ -82,18 +86,21 @@ module _ (sheet : Bytes) where
       (omega arith, body_part_law (word32 sheet 3) (word32 sheet 7) refl start refl end ∙ ap (λ (k : ℕ). take k (drop 11 sheet)) size)
 
 -- ---- a line
-module _ (l : Line) (x : ℕ) (p : x ≡ l.status) where
-  pub by_delayed : x ≡ 2 → false ≡ line_broken l
-  unfolding line_broken closes
-  by_delayed q = rw (sym p ∙ q)
 
-  pub by_closed : (y : ℕ) → x ≡ 1 → y ≡ l.added → not (eqb y 0) ≡ line_broken l
-  unfolding line_broken closes
-  by_closed y q r = rw (sym p ∙ q, r)
+-- Whether a line is broken, by what its first byte says and whether it adds seconds.
+abbrev pub verdict : Option Status → Bool → Bool
+verdict (Some Closed) adds = adds
+verdict (Some Slowed) adds = false
+verdict None adds = true
 
-  pub by_neither : (x ≡ 2 → ⊥) → (x ≡ 1 → ⊥) → true ≡ line_broken l
-  unfolding line_broken closes
-  by_neither d c = rw (← p, ne_eqb x 1 c, ne_eqb x 2 d)
+pub by_status : (l : Line) (s : Option Status) (adds : Bool) → s ≡ status_of l → adds ≡ not (eqb l.added 0) → verdict s adds ≡ line_broken l
+unfolding line_broken closes status_of
+by_status l s adds p q = rw (p, q) (pick (eqb l.status 1) (eqb l.status 2) (not (eqb l.added 0)))
+  where
+    pick : (a b c : Bool) → verdict (cond a (Some Closed) (cond b (Some Slowed) None)) c ≡ (not (a || b) || (a && c))
+    pick true b c = refl
+    pick false true c = refl
+    pick false false c = refl
 
 -- ---- the form and the lines
 pub by_form : (sheet : Bytes) → form_broken sheet ≡ true → true ≡ sheet_broken sheet

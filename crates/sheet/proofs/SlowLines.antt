@@ -1,12 +1,12 @@
 -- Rule 20 line by line: an edge is too slow just where one of its own lines would make it so and what holds for it does. Assumes nothing.
-use Prim.Native.Nat.{ℕ, ◌+◌, ◌<◌, ◌≤◌}
+use Prim.Native.Nat.{ℕ, ◌+◌, ◌<◌}
 use native.Mathlib.Omega.{arith}
 use mathlib.Core.Path.{◌≡◌, refl, sym, ◌∙◌, ap, subst}
 use mathlib.Core.Logic.{◌⊎◌, inl, inr}
 use mathlib.Core.Bool.{true, false, ◌&&◌, true≢false}
 use mathlib.Core.List.{List, Memᴰ}
 use lib.Dec.{ltb}
-use borrow.Author.Tests.{ltb-true, leb-false, lt-ltb, le-ltb}
+use borrow.Author.Tests.{ltb-true, leb-false, lt-ltb}
 use Rattle.model.specs.Lists.{any, up_to}
 use Rattle.model.specs.Bytes.{Bytes}
 use Rattle.model.specs.Network.{Edge, edge, edge_count, max_seconds, some_edge_broken}
@@ -17,6 +17,8 @@ use Rattle.sheet.specs.Sheet.{Line, Effect, Effect.shut, Effect.delayed, line, l
 use Rattle.sheet.specs.Under.{left_of, edges_under, too_slow}
 use Rattle.sheet.specs.ArcsUnder.{left_under}
 use Rattle.sheet.specs.Codes.{effect_in}
+use Rattle.sheet.specs.declared.lines.Effect.{Effect as Done}
+use Rattle.sheet.specs.declared.lines.Effect.TheVariants.{Shut, Delayed}
 use Rattle.sheet.specs.Slow.{over_by, line_slow, Quick}
 use Rattle.sheet.proofs.Lasts.{last_holds_law, none_holds, left_open, which}
 use Rattle.sheet.proofs.Ground.{left→, →left, under→, →under}
@@ -26,21 +28,21 @@ pub quick : (n : ℕ) (b : Bytes) → some_edge_broken n b ≡ false → Quick b
 quick n b ok i h = (sound.edge_fine n b ok i h).at_most
 
 -- ---- an effect as the code has it
-pub over_shut : (x : ℕ) (e : Edge) → 4294967296 ≤ x → false ≡ over_by (effect_in x) e
+pub over_shut : (e : Edge) → false ≡ over_by (effect_in Shut) e
 unfolding effect_in over_by
-over_shut x e h = rw (le-ltb x 4294967296 h)
+over_shut e = refl
 
-pub over_delayed : (x s : ℕ) (e : Edge) → x < 4294967296 → s ≡ e.seconds → ltb max_seconds (s + x) ≡ over_by (effect_in x) e
+pub over_delayed : (x s : ℕ) (e : Edge) → s ≡ e.seconds → ltb max_seconds (s + x) ≡ over_by (effect_in (Delayed x)) e
 unfolding effect_in over_by
-over_delayed x s e h p = rw (lt-ltb x 4294967296 h, p)
+over_delayed x s e p = rw p
 
 -- ---- the ways out of the check of a line
-module _ (effect : ℕ → Effect) (b : Bytes) (l : Line) (i x : ℕ) (p : i ≡ l.edge) (q : effect_in x ≡ effect_of l) where
+module _ (effect : ℕ → Effect) (b : Bytes) (l : Line) (i : ℕ) (x : Done) (p : i ≡ l.edge) (q : effect_in x ≡ effect_of l) where
   pub not_over : over_by (effect_in x) (edge b i) ≡ false → false ≡ line_slow effect b l
   unfolding line_slow
   not_over h = rw (← q, ← p, h)
 
-  pub by_held : (y : ℕ) → over_by (effect_in x) (edge b i) ≡ true → effect_in y ≡ effect i
+  pub by_held : (y : Done) → over_by (effect_in x) (edge b i) ≡ true → effect_in y ≡ effect i
       → over_by (effect_in y) (edge b i) ≡ line_slow effect b l
   unfolding line_slow
   by_held y h e = rw (← q, ← p, h, e)

@@ -3,7 +3,7 @@ ghost use Rattle.std.specs.Prelude.{◌≡◌, false, ◌+◌, ◌*◌, ◌≤�
 ghost use Rattle.model.specs.Lists.{any};
 ghost use Rattle.sheet.specs.Sheet.{line_size, line, line_body, lines_in, line_broken, form_broken, sheet_broken};
 
-use crate::lines::{ADDED_AT, CLOSED, DELAYED, LINE_SIZE};
+use crate::lines::{ADDED_AT, LINE_SIZE, Status, line_status};
 use codec::bytes::{byte, read32};
 use contents::{OFFSET_AT, SIZE_AT, contents_broken};
 
@@ -51,28 +51,17 @@ fn line_broken(lines: &[u8], k: usize) -> bool
     requires { line_size * k + line_size ≤ length lines.now }
     ensures { result ≡ line_broken (line lines.now k) }
 {
-    let status = byte(lines, LINE_SIZE * k);
-    if status == DELAYED {
-        return false;
+    match line_status(lines, k) {
+        Some(Status::Delayed) => false,
+        Some(Status::Closed) => read32(lines, LINE_SIZE * k + ADDED_AT) != 0,
+        None => true,
     }
-    if status == CLOSED {
-        return read32(lines, LINE_SIZE * k + ADDED_AT) != 0;
-    }
-    true
 }
 
 fn some_line_broken(lines: &[u8]) -> bool
     ensures { result ≡ any line_broken (lines_in lines.now) }
 {
-    let m = lines.len() / LINE_SIZE;
-    let mut k = 0;
-    while k < m {
-        if line_broken(lines, k) {
-            return true;
-        }
-        k += 1;
-    }
-    false
+    (0..lines.len() / LINE_SIZE).any(|k| line_broken(lines, k))
 }
 
 pub fn sheet_broken(sheet: &[u8]) -> bool

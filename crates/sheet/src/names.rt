@@ -8,13 +8,5 @@ use crate::lines::{LINE_SIZE, line_edge};
 pub fn names_broken(m: usize, lines: &[u8]) -> bool
     ensures { result ≡ any (names_none m) (lines_in lines.now) }
 {
-    let count = lines.len() / LINE_SIZE;
-    let mut k = 0;
-    while k < count {
-        if m <= line_edge(lines, k) {
-            return true;
-        }
-        k += 1;
-    }
-    false
+    (0..lines.len() / LINE_SIZE).any(|k| m <= line_edge(lines, k))
 }

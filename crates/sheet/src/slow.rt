@@ -9,20 +9,20 @@ ghost use Rattle.sheet.specs.ArcsUnder.{left_under};
 ghost use Rattle.sheet.specs.Codes.{effect_in};
 ghost use Rattle.sheet.specs.Slow.{over_by, line_slow, Quick};
 
-use crate::lines::{LINE_SIZE, SHUT, effect_on, line_edge, line_effect};
-use codec::records::edge_seconds;
+use crate::lines::{Effect, LINE_SIZE, effect_on, line_edge, line_effect};
+use codec::records::Edge;
 
 const MAX_SECONDS: u64 = 100000;
 
 // Whether x takes edge i over the limit.
-fn over(edges: &[u8], i: usize, x: u64) -> bool
+fn over(edges: &[u8], i: usize, x: Effect) -> bool
     requires { i < edge_count edges.now }
     ensures { result ≡ over_by (effect_in x) (edge edges.now i) }
 {
-    if SHUT <= x {
-        return false;
+    match x {
+        Effect::Shut => false,
+        Effect::Delayed(added) => MAX_SECONDS < Edge::read(edges, i).seconds as u64 + added as u64,
     }
-    MAX_SECONDS < edge_seconds(edges, i) as u64 + x
 }
 
 // Whether the edge of line k is too slow, as far as this line tells.
@@ -32,11 +32,11 @@ fn line_slow(edges: &[u8], lines: &[u8], k: usize) -> bool
 {
     let i = line_edge(lines, k);
     let x = line_effect(lines, k);
-    if over(edges, i, x) {
-        let held = effect_on(lines, i);
-        return over(edges, i, held);
+    if !over(edges, i, x) {
+        return false;
     }
-    false
+    let held = effect_on(lines, i);
+    over(edges, i, held)
 }
 
 pub fn slow_broken(edges: &[u8], lines: &[u8]) -> bool
@@ -44,13 +44,5 @@ pub fn slow_broken(edges: &[u8], lines: &[u8]) -> bool
     requires lines_value { any (names_none (edge_count edges.now)) (lines_in lines.now) ≡ false }
     ensures { result ≡ any too_slow (left_under edges.now lines.now) }
 {
-    let m = lines.len() / LINE_SIZE;
-    let mut k = 0;
-    while k < m {
-        if line_slow(edges, lines, k) {
-            return true;
-        }
-        k += 1;
-    }
-    false
+    (0..lines.len() / LINE_SIZE).any(|k| line_slow(edges, lines, k))
 }

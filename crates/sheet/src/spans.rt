@@ -1,5 +1,5 @@
 // Where the lines about an edge stand, noted in the working words, and the cost of an edge under a sheet.
-ghost use Rattle.std.specs.Prelude.{◌≡◌, ℕ, ◌+◌, ◌*◌, ◌/◌, ◌%◌, ◌<◌, ◌≤◌, min, max, length};
+ghost use Rattle.std.specs.Prelude.{◌≡◌, ℕ, ◌+◌, ◌*◌, ◌/◌, ◌%◌, ◌<◌, ◌≤◌, length};
 ghost use Rattle.model.specs.Network.{max_nodes, edge, edge_count};
 ghost use Rattle.words.specs.Regions.{spans_at, span_count, spans_in};
 ghost use Rattle.words.specs.Frames.{Enough, OnlyIn};
@@ -7,8 +7,7 @@ ghost use Rattle.sheet.specs.Sheet.{line, line_count, lines_in, holds};
 ghost use Rattle.sheet.specs.Codes.{effect_in};
 ghost use Rattle.sheet.specs.Spans.{block_lines, span_of, InSpan, Spanned, SpannedTo, SpannedIn, Widened, cost_left};
 
-use crate::lines::{LINE_SIZE, SHUT, effect_among, line_edge};
-use bitset::words::fill;
+use crate::lines::{Effect, LINE_SIZE, effect_among, line_edge};
 use codec::keys::edge_key;
 use codec::records::{HOP_BASE, NO_WALK};
 use words::regions::{span_count, spans_at};
@@ -27,25 +26,7 @@ fn block_lines(lines: &[u8]) -> usize
 
 // ---- noting the lines
 
-fn lower(a: u32, b: u32) -> u32
-    ensures { result ≡ min a b }
-{
-    if a < b {
-        return a;
-    }
-    b
-}
-
-fn higher(a: u32, b: u32) -> u32
-    ensures { result ≡ max a b }
-{
-    if a < b {
-        return b;
-    }
-    a
-}
-
-// The word x with block q.
+// The word x with block q. A word without a block is 0, as the specification lays them out.
 fn with_block(x: u32, q: u32) -> u32
     requires { q < 65535 }
     ensures { Widened x q result }
@@ -53,7 +34,7 @@ fn with_block(x: u32, q: u32) -> u32
     if x == 0 {
         return q * FIRST + q + 1;
     }
-    lower(x / FIRST, q) * FIRST + higher(x % FIRST, q + 1)
+    (x / FIRST).min(q) * FIRST + (x % FIRST).max(q + 1)
 }
 
 // Notes line k, where the lines before it are noted.
@@ -70,13 +51,10 @@ fn note_all(lines: &[u8], spans: &mut [u32])
     requires { 0 < length spans.old }
     ensures { Spanned lines.now spans.new }
 {
-    fill(spans, 0);
-    let m = lines.len() / LINE_SIZE;
+    spans.fill(0);
     let size = block_lines(lines);
-    let mut k = 0;
-    while k < m {
+    for k in 0..lines.len() / LINE_SIZE {
         note_line(lines, size, k, spans);
-        k += 1;
     }
 }
 
@@ -102,7 +80,7 @@ fn span_of(work: &[u32], n: usize, i: usize) -> u32
 }
 
 // What the lines do to edge i, whose lines are all in the span x.
-fn effect_in(lines: &[u8], x: u32, i: usize) -> u64
+fn effect_in(lines: &[u8], x: u32, i: usize) -> Effect
     requires { (k : ℕ) → k < line_count lines.now → (line lines.now k).edge ≡ i → InSpan (block_lines lines.now) x k }
     ensures { effect_in result ≡ holds (lines_in lines.now) i }
 {
@@ -110,13 +88,11 @@ fn effect_in(lines: &[u8], x: u32, i: usize) -> u64
     let size = block_lines(lines);
     let first = (x / FIRST) as usize * size;
     let end = (x % FIRST) as usize * size;
-    if end < m {
-        return effect_among(lines, first, end, i);
-    }
-    effect_among(lines, first, m, i)
+    effect_among(lines, first, end.min(m), i)
 }
 
-// The cost of edge i as the lines leave it, or 'no walk' where they close it. For an edge that shares no span with a line one word is read.
+// The cost of edge i as the lines leave it, or 'no walk' where they close it, as the specification says it. For an edge that shares no span with a line one
+// word is read.
 pub fn cost_left(edges: &[u8], lines: &[u8], n: usize, work: &[u32], i: usize) -> u64
     requires le_n { (2 ≤ n) × (n ≤ max_nodes) × Enough n work.now × SpannedIn lines.now n work.now }
     requires i_bound { i < edge_count edges.now }
@@ -127,9 +103,8 @@ pub fn cost_left(edges: &[u8], lines: &[u8], n: usize, work: &[u32], i: usize) -
     if x == 0 {
         return cost;
     }
-    let added = effect_in(lines, x, i);
-    if SHUT <= added {
-        return NO_WALK;
+    match effect_in(lines, x, i) {
+        Effect::Shut => NO_WALK,
+        Effect::Delayed(added) => cost + added as u64 * HOP_BASE,
     }
-    cost + added * HOP_BASE
 }

@@ -6,7 +6,7 @@ ghost use Rattle.model.specs.Query.{answer, sum_by, far_distance};
 ghost use Rattle.tables.specs.Premises.{HasList, ListedBelow, HasRow, InTwo, summed, sum_in, far_from};
 
 use crate::lists::{entry_at, entry_index, entry_value, list_count};
-use crate::sums::{lesser, sum};
+use crate::sums::sum;
 use codec::keys::{hops_of, seconds_of};
 use codec::records::{NO_WALK, NUMBER_SIZE, VALUE_SIZE};
 use model::{Answer, Kind};
@@ -28,10 +28,8 @@ fn least_over(access: &[u8], row: &[u8], e: usize) -> u64
 {
     let n = list_count(access, e);
     let mut least = NO_WALK;
-    let mut j = 0;
-    while j < n {
-        least = lesser(least, sum_with(access, row, e, j));
-        j += 1;
+    for j in 0..n {
+        least = least.min(sum_with(access, row, e, j));
     }
     least
 }
@@ -54,10 +52,8 @@ fn far_key(t: usize, access: &[u8], table: &[u8], s: usize, e: usize) -> u64
 {
     let n = list_count(access, s);
     let mut least = NO_WALK;
-    let mut i = 0;
-    while i < n {
-        least = lesser(least, least_from(t, access, table, s, i, e));
-        i += 1;
+    for i in 0..n {
+        least = least.min(least_from(t, access, table, s, i, e));
     }
     least
 }

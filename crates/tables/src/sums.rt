@@ -1,5 +1,5 @@
-// The sums of the far answer, and the lesser of two.
-ghost use Rattle.std.specs.Prelude.{◌≡◌, ◌+◌, ◌≤◌, min, length};
+// The sums of the far answer.
+ghost use Rattle.std.specs.Prelude.{◌≡◌, ◌+◌, ◌≤◌, length};
 ghost use Rattle.model.specs.Oracle.{value_size, value_key};
 
 use codec::bytes::{read16, read32};
@@ -13,13 +13,4 @@ pub fn sum(row: &[u8], i: usize, access: &[u8], j: usize) -> u64
     let seconds = read32(row, i) as u64 + read32(access, j) as u64;
     let hops = read16(row, i + SECONDS_SIZE) + read16(access, j + SECONDS_SIZE);
     HOP_BASE * seconds + hops as u64
-}
-
-pub fn lesser(a: u64, b: u64) -> u64
-    ensures { result ≡ min a b }
-{
-    if b < a {
-        return b;
-    }
-    a
 }

@@ -1,9 +1,7 @@
 // Random networks: a network is a function of its seed. Each is written as a file, and searched in another way.
-use crate::memory::{plus, product, put_word, sum, word, write16, write32};
+ghost use Rattle.std.specs.Prelude.{◌<◌};
 
-pub const NO_WALK: u32 = 4294967295;
-
-pub const NO_ROADS: u32 = 65535;
+use crate::memory::{write16, write32};
 
 // At most 16 places and 47 roads. Places lie no farther than `spread` from the origin, roads take at most `seconds`, and of four roads about so many as `zeros`
 // take 0.
@@ -17,21 +15,34 @@ pub struct Network {
     zeros: u32,
 }
 
-// The seconds and the roads of a walk. Where there is none, those that mark it.
-#[derive(Clone, Copy)]
+// The seconds and the roads of a walk. "Walks are compared by seconds, then by fewer roads."
+#[derive(Clone, Copy, PartialEq, Eq, PartialOrd, Ord)]
 pub struct Total {
     pub seconds: u32,
     pub roads: u32,
 }
 
+impl Total {
+    // The walk that stays.
+    pub const STAY: Total = Total {
+        seconds: 0,
+        roads: 0,
+    };
+}
+
+// The least totals from each of 16 places to each, None where no walk is known.
+pub type Least = [Option<Total>; 256];
+
+// One number from two.
+fn mixed(a: u32, b: u32) -> u32 {
+    (u64::from(a) * u64::from(b) % 2147483647) as u32
+}
+
 // Number k of a seed, below n.
 pub fn random(seed: u32, k: u32, n: u32) -> u32 {
-    let x = product(sum(seed, 12345), sum(k, 48271)) % 2147483647;
-    let y = product(x as u32, sum(x as u32, k)) % 2147483647;
-    if n == 0 {
-        return 0;
-    }
-    y as u32 % n
+    let x = mixed(seed.wrapping_add(12345), k.wrapping_add(48271));
+    let y = mixed(x, x.wrapping_add(k));
+    if n == 0 { 0 } else { y % n }
 }
 
 // With 0 all places lie in one spot, or all roads take 0 seconds.
@@ -61,13 +72,13 @@ pub fn of_seed(seed: u32) -> Network {
 
 // A coordinate of place i: k is 100 for x, 200 for y.
 fn metres(net: Network, k: u32, i: u32) -> u32 {
-    let x = random(net.seed, sum(k, i), sum(sum(net.spread, net.spread), 1));
-    std::num::wrapping_sub_u32(x, net.spread)
+    let wide = net.spread.wrapping_add(net.spread).wrapping_add(1);
+    random(net.seed, k.wrapping_add(i), wide).wrapping_sub(net.spread)
 }
 
 // The ends of road r, which differ. Where roads are few there are islands.
 fn first(net: Network, r: u32) -> u32 {
-    random(net.seed, sum(300, r), net.n)
+    random(net.seed, r.wrapping_add(300), net.n)
 }
 
 fn second(net: Network, r: u32) -> u32 {
@@ -75,15 +86,15 @@ fn second(net: Network, r: u32) -> u32 {
     if n < 2 {
         return 0;
     }
-    let on = random(net.seed, sum(400, r), n - 1);
-    sum(sum(first(net, r), 1), on) % n
+    let on = random(net.seed, r.wrapping_add(400), n - 1);
+    first(net, r).wrapping_add(1).wrapping_add(on) % n
 }
 
 fn seconds(net: Network, r: u32) -> u32 {
-    if random(net.seed, sum(600, r), 4) < net.zeros {
+    if random(net.seed, r.wrapping_add(600), 4) < net.zeros {
         return 0;
     }
-    random(net.seed, sum(500, r), sum(net.seconds, 1))
+    random(net.seed, r.wrapping_add(500), net.seconds.wrapping_add(1))
 }
 
 // ---- files
@@ -98,20 +109,20 @@ fn road_at(n: u32, r: u32) -> usize {
 
 fn put_place(b: &mut [u8], here: usize, x: u32, y: u32) {
     write32(b, here, x);
-    write32(b, plus(here, 4), y);
+    write32(b, here.wrapping_add(4), y);
 }
 
 fn put_road(b: &mut [u8], here: usize, u: u32, v: u32, x: u32) {
     write16(b, here, u);
-    write16(b, plus(here, 2), v);
-    write32(b, plus(here, 4), x);
+    write16(b, here.wrapping_add(2), v);
+    write32(b, here.wrapping_add(4), x);
 }
 
 // A kind, offset and length.
 fn put_entry(b: &mut [u8], here: usize, kind: u32, offset: u32, length: u32) {
     write16(b, here, kind);
-    write32(b, plus(here, 1), offset);
-    write32(b, plus(here, 5), length);
+    write32(b, here.wrapping_add(1), offset);
+    write32(b, here.wrapping_add(5), length);
 }
 
 // The contents of a network of so many places and roads; answers the file's size.
@@ -125,133 +136,100 @@ fn put_head(b: &mut [u8], n: u32, roads: u32) -> usize {
     next as usize
 }
 
-fn put_random(b: &mut [u8], net: Network, i: u32) {
-    let x = metres(net, 100, i);
-    put_place(b, place_at(i), x, metres(net, 200, i));
-}
-
 fn put_places(b: &mut [u8], net: Network) {
     for i in 0u32..16 {
-        put_random(b, net, i);
+        put_place(b, place_at(i), metres(net, 100, i), metres(net, 200, i));
     }
 }
 
-fn put_one(b: &mut [u8], net: Network, r: u32) {
-    let x = seconds(net, r);
-    put_road(b, road_at(net.n, r), first(net, r), second(net, r), x);
-}
-
-fn put_roads(b: &mut [u8], net: Network, end: u32) {
-    for i in 0..end {
-        put_one(b, net, i);
+fn put_roads(b: &mut [u8], net: Network) {
+    for r in 0..net.roads {
+        let at = road_at(net.n, r);
+        put_road(b, at, first(net, r), second(net, r), seconds(net, r));
     }
 }
 
 // Writes a network at the front of b; answers its size.
 pub fn put_network(b: &mut [u8], net: Network) -> usize {
     put_places(b, net);
-    put_roads(b, net, net.roads);
+    put_roads(b, net);
     put_head(b, net.n, net.roads)
 }
 
 // ---- another search, by pairs of seconds and roads
 
-fn none() -> Total {
-    Total {
-        seconds: NO_WALK,
-        roads: NO_ROADS,
-    }
-}
-
-// One road that takes so long, or none.
+// One road that takes so long.
 pub fn step(seconds: u32) -> Total {
-    if seconds == NO_WALK {
-        return none();
-    }
     Total { seconds, roads: 1 }
 }
 
-// The total of two parts, where both are walks.
+// The total of two parts.
 pub fn joined(a: Total, b: Total) -> Total {
-    if (a.seconds == NO_WALK) | (b.seconds == NO_WALK) {
-        return none();
-    }
     Total {
-        seconds: sum(a.seconds, b.seconds),
-        roads: sum(a.roads, b.roads),
+        seconds: a.seconds.wrapping_add(b.seconds),
+        roads: a.roads.wrapping_add(b.roads),
     }
 }
 
-// "Walks are compared by seconds, then by fewer roads."
-fn less(a: Total, b: Total) -> bool {
-    (a.seconds < b.seconds) | ((a.seconds == b.seconds) & (a.roads < b.roads))
-}
-
-// Where the seconds from s to t stand in a matrix of 16 by 16, NO_WALK at first; the roads stand in another behind it.
-fn square(s: u32, t: u32) -> usize {
+// Where the total from s to t stands.
+fn square(s: u32, t: u32) -> usize
+    ensures { result < 256 }
+{
     (s % 16 * 16 + t % 16) as usize
 }
 
-pub fn between(d: &[u32], s: u32, t: u32) -> Total {
+pub fn between(d: &Least, s: u32, t: u32) -> Option<Total> {
     if s == t {
-        return Total {
-            seconds: 0,
-            roads: 0,
-        };
-    }
-    let seconds = word(d, square(s, t));
-    if seconds == NO_WALK {
-        return none();
-    }
-    Total {
-        seconds,
-        roads: word(d, plus(square(s, t), 256)),
+        Some(Total::STAY)
+    } else {
+        d[square(s, t)]
     }
 }
 
-fn lower(d: &mut [u32], s: u32, t: u32, x: Total) {
-    if less(x, between(d, s, t)) {
-        put_word(d, square(s, t), x.seconds);
-        put_word(d, plus(square(s, t), 256), x.roads);
+// The walk over v and the road from there, where it is less than what is known.
+fn lower(d: &mut Least, s: u32, v: u32, t: u32, road: u32) {
+    let Some(walk) = between(d, s, v) else {
+        return;
+    };
+    let x = joined(walk, step(road));
+    let less = match between(d, s, t) {
+        Some(known) => x < known,
+        None => true,
+    };
+    if less {
+        d[square(s, t)] = Some(x);
     }
 }
 
 // Road r in both directions, for the walks from s.
-fn relax(d: &mut [u32], net: Network, s: u32, r: u32) {
-    if net.roads <= r {
-        return;
-    }
+fn relax(d: &mut Least, net: Network, s: u32, r: u32) {
     let u = first(net, r);
     let v = second(net, r);
     let x = seconds(net, r);
-    lower(d, s, v, joined(between(d, s, u), step(x)));
-    lower(d, s, u, joined(between(d, s, v), step(x)));
+    lower(d, s, u, v, x);
+    lower(d, s, v, u, x);
 }
 
 // Bellman and Ford's: from each of 16 places 16 rounds over all roads.
-pub fn search(d: &mut [u32], net: Network) {
-    for i in 0u32..16384 {
-        relax(d, net, i / 64 % 16, i % 64);
+pub fn search(d: &mut Least, net: Network) {
+    for _round in 0u32..16 {
+        for s in 0u32..16 {
+            for r in 0..net.roads {
+                relax(d, net, s, r);
+            }
+        }
     }
 }
 
-// The least time of an open road between u and v, among the roads so far.
-fn leg_with(net: Network, u: u32, v: u32, r: u32, so_far: u32) -> u32 {
-    let a = first(net, r);
-    let b = second(net, r);
-    let x = seconds(net, r);
-    let joins = ((a == u) & (b == v)) | ((a == v) & (b == u));
-    if joins & (x < so_far) {
-        return x;
-    }
-    so_far
+fn joins(net: Network, r: u32, u: u32, v: u32) -> bool {
+    let ends = (first(net, r), second(net, r));
+    ends == (u, v) || ends == (v, u)
 }
 
-pub fn leg(net: Network, u: u32, v: u32) -> u32 {
-    let end = net.roads;
-    let mut least = NO_WALK;
-    for i in 0..end {
-        least = leg_with(net, u, v, i, least);
-    }
-    least
+// The least time of a road between u and v.
+pub fn leg(net: Network, u: u32, v: u32) -> Option<u32> {
+    (0..net.roads)
+        .filter(|r| joins(net, *r, u, v))
+        .map(|r| seconds(net, r))
+        .min()
 }

@@ -21,6 +21,7 @@ ghost use Rattle.opened.specs.Opened.{Opened, Stays};
 ghost use Rattle.opened.specs.TimesFrom.{way_over};
 ghost use Rattle.under.specs.Judged.{net_under, QuickLines, NotedThen, Judged};
 
+use arcs::roads::Roads;
 use model::{Answer, Kind};
 use opened::answers;
 use opened::local::{search_key, search_to};
@@ -51,7 +52,13 @@ fn old_way_driven(
 {
     note_lines(lines, n, work);
     search_to(edges, &edges[..0], n, t, s, work);
-    still_driven(edges, lines, n, work, s)
+    let roads = Roads {
+        edges,
+        lines,
+        n,
+        work: &*work,
+    };
+    still_driven(&roads, s)
 }
 
 // The same over the oracle.
@@ -76,19 +83,11 @@ fn old_answer(o: &[u8], s: usize, t: usize, work: &[u32]) -> Answer
     }
 }
 
+#[tactic(auto, unfolding(sheet::specs::Under::is_none))]
 fn is_none(a: Answer) -> bool
     ensures { result ≡ is_none a }
 {
-    match a {
-        Answer::Time {
-            seconds,
-            hops,
-            kind,
-            pairs,
-        } => false,
-        Answer::None { kind, pairs } => true,
-        Answer::Refused { rule } => false,
-    }
+    matches!(a, Answer::None { .. })
 }
 
 // The answer of a search over the edges as the lines leave them: "marked local with 0 pairs".
@@ -114,10 +113,7 @@ pub fn time_under_of(o: &[u8], lines: &[u8], s: usize, t: usize, work: &mut [u32
     }
     let driven = judge(o, lines, s, t, work);
     let old = old_answer(o, s, t, work);
-    if driven {
-        return old;
-    }
-    if is_none(old) {
+    if driven || is_none(old) {
         return old;
     }
     searched(o, lines, s, t, work)

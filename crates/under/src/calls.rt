@@ -13,9 +13,10 @@ use sheet::form::line_body;
 pub fn time_under(o: &[u8], sheet: &[u8], s: u32, t: u32, work: &mut [u32]) -> Answer
     ensures { TimeUnderCall o.now sheet.now s t work.old result work.new }
 {
-    let rule = time_under_refusal(o, sheet, s, t, work.len());
-    if rule != 0 {
-        return Answer::Refused { rule };
+    if let Err(broken) = time_under_refusal(o, sheet, s, t, work.len()) {
+        return Answer::Refused {
+            rule: broken.number(),
+        };
     }
     open_words(o, work);
     let answer = time_under_of(o, line_body(sheet), s as usize, t as usize, work);
@@ -28,9 +29,11 @@ pub fn way_under(o: &[u8], sheet: &[u8], s: u32, t: u32, work: &mut [u32], out: 
     ensures { WayUnderCall o.now sheet.now s t work.old out.old result work.new
         out.new }
 {
-    let rule = time_under_refusal(o, sheet, s, t, work.len());
-    if rule != 0 {
-        return Route { rule, nodes: 0 };
+    if let Err(broken) = time_under_refusal(o, sheet, s, t, work.len()) {
+        return Route {
+            rule: broken.number(),
+            nodes: 0,
+        };
     }
     open_words(o, work);
     let route = way_under_of(o, line_body(sheet), s as usize, t as usize, work, out);

@@ -19,9 +19,10 @@ pub fn time_under(o: &[u8], sheet: &[u8], s: u32, t: u32, work: &mut [u32]) -> A
     ensures result { result ≡ time_under_result o.now sheet.now s t work.old }
     ensures stays { Stays o.now work.old work.new }
 {
-    let rule = named_under_refusal(o, sheet, s, t);
-    if rule != 0 {
-        return Answer::Refused { rule };
+    if let Err(broken) = named_under_refusal(o, sheet, s, t) {
+        return Answer::Refused {
+            rule: broken.number(),
+        };
     }
     time_under_of(o, line_body(sheet), s as usize, t as usize, work)
 }
@@ -34,9 +35,11 @@ pub fn way_under(o: &[u8], sheet: &[u8], s: u32, t: u32, work: &mut [u32], out: 
         (concat_map bytes16 (way_under (effects sheet.now) o.now s t)) out.old }
     ensures stays { Stays o.now work.old work.new }
 {
-    let rule = named_under_refusal(o, sheet, s, t);
-    if rule != 0 {
-        return Route { rule, nodes: 0 };
+    if let Err(broken) = named_under_refusal(o, sheet, s, t) {
+        return Route {
+            rule: broken.number(),
+            nodes: 0,
+        };
     }
     way_under_of(o, line_body(sheet), s as usize, t as usize, work, out)
 }

@@ -1,51 +1,53 @@
-// The rules that the calls under a sheet check, in checking order: the number of the first that is broken, or 0.
+// The rules that the calls under a sheet check, in checking order: the first that is broken, as an `Err`.
 ghost use Rattle.std.specs.Prelude.{◌≡◌, true};
 ghost use Rattle.model.specs.Rules.{first_broken, well_shaped};
+ghost use Rattle.rules.specs.Refusals.{refused};
 ghost use Rattle.sheet.specs.SheetCalls.{sheet_rules, pair_under_rules, time_under_rules};
 
-use checks::refusals::{named_pair_refusal, number_if, pair_refusal};
+use checks::refusals::{named_pair_refusal, pair_refusal};
 use checks::room::work_too_small;
 use reader::oracle::{EDGES, oracle_body};
+use rules::refusal::{Refusal, broken_if};
 use sheet::refusal::sheet_refusal;
 
 // Rules 18 to 20, over an oracle that keeps 1 to 11.
-fn sheet_rule(o: &[u8], sheet: &[u8]) -> u32
+fn sheet_rule(o: &[u8], sheet: &[u8]) -> Result<(), Refusal>
     requires { well_shaped o.now ≡ true }
-    ensures { result ≡ first_broken (sheet_rules o.now sheet.now) }
+    ensures { refused result ≡ first_broken (sheet_rules o.now sheet.now) }
 {
     sheet_refusal(oracle_body(o, EDGES), sheet)
 }
 
 // Rules 12 and 18 to 20, over an oracle that keeps 1 to 11.
-pub fn named_under_refusal(o: &[u8], sheet: &[u8], s: u32, t: u32) -> u32
+#[tactic(auto, using(checks::proofs::RulesKept::checked), unfolding(sheet::specs::SheetCalls::pair_under_rules))]
+pub fn named_under_refusal(o: &[u8], sheet: &[u8], s: u32, t: u32) -> Result<(), Refusal>
     requires { well_shaped o.now ≡ true }
-    ensures { result ≡ first_broken (pair_under_rules o.now sheet.now s t) }
+    ensures { refused result ≡ first_broken (pair_under_rules o.now sheet.now s t) }
 {
-    let r = named_pair_refusal(o, s, t);
-    if r != 0 {
-        return r;
-    }
+    named_pair_refusal(o, s, t)?;
     sheet_rule(o, sheet)
 }
 
 // Rules 1 to 12 and 18 to 20.
-fn pair_under_refusal(o: &[u8], sheet: &[u8], s: u32, t: u32) -> u32
-    ensures { result ≡ first_broken (pair_under_rules o.now sheet.now s t) }
+#[tactic(auto, using(checks::proofs::RulesKept::checked), unfolding(sheet::specs::SheetCalls::pair_under_rules))]
+fn pair_under_refusal(o: &[u8], sheet: &[u8], s: u32, t: u32) -> Result<(), Refusal>
+    ensures { refused result ≡ first_broken (pair_under_rules o.now sheet.now s t) }
 {
-    let r = pair_refusal(o, s, t);
-    if r != 0 {
-        return r;
-    }
+    pair_refusal(o, s, t)?;
     sheet_rule(o, sheet)
 }
 
 // Rules 1 to 12, 18 to 20, and 14.
-pub fn time_under_refusal(o: &[u8], sheet: &[u8], s: u32, t: u32, words: usize) -> u32
-    ensures { result ≡ first_broken (time_under_rules o.now sheet.now s t words) }
+#[tactic(auto, using(checks::proofs::RulesKept::checked, crate::proofs::Kept::under_counted), unfolding(sheet::specs::SheetCalls::time_under_rules))]
+pub fn time_under_refusal(
+    o: &[u8],
+    sheet: &[u8],
+    s: u32,
+    t: u32,
+    words: usize,
+) -> Result<(), Refusal>
+    ensures { refused result ≡ first_broken (time_under_rules o.now sheet.now s t words) }
 {
-    let r = pair_under_refusal(o, sheet, s, t);
-    if r != 0 {
-        return r;
-    }
-    number_if(14, work_too_small(o, words))
+    pair_under_refusal(o, sheet, s, t)?;
+    broken_if(Refusal::WorkTooSmall, work_too_small(o, words))
 }

@@ -11,9 +11,11 @@ use opened::opening::open_words;
 pub fn wages(o: &[u8], legs: &[u8], work: &mut [u32], out: &mut [u8]) -> Output
     ensures { WagesCall o.now legs.now work.old out.old result work.new out.new }
 {
-    let rule = open_refusal(o, legs, work.len());
-    if rule != 0 {
-        return Output { rule, size: 0 };
+    if let Err(broken) = open_refusal(o, legs, work.len()) {
+        return Output {
+            rule: broken.number(),
+            size: 0,
+        };
     }
     open_words(o, work);
     let written = wages_of(o, legs, work, out);

@@ -16,9 +16,11 @@ pub fn wages(o: &[u8], legs: &[u8], work: &mut [u32], out: &mut [u8]) -> Output
         (wages_bytes o.now legs.now) out.old }
     ensures stays { Stays o.now work.old work.new }
 {
-    let rule = named_legs_refusal(o, legs);
-    if rule != 0 {
-        return Output { rule, size: 0 };
+    if let Err(broken) = named_legs_refusal(o, legs) {
+        return Output {
+            rule: broken.number(),
+            size: 0,
+        };
     }
     wages_of(o, legs, work, out)
 }

@@ -11,7 +11,7 @@ ghost use Rattle.wages.specs.Kept.{LegsKept};
 ghost use Rattle.wages.specs.Tallies.{time_size, tally_size, max_total, tallied, WagesGiven};
 
 use crate::Tally;
-use crate::legs::{leg_count, leg_end, leg_start};
+use crate::legs::{Leg, leg_count};
 use codec::bytes::{write32, write64};
 use codec::records::NO_SECONDS;
 use model::Output;
@@ -28,23 +28,27 @@ fn leg_time(o: &[u8], legs: &[u8], i: usize, work: &mut [u32]) -> u32
     ensures time { result ≡ leg_time o.now (leg legs.now i) }
     ensures others { KeptFrom (grid_at (node_count (node_body o.now))) work.old work.new }
 {
-    seconds_between(o, leg_start(legs, i), leg_end(legs, i), work)
+    let leg = Leg::read(legs, i);
+    seconds_between(o, leg.start, leg.end, work)
 }
 
-// The tally with one time more.
-fn tally_with(tally: Tally, time: u32) -> Tally
-    requires { (tally.marked < max_legs) × (tally.total ≤ max_total) }
-    ensures { result ≡ tallied tally time }
-{
-    if time == NO_SECONDS {
-        return Tally {
-            marked: tally.marked + 1,
-            total: tally.total,
-        };
-    }
-    Tally {
-        marked: tally.marked,
-        total: tally.total + time as u64,
+impl Tally {
+    // The tally with one time more.
+    fn with(self, time: u32) -> Tally
+        requires { (self.marked < max_legs) × (self.total ≤ max_total) }
+        ensures { result ≡ tallied self time }
+    {
+        if time == NO_SECONDS {
+            Tally {
+                marked: self.marked + 1,
+                ..self
+            }
+        } else {
+            Tally {
+                total: self.total + time as u64,
+                ..self
+            }
+        }
     }
 }
 
@@ -65,7 +69,7 @@ fn write_leg(
 {
     let time = leg_time(o, legs, i, work);
     write32(out, TIME_SIZE * i, time);
-    tally_with(tally, time)
+    tally.with(time)
 }
 
 // Writes the tally behind the times.
@@ -88,12 +92,10 @@ fn write_wages(o: &[u8], legs: &[u8], work: &mut [u32], out: &mut [u8])
         marked: 0,
         total: 0,
     };
-    let mut i = 0;
-    while i < count {
+    for i in 0..count {
         tally = write_leg(o, legs, i, work, out, tally);
-        i += 1;
     }
-    write_tally(out, TIME_SIZE * i, tally);
+    write_tally(out, TIME_SIZE * count, tally);
 }
 
 // What no rule before 15 sends back. The size is that of the legs alone, so 15 is decided before any leg is answered.

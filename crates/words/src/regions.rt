@@ -11,7 +11,6 @@ ghost use Rattle.words.specs.Frames.{Enough, Only};
 
 use crate::halves::put_half;
 use bitset::bits::{contains, insert_at, set_words};
-use bitset::words::fill;
 
 // Working words for each node.
 pub const WORDS: usize = 8;
@@ -179,5 +178,5 @@ pub fn clear(work: &mut [u32], n: usize, k: usize)
 {
     let a = region_at(n, k);
     let e = a + set_words(n);
-    fill(&mut work[a..e], 0);
+    work[a..e].fill(0);
 }

@@ -11,9 +11,6 @@ pub next-c-requires : goal.next-c-requires
 unfolding entry_at
 next-c-requires c = omega arith
 
-pub loop-i-smaller : goal.loop-i-smaller
-loop-i-smaller c = omega arith
-
 pub loop-i-preserved : goal.loop-i-preserved
 loop-i-preserved c = left_next _ _ _ _ _ c.loop-i-test.true c.loop-i.invariant c.next-c.ensures.0 c.next-c.ensures.1
 

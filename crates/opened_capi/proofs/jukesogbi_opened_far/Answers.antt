@@ -4,4 +4,4 @@ use Rattle.capi.specs.Replies.{reply}
 use Rattle.opened_capi.proofs.jukesogbi_opened_far.Goals as goal
 
 pub returns : goal.returns
-returns c = c.reply_of.ensures ∙ ap reply c.far.ensures
+returns c = c.from.ensures ∙ ap reply c.far.ensures

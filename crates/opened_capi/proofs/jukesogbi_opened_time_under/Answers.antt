@@ -4,4 +4,4 @@ use Rattle.capi.specs.Replies.{reply}
 use Rattle.opened_capi.proofs.jukesogbi_opened_time_under.Goals as goal
 
 pub returns : goal.returns
-returns c = record { result = c.reply_of.ensures ∙ ap reply c.time_under.ensures.result; stays = c.time_under.ensures.stays }
+returns c = record { result = c.from.ensures ∙ ap reply c.time_under.ensures.result; stays = c.time_under.ensures.stays }

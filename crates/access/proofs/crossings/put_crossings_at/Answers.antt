@@ -1,11 +1,9 @@
 -- `crossings::put_crossings_at` meets its contract: the crossing nodes of the edges passed are put in, and at the cursor's end those are all at v.
 use native.Mathlib.Omega.{arith}
-use mathlib.Core.Path.{◌≡◌, refl}
+use mathlib.Core.Path.{refl}
 use borrow.Author.Rules.{rules}
-use lib.ListN.{length}
 use Rattle.model.specs.Network.{edge_count}
-use Rattle.access.proofs.Squares.{Walked, walked_first, walked_valid, walked_roads, walked_next, walked_last}
-use Rattle.arcs.specs.Cursor.{rank}
+use Rattle.access.proofs.Squares.{walked_first, walked_valid, walked_roads, walked_next, walked_last}
 use Rattle.access.proofs.crossings.put_crossings_at.Goals as goal
 
 pub loop-c-init : goal.loop-c-init

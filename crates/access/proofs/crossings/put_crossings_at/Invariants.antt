@@ -1,10 +1,8 @@
 -- `crossings::put_crossings_at` meets its contract: the crossing nodes of the edges passed are put in, and at the cursor's end those are all at v.
-use native.Mathlib.Omega.{arith}
-use mathlib.Core.Path.{◌≡◌, refl}
-use borrow.Author.Rules.{rules}
+use mathlib.Core.Path.{◌≡◌}
 use lib.ListN.{length}
 use Rattle.model.specs.Network.{edge_count}
-use Rattle.access.proofs.Squares.{Walked, walked_first, walked_valid, walked_roads, walked_next, walked_last}
+use Rattle.access.proofs.Squares.{Walked}
 use Rattle.arcs.specs.Cursor.{rank}
 use Rattle.access.proofs.crossings.put_crossings_at.Given as goal
 

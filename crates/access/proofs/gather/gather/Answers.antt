@@ -1,9 +1,7 @@
 -- `gather::gather` meets its contract: gathered is from the starts below p.
-use Prim.Native.Nat.{◌-◌}
 use native.Mathlib.Omega.{arith}
 use borrow.Author.Rules.{rules}
-use Rattle.access.proofs.Gathers.{Gathering, first, next, last, roads_gathering, wanted_left, alone_gathering}
-use Rattle.arcs.specs.Arcs.{arcs_in}
+use Rattle.access.proofs.Gathers.{first, next, last, roads_gathering, wanted_left, alone_gathering}
 use Rattle.index.proofs.Laid.{roads_only}
 use Rattle.access.proofs.gather.gather.Goals as goal
 

@@ -1,5 +1,4 @@
 -- `sets::count` meets its contract.
-use borrow.Author.Rules.{rules}
 use mathlib.Core.Path.{◌∙◌, ap, sym}
 use lib.ListN.{drop}
 use Rattle.crossing.specs.Sets.{ones}

@@ -1,6 +1,5 @@
 -- `toward::mark` meets its contract: the marks with v, or those that stand.
 use mathlib.Core.Path.{sym, ◌∙◌}
-use borrow.Author.Rules.{rules}
 use Rattle.marks.proofs.Views.{turn_due, turn_not}
 use Rattle.words.proofs.Stays.{only_same}
 use Rattle.access.proofs.toward.mark.Goals as goal

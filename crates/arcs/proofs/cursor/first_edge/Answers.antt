@@ -23,9 +23,3 @@ returns-then-is_linked c =
     let a = c.args in
     let is = sym c.is_linked.ensures ∙ c.if-is_linked.true in
     first_linked a.edges.now a.n a.work.now a.u c.requires.indexed_edges c.requires.n_le_max_nodes.2 is _ c.link_in-link.ensures.0 _ c.listed.ensures
-
-pub first_in_blocks-requires : goal.first_in_blocks-requires
-first_in_blocks-requires c = record { at_value = (c.index_at-at.ensures, c.requires.n_le_max_nodes.0, c.requires.n_le_max_nodes.1, c.requires.n_le_max_nodes.2); indexed_edges = (c.requires.indexed_edges, sym c.is_linked.ensures ∙ c.if-is_linked.false) }
-
-pub returns : goal.returns
-returns c = c.first_in_blocks.ensures

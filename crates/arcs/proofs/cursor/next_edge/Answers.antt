@@ -1,7 +1,5 @@
 -- `cursor::next_edge` meets its contract: what is listed from the next entry on, or what comes in the blocks.
-use native.Mathlib.Omega.{arith}
-use Rattle.model.specs.Network.{edge_count}
-use Rattle.arcs.proofs.Step.{seeking_on, next_inside, sought_next, stepped}
+use Rattle.arcs.proofs.Step.{next_inside, sought_next, stepped}
 use Rattle.arcs.proofs.cursor.next_edge.Goals as goal
 
 pub listed-requires : goal.listed-requires
@@ -14,14 +12,6 @@ returns-then-c-eq1 c =
     stepped a.edges.now a.n a.work.now a.u c.requires.indexed_edges c.requires.n_le_max_nodes.2 a.c c.requires.valid.0 c.requires.valid.1 _
     (sought_next a.edges.now a.n a.work.now a.u c.requires.indexed_edges c.requires.n_le_max_nodes.2 a.c c.requires.valid.0 c.requires.valid.1 c.if-c-eq1.true _
     c.listed.ensures)
-
-pub overflow_add-from : goal.overflow_add-from
-unfolding edge_count
-overflow_add-from c = omega (arith, c.requires.valid.1)
-
-pub seek-requires : goal.seek-requires
-seek-requires c =
-    let a = c.args in record { at_value = (c.index_at-at.ensures, c.requires.n_le_max_nodes.0, c.requires.n_le_max_nodes.1, c.requires.n_le_max_nodes.2); indexed_edges = c.requires.indexed_edges; seeking = seeking_on a.edges.now a.n a.work.now a.u c.requires.indexed_edges c.requires.n_le_max_nodes.2 a.c c.requires.valid.0 c.requires.valid.1 c.if-c-eq1.false }
 
 pub returns : goal.returns
 returns c =

@@ -2,29 +2,17 @@
 use native.Mathlib.Omega.{arith}
 use mathlib.Core.Path.{subst, sym, ap, ◌∙◌}
 use Rattle.model.specs.Network.{edge_count}
-use Rattle.arcs.proofs.Seek.{size_small, link_inside, same_block, block_on, onward_self, onward_then, sought_none, sought_found}
+use Rattle.arcs.proofs.Seek.{size_small, link_inside, same_block, block_on, onward_then, sought_none}
 use Rattle.arcs.specs.Cursor.{rank}
 use Rattle.arcs.specs.Seeking.{Onward}
 use Rattle.arcs.specs.declared.cursor.Cursor.{Cursor}
 use Rattle.arcs.proofs.cursor.seek.Goals as goal
 
-pub loop-s-init : goal.loop-s-init
-loop-s-init c = onward_self _ _ _ _ _ c.requires.seeking
-
-pub within_block-s-requires : goal.within_block-s-requires
-within_block-s-requires c = c.loop-s.invariant.seeking
-
-pub returns-then-s : goal.returns-then-s
-returns-then-s c =
-    let t = onward_then _ _ _ _ _ _ _ c.loop-s.invariant c.within_block-s.ensures in
-    sought_found _ _ _ _ c.requires.at_value.3 _ _ t c.if-s.true
-
 pub returns-then-s-n : goal.returns-then-s-n
-unfolding edge_count
 returns-then-s-n c =
     let t = onward_then _ _ _ _ _ _ _ c.loop-s.invariant c.within_block-s.ensures in
-    sought_none _ _ _ _ c.requires.at_value.3 _ _ t c.if-s.false
-    c.if-s-n.true
+    rw c.at_end.ensures (sought_none _ _ _ _ c.requires.at_value.3 _ _ t c.if-s.false
+    c.if-s-n.true)
 
 pub block_at-b-requires : goal.block_at-b-requires
 block_at-b-requires c =

@@ -9,17 +9,17 @@ use Rattle.auditor.proofs.LastBodies.{few_body, row_size, first_differs, first_s
 use Rattle.auditor.proofs.bodies.same_bodies.Goals as goal
 
 pub build_index-requires : goal.build_index-requires
-build_index-requires c = record { n_le_max_nodes = (c.requires.2, c.requires.3); edges_value = rw c.requires.1 c.requires.0.edges_rule }
+build_index-requires c = record { n_le_max_nodes = (c.args.ground.now.keeps.2, c.requires.0); edges_value = rw c.args.ground.now.keeps.1 c.args.ground.now.keeps.0.edges_rule }
 
 pub mark_transit-requires : goal.mark_transit-requires
-mark_transit-requires c = record { on_ground = (c.requires.0, c.requires.1, c.requires.2, omega arith, c.requires.5); indexed_edges = c.build_index.ensures.roads }
+mark_transit-requires c = record { on_ground = (omega arith, c.requires.2); indexed_edges = c.build_index.ensures.roads }
 
 pub returns-then-not-same_transit : goal.returns-then-not-same_transit
 returns-then-not-same_transit c =
     let a = c.args in record {
-      same = first_differs a.nodes.now a.edges.now a.grid a.n c.requires.1 a.transit.now a.access.now a.table.now _
+      same = first_differs a.ground.now.nodes.now a.ground.now.edges.now a.ground.now.grid a.ground.now.n c.args.ground.now.keeps.1 a.transit.now a.access.now a.table.now _
           c.mark_transit.ensures.members (sym c.same_transit.ensures ∙ c.if-not-same_transit.true);
-      rest = rest_marked a.edges.now a.n c.requires.5 a.work.now _ _ c.build_index.ensures.roads c.build_index.ensures.behind
+      rest = rest_marked a.ground.now.edges.now a.ground.now.n c.requires.2 a.work.now _ _ c.build_index.ensures.roads c.build_index.ensures.behind
           c.mark_transit.ensures.others;
     }
 
@@ -27,10 +27,10 @@ pub same_lists-requires : goal.same_lists-requires
 same_lists-requires c =
     let a = c.args in
     record {
-      on_ground = (c.requires.0, c.requires.1, c.requires.2, omega arith, c.requires.4);
+      on_ground = (omega arith, c.requires.1);
       work_value = (
         c.mark_transit.ensures.members,
-        roads_marked a.edges.now a.n c.requires.5 a.work.now _ _ c.build_index.ensures.roads c.build_index.ensures.behind
+        roads_marked a.ground.now.edges.now a.ground.now.n c.requires.2 a.work.now _ _ c.build_index.ensures.roads c.build_index.ensures.behind
             c.mark_transit.ensures.others,
       );
     }
@@ -39,11 +39,11 @@ pub returns-then-not-same_lists : goal.returns-then-not-same_lists
 returns-then-not-same_lists c =
     let p = c.requires in
     let a = c.args in
-    let first = first_same a.nodes.now a.edges.now a.grid a.n p.1 a.transit.now a.access.now a.table.now _
+    let first = first_same a.ground.now.nodes.now a.ground.now.edges.now a.ground.now.grid a.ground.now.n c.args.ground.now.keeps.1 a.transit.now a.access.now a.table.now _
     c.mark_transit.ensures.members (sym c.same_transit.ensures ∙ c.if-not-same_transit.false) in record {
-      same = second_differs a.nodes.now a.edges.now a.grid a.n p.1 a.transit.now a.access.now a.table.now _
+      same = second_differs a.ground.now.nodes.now a.ground.now.edges.now a.ground.now.grid a.ground.now.n c.args.ground.now.keeps.1 a.transit.now a.access.now a.table.now _
           c.mark_transit.ensures.members first (sym c.same_lists.ensures.same ∙ c.if-not-same_lists.true);
-      rest = rest_passed a.edges.now a.n p.5 a.work.now _ _ c.build_index.ensures.roads c.build_index.ensures.behind
+      rest = rest_passed a.ground.now.edges.now a.ground.now.n p.2 a.work.now _ _ c.build_index.ensures.roads c.build_index.ensures.behind
           c.mark_transit.ensures.others _ c.same_lists.ensures.others;
     }
 
@@ -52,24 +52,24 @@ overflow_mul-size c =
     let a = c.args in
     omega (
       arith,
-      c.requires.2,
-      few_body a.n _ a.transit.now (sym c.same_transit.ensures ∙ c.if-not-same_transit.false),
+      c.args.ground.now.keeps.2,
+      few_body a.ground.now.n _ a.transit.now (sym c.same_transit.ensures ∙ c.if-not-same_transit.false),
     )
 
 pub same_table-requires : goal.same_table-requires
 same_table-requires c =
     let a = c.args in
-    let same = transit_kept a.n _ _ c.same_lists.ensures.others in record {
+    let same = transit_kept a.ground.now.n _ _ c.same_lists.ensures.others in record {
       n_le_max_nodes = (
-        c.requires.2,
+        c.args.ground.now.keeps.2,
         omega arith,
-        row_size a.n _ a.transit.now (sym c.same_transit.ensures ∙
+        row_size a.ground.now.n _ a.transit.now (sym c.same_transit.ensures ∙
             c.if-not-same_transit.false) _ same,
       );
       indexed_edges = (
-        roads_passed a.edges.now a.n c.requires.5 a.work.now _ _ c.build_index.ensures.roads c.build_index.ensures.behind
+        roads_passed a.ground.now.edges.now a.ground.now.n c.requires.2 a.work.now _ _ c.build_index.ensures.roads c.build_index.ensures.behind
             c.mark_transit.ensures.others _ c.same_lists.ensures.others,
-        transit_alone a.nodes.now a.edges.now a.grid a.n c.requires.1 c.requires.0 transit _
+        transit_alone a.ground.now.nodes.now a.ground.now.edges.now a.ground.now.grid a.ground.now.n c.args.ground.now.keeps.1 c.args.ground.now.keeps.0 transit _
             (same ∙ c.mark_transit.ensures.members),
       );
     }
@@ -80,11 +80,11 @@ returns c =
     let build_index =
     c.build_index in
     let a = c.args in
-    let first = first_same a.nodes.now a.edges.now a.grid a.n p.1 a.transit.now a.access.now a.table.now _
+    let first = first_same a.ground.now.nodes.now a.ground.now.edges.now a.ground.now.grid a.ground.now.n c.args.ground.now.keeps.1 a.transit.now a.access.now a.table.now _
     c.mark_transit.ensures.members (sym c.same_transit.ensures ∙ c.if-not-same_transit.false) in record {
-      same = third_tells a.nodes.now a.edges.now a.grid a.n p.1 a.transit.now a.access.now a.table.now _
-          (transit_kept a.n _ _ c.same_lists.ensures.others ∙ c.mark_transit.ensures.members) first
+      same = third_tells a.ground.now.nodes.now a.ground.now.edges.now a.ground.now.grid a.ground.now.n c.args.ground.now.keeps.1 a.transit.now a.access.now a.table.now _
+          (transit_kept a.ground.now.n _ _ c.same_lists.ensures.others ∙ c.mark_transit.ensures.members) first
           (sym c.same_lists.ensures.same ∙ c.if-not-same_lists.false) _ c.same_table.ensures.same;
-      rest = rest_last a.edges.now a.n p.5 a.work.now _ _ build_index.ensures.roads build_index.ensures.behind
+      rest = rest_last a.ground.now.edges.now a.ground.now.n p.2 a.work.now _ _ build_index.ensures.roads build_index.ensures.behind
           c.mark_transit.ensures.others _ c.same_lists.ensures.others _ c.same_table.ensures.others;
     }

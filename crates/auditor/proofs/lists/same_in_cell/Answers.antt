@@ -8,7 +8,7 @@ use Rattle.auditor.proofs.Behind.{kept_same, kept_then, own_behind, transit_behi
 use Rattle.auditor.proofs.lists.same_in_cell.Goals as goal
 
 pub cell_square-square-requires : goal.cell_square-square-requires
-cell_square-square-requires c = (c.requires.on_ground.0.over, rw (← c.requires.on_ground.1) c.requires.on_ground.3)
+cell_square-square-requires c = (c.args.ground.now.keeps.0.over, rw (← c.args.ground.now.keeps.1) c.requires.on_ground.0)
 
 pub loop-v-init : goal.loop-v-init
 loop-v-init c = (kept_same _ _, left_all _ _)
@@ -19,21 +19,18 @@ same_beside-requires c =
     record {
       on_ground = (
         c.requires.on_ground.0,
-        c.requires.on_ground.1,
-        c.requires.on_ground.2,
-        c.requires.on_ground.3,
         c.loop-v-test.true,
         omega (arith, c.loop-v.invariant.0.size),
-        c.requires.on_ground.5,
+        c.requires.on_ground.2,
         c.cell_square-square.ensures,
       );
       work_value = (
-        rw (transit_behind a.n a.work.now c.loop-v.work c.loop-v.invariant.0.behind) c.requires.work_value.0,
-        rw (own_behind a.n a.work.now c.loop-v.work c.loop-v.invariant.0.behind) c.requires.work_value.1,
+        rw (transit_behind a.ground.now.n a.work.now c.loop-v.work c.loop-v.invariant.0.behind) c.requires.work_value.0,
+        rw (own_behind a.ground.now.n a.work.now c.loop-v.work c.loop-v.invariant.0.behind) c.requires.work_value.1,
       );
       sought = (
-        sought_later a.n a.left a.work.now c.requires.sought.0 c.loop-v.work c.loop-v.invariant.0.behind,
-        roads_behind a.n a.work.now c.loop-v.work c.loop-v.invariant.0.behind a.edges.now c.requires.sought.1,
+        sought_later a.ground.now.n a.left a.work.now c.requires.sought.0 c.loop-v.work c.loop-v.invariant.0.behind,
+        roads_behind a.ground.now.n a.work.now c.loop-v.work c.loop-v.invariant.0.behind a.ground.now.edges.now c.requires.sought.1,
       );
     }
 

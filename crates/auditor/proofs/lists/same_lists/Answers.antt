@@ -14,10 +14,10 @@ pub same_of_cell-requires : goal.same_of_cell-requires
 same_of_cell-requires c =
     let a = c.args in
     record {
-      on_ground = (c.requires.on_ground.0, c.requires.on_ground.1, c.requires.on_ground.2, c.loop-u-test.true, omega (arith, c.loop-u.invariant.0), c.requires.on_ground.4);
+      on_ground = (c.loop-u-test.true, omega (arith, c.loop-u.invariant.0), c.requires.on_ground.1);
       work_value = (
-        transit_kept a.n a.work.now c.loop-u.work c.loop-u.invariant.1 ∙ c.requires.work_value.0,
-        roads_from a.edges.now a.n a.work.now c.loop-u.work (region_at a.n transit) (omega arith) c.loop-u.invariant.1 c.requires.work_value.1,
+        transit_kept a.ground.now.n a.work.now c.loop-u.work c.loop-u.invariant.1 ∙ c.requires.work_value.0,
+        roads_from a.ground.now.edges.now a.ground.now.n a.work.now c.loop-u.work (region_at a.ground.now.n transit) (omega arith) c.loop-u.invariant.1 c.requires.work_value.1,
       );
     }
 
@@ -27,7 +27,7 @@ shape_of-work-then-not-same_of_cell c = omega (arith, c.loop-u.invariant.0)
 pub returns-then-not-same_of_cell : goal.returns-then-not-same_of_cell
 returns-then-not-same_of_cell c =
     let a = c.args in record {
-      same = sym (sym (by_cells_to a.nodes.now a.edges.now a.grid a.access.now a.n c.requires.on_ground.1) ∙ left_fails _ _ _ c.loop-u.invariant.2
+      same = sym (sym (by_cells_to a.ground.now.nodes.now a.ground.now.edges.now a.ground.now.grid a.access.now a.ground.now.n c.args.ground.now.keeps.1) ∙ left_fails _ _ _ c.loop-u.invariant.2
           c.loop-u-test.true (sym c.same_of_cell.ensures.same ∙ c.if-not-same_of_cell.true));
       others = c.same_of_cell.ensures.others ∙ c.loop-u.invariant.1;
     }
@@ -46,7 +46,7 @@ shape_of-work c = c.loop-u.invariant.0
 pub returns : goal.returns
 returns c =
     let a = c.args in record {
-      same = sym (sym (by_cells_to a.nodes.now a.edges.now a.grid a.access.now a.n c.requires.on_ground.1) ∙ left_none _ _ _ c.loop-u.invariant.2
+      same = sym (sym (by_cells_to a.ground.now.nodes.now a.ground.now.edges.now a.ground.now.grid a.access.now a.ground.now.n c.args.ground.now.keeps.1) ∙ left_none _ _ _ c.loop-u.invariant.2
           c.loop-u-test.false);
       others = c.loop-u.invariant.1;
     }

@@ -1,5 +1,4 @@
 -- `lists::same_lists` meets its contract: the nodes from u on are left, and testing cell by cell tests all lists.
-use Prim.Native.Nat.{◌-◌}
 use mathlib.Core.Path.{◌≡◌}
 use lib.ListN.{length}
 use Rattle.model.specs.Lists.{all, up_to}
@@ -10,8 +9,5 @@ use Rattle.auditor.specs.Same.{same_of_cell}
 use Rattle.auditor.proofs.lists.same_lists.Given as goal
 
 abbrev pub invariant-loop-u : goal.invariant-loop-u
-invariant-loop-u l = (length l.work ≡ length l.initial.work) × (KeptFrom (region_at l.n transit) l.initial.work l.work) ×
-    (all (same_of_cell l.nodes l.edges l.grid l.access) (up_to l.n) ≡ all (same_of_cell l.nodes l.edges l.grid l.access) (rest l.u l.n))
-
-abbrev pub decreases-loop-u : goal.decreases-loop-u
-decreases-loop-u l = l.n - l.u
+invariant-loop-u l = (length l.work ≡ length l.initial.work) × (KeptFrom (region_at l.ground.n transit) l.initial.work l.work) ×
+    (all (same_of_cell l.ground.nodes.now l.ground.edges.now l.ground.grid l.access) (up_to l.ground.n) ≡ all (same_of_cell l.ground.nodes.now l.ground.edges.now l.ground.grid l.access) (rest l.u l.ground.n))

@@ -40,7 +40,7 @@ returns-in_default c = record {
 
 pub loop-v-preserved : goal.loop-v-preserved
 loop-v-preserved c = rows_next _ _ _ _ _ _ _ c.loop-v.invariant c.loop-v-test.true _ c.same_from.ensures.same _
-    c.in-Same.is _ (search rules) c.same_from.ensures.others
+    c.in-Some.is _ (search rules) c.same_from.ensures.others
 
 pub shape_of-work : goal.shape_of-work
 shape_of-work c = c.loop-v.invariant.kept.size

@@ -1,11 +1,7 @@
 -- `rows::same_table` meets its contract: the rows of the nodes from v on are left.
-use Prim.Native.Nat.{◌-◌}
 use Rattle.arcs.specs.Arcs.{arcs_in}
 use Rattle.auditor.proofs.TableRows.{RowsLeft}
 use Rattle.auditor.proofs.rows.same_table.Given as goal
 
 abbrev pub invariant-loop-v : goal.invariant-loop-v
 invariant-loop-v l = RowsLeft (arcs_in l.edges) l.n l.table l.initial.work l.v l.at l.work
-
-abbrev pub decreases-loop-v : goal.decreases-loop-v
-decreases-loop-v l = l.n - l.v

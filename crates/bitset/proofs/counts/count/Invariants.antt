@@ -2,11 +2,8 @@
 use Rattle.bitset.specs.Members.{members_of}
 use lib.ListN.{length}
 use mathlib.Core.Path.{◌≡◌}
-use Prim.Native.Nat.{◌≤◌, ◌-◌}
+use Prim.Native.Nat.{◌≤◌}
 use Rattle.bitset.proofs.counts.count.Given as goal
 
 abbrev pub invariant-loop-v : goal.invariant-loop-v
-invariant-loop-v l = (l.v ≤ l.n) × (l.members ≤ l.v) × (l.members ≡ length (members_of l.v l.set))
-
-abbrev pub decreases-loop-v : goal.decreases-loop-v
-decreases-loop-v l = l.n - l.v
+invariant-loop-v l = (l.members ≤ l.v) × (l.members ≡ length (members_of l.v l.set))

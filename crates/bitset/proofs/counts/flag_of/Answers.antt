@@ -1,12 +1,9 @@
 -- `counts::flag_of` meets its contract. Assumes nothing.
+use Rattle.std.proofs.Common.{arith}
+use Rattle.std.proofs.lemmas.Grind.{common_steps}
 use Rattle.bitset.specs.Bits.{flag}
-use borrow.Author.Rules.{rules}
 use Rattle.bitset.proofs.counts.flag_of.Goals as goal
 
-pub returns-then-contains : goal.returns-then-contains
+pub returns : goal.returns
 unfolding flag
-returns-then-contains c = (rw (← c.contains.ensures, c.if-contains.true), search rules)
-
-pub returns-else-contains : goal.returns-else-contains
-unfolding flag
-returns-else-contains c = (rw (← c.contains.ensures, c.if-contains.false), search rules)
+returns c = grind (arith, common_steps)

@@ -14,31 +14,31 @@ clear-requires c = want_fits _ _ c.node_count-n.ensures _ c.requires.0
 pub put-requires : goal.put-requires
 put-requires c = (omega (arith, c.node_count-n.ensures), omega (arith, want_fits _ _ c.node_count-n.ensures _ c.requires.0, c.clear.auto.work))
 
-pub loop-j-init : goal.loop-j-init
-loop-j-init c =
+pub loop-t-init : goal.loop-t-init
+loop-t-init c =
     let a = c.args in
     let back = want_only _ _ c.node_count-n.ensures _ _ c.put.ensures.others ∙ want_only _ _ c.node_count-n.ensures a.work.now _ c.clear.ensures.others in
     let wants = want_first _ _ c.node_count-n.ensures a.work.now _ _ a.s a.ends.now (omega (arith, c.node_count-n.ensures, c.requires.2)) c.clear.ensures.members c.put.ensures.members in
     (omega arith, opened_kept _ _ _ c.requires.0 (search rules) back, wants, refl, refl)
 
-pub overflow_cast-ends : goal.overflow_cast-ends
-overflow_cast-ends c = omega arith
+pub overflow_cast-t : goal.overflow_cast-t
+overflow_cast-t c = omega arith
 
 pub want_end-left-requires : goal.want_end-left-requires
-want_end-left-requires c = (c.loop-j.invariant.1, c.requires.1, c.requires.2, named_there _ _ _ c.loop-j-test.true c.requires.3)
+want_end-left-requires c = (c.loop-t.invariant.1, c.requires.1, c.requires.2, named_there _ _ _ c.loop-t-test.true c.requires.3)
 
 pub overflow_add-left : goal.overflow_add-left
 overflow_add-left c =
     let a = c.args in
-    omega (arith, (c.want_end-left.ensures.wants a.ends.now c.loop-j.j c.loop-j.left refl c.loop-j.invariant.2).fits)
+    omega (arith, (c.want_end-left.ensures.wants a.ends.now c.loop-t.t-index c.loop-t.left refl c.loop-t.invariant.2).fits)
 
-pub loop-j-preserved : goal.loop-j-preserved
-loop-j-preserved c =
+pub loop-t-preserved : goal.loop-t-preserved
+loop-t-preserved c =
     let a = c.args in
-    (omega arith, opened_kept _ _ _ c.loop-j.invariant.1 (search rules) c.want_end-left.ensures.others, c.want_end-left.ensures.wants a.ends.now c.loop-j.j c.loop-j.left refl c.loop-j.invariant.2, search rules, c.want_end-left.ensures.others ∙ c.loop-j.invariant.4)
+    (omega arith, opened_kept _ _ _ c.loop-t.invariant.1 (search rules) c.want_end-left.ensures.others, c.want_end-left.ensures.wants a.ends.now c.loop-t.t-index c.loop-t.left refl c.loop-t.invariant.2, search rules, c.want_end-left.ensures.others ∙ c.loop-t.invariant.4)
 
 pub returns : goal.returns
 returns c =
     let a = c.args in
-    let k : c.loop-j.j ≡ length a.ends.now = omega arith in
-    record { wants = wants_all _ _ _ _ _ _ k c.loop-j.invariant.2; others = c.loop-j.invariant.4 ∙ (want_only _ _ c.node_count-n.ensures _ _ c.put.ensures.others ∙ want_only _ _ c.node_count-n.ensures a.work.now _ c.clear.ensures.others) }
+    let k : c.loop-t.t-index ≡ length a.ends.now = omega arith in
+    record { wants = wants_all _ _ _ _ _ _ k c.loop-t.invariant.2; others = c.loop-t.invariant.4 ∙ (want_only _ _ c.node_count-n.ensures _ _ c.put.ensures.others ∙ want_only _ _ c.node_count-n.ensures a.work.now _ c.clear.ensures.others) }

@@ -6,13 +6,10 @@ use Rattle.model.specs.Network.{node_count}
 use Rattle.opened.specs.Opened.{Opened}
 use lib.ListN.{length}
 use mathlib.Core.Path.{◌≡◌}
-use Prim.Native.Nat.{◌-◌, ◌≤◌}
+use Prim.Native.Nat.{◌≤◌}
 use Rattle.words.specs.Regions.{grid_at}
 use Rattle.block.proofs.near.want_near.Given as goal
 
-abbrev pub invariant-loop-j : goal.invariant-loop-j
-invariant-loop-j l = (l.j ≤ length l.ends) × Opened l.o l.work × Wants l.o l.s l.ends l.j l.left (wanted_in l.o l.work)
+abbrev pub invariant-loop-t : goal.invariant-loop-t
+invariant-loop-t l = (l.t-index ≤ length l.ends) × Opened l.o l.work × Wants l.o l.s l.ends l.t-index l.left (wanted_in l.o l.work)
     × (length l.work ≡ length l.initial.work) × (KeptFrom (grid_at (node_count (node_body l.o))) l.initial.work l.work)
-
-abbrev pub decreases-loop-j : goal.decreases-loop-j
-decreases-loop-j l = length l.ends - l.j

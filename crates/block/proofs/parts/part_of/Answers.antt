@@ -2,10 +2,10 @@
 use Rattle.block.specs.Parts.{part_of}
 use Rattle.block.proofs.parts.part_of.Goals as goal
 
-pub returns-then-hops : goal.returns-then-hops
+pub returns-in-Seconds : goal.returns-in-Seconds
 unfolding part_of
-returns-then-hops c = rw c.if-hops.true c.hops_of.ensures.0
+returns-in-Seconds c = rw c.in-Seconds.is c.seconds_of.ensures
 
-pub returns : goal.returns
+pub returns-in-Hops : goal.returns-in-Hops
 unfolding part_of
-returns c = rw c.if-hops.false c.seconds_of.ensures
+returns-in-Hops c = rw c.in-Hops.is c.hops_of.ensures.0

@@ -15,7 +15,7 @@ loop-u-preserved c =
     let a = c.args in (
       search rules,
       search rules,
-      based_still a.nodes.now a.edges.now a.grid a.n _ _ c.loop-u.invariant.2 (search rules)
+      based_still a.ground.now.nodes.now a.ground.now.edges.now a.ground.now.grid a.ground.now.n _ _ c.loop-u.invariant.2 (search rules)
           c.lists_at.ensures.others,
       c.lists_at.ensures.others ∙ c.loop-u.invariant.3,
       c.lists_at.ensures.lists,
@@ -24,4 +24,4 @@ loop-u-preserved c =
 pub returns : goal.returns
 returns c =
     let a = c.args in
-    record { bytes = listed_all a.nodes.now a.edges.now a.grid a.n _ _ c.loop-u-test.false c.loop-u.invariant.4; others = c.loop-u.invariant.3 }
+    record { bytes = listed_all a.ground.now.nodes.now a.ground.now.edges.now a.ground.now.grid a.ground.now.n _ _ c.loop-u-test.false c.loop-u.invariant.4; others = c.loop-u.invariant.3 }

@@ -1,5 +1,4 @@
 -- `bodies::table::put_table` meets its contract. Assumes nothing.
-use Prim.Native.Nat.{◌-◌}
 use mathlib.Core.Path.{◌≡◌}
 use lib.ListN.{length}
 use Rattle.emit.proofs.Turns.{members_from}
@@ -14,6 +13,3 @@ use Rattle.bodies.proofs.table.put_table.Given as goal
 abbrev pub invariant-loop-v : goal.invariant-loop-v
 invariant-loop-v l = (length l.work ≡ length l.initial.work) × (length l.out ≡ length l.initial.out) × (KeptFrom (search_words l.n) l.initial.work l.work) × Written
     (concat_map (rows l.edges l.n l.initial.work) (members_in l.n transit l.initial.work)) l.at l.out (members_from (rows l.edges l.n l.initial.work) (region l.n transit l.initial.work) l.n l.v)
-
-abbrev pub decreases-loop-v : goal.decreases-loop-v
-decreases-loop-v l = l.n - l.v

@@ -23,11 +23,11 @@ bytes c i = omega (
 
 plan : (c : After-access_size-a) →
     let a = c.args in
-    Planned a.nodes.now a.edges.now a.grid a.n
+    Planned a.ground.now.nodes.now a.ground.now.edges.now a.ground.now.grid a.ground.now.n
     c.count-t.result c.access_size-a.result c.prepare.new.work
 plan c =
     let a = c.args in
-    planned a.network.now a.dv a.nodes.now a.edges.now a.grid a.n c.requires.0 _
+    planned a.network.now a.dv a.ground.now.nodes.now a.ground.now.edges.now a.ground.now.grid a.ground.now.n c.requires.0 _
     (omega (arith, c.requires.1, c.prepare.auto.work)) c.prepare.ensures.members c.prepare.ensures.counted c.prepare.ensures.roads _ _
     c.count-t.ensures c.access_size-a.ensures
 
@@ -36,7 +36,7 @@ sized : (c : After-access_size-a) →
     whole_size (length a.network.now) c.count-t.result c.access_size-a.result ≡ length (oracle a.network.now a.dv)
 sized c =
     let a = c.args in
-    size_is a.network.now a.dv a.nodes.now a.edges.now a.grid a.n c.requires.0 (bytes c) _ _ (plan c).transits
+    size_is a.network.now a.dv a.ground.now.nodes.now a.ground.now.edges.now a.ground.now.grid a.ground.now.n c.requires.0 (bytes c) _ _ (plan c).transits
     (plan c).access
 
 small : (c : After-access_size-a) →
@@ -44,20 +44,21 @@ small : (c : After-access_size-a) →
     whole_size (length a.network.now) c.count-t.result c.access_size-a.result < 4294967296
 small c =
     let a = c.args in
-    size_small a.network.now a.dv a.nodes.now a.edges.now a.grid a.n c.requires.0 (bytes c) _ _ (plan c).transits
+    size_small a.network.now a.dv a.ground.now.nodes.now a.ground.now.edges.now a.ground.now.grid a.ground.now.n c.requires.0 (bytes c) _ _ (plan c).transits
     (plan c).access
 
 pub prepare-requires : goal.prepare-requires
 prepare-requires c =
     let a = c.args in
-    pass_requires a.network.now a.dv a.nodes.now a.edges.now a.grid a.n c.requires.0 a.work.now c.requires.1
+    let p = pass_requires a.network.now a.dv a.ground.now.nodes.now a.ground.now.edges.now a.ground.now.grid a.ground.now.n c.requires.0 a.work.now c.requires.1 in
+    (p.3, p.4)
 
 pub count-t-requires : goal.count-t-requires
 count-t-requires c =
     let a = c.args in
     omega (
       arith,
-      laid_some a.network.now a.dv a.nodes.now a.edges.now a.grid a.n c.requires.0,
+      laid_some a.network.now a.dv a.ground.now.nodes.now a.ground.now.edges.now a.ground.now.grid a.ground.now.n c.requires.0,
       c.requires.1,
       c.prepare.auto.work,
     )
@@ -65,13 +66,13 @@ count-t-requires c =
 pub access_size-a-requires : goal.access_size-a-requires
 access_size-a-requires c =
     let a = c.args in
-    sizes_requires a.network.now a.dv a.nodes.now a.edges.now a.grid a.n c.requires.0 _
+    sizes_requires a.network.now a.dv a.ground.now.nodes.now a.ground.now.edges.now a.ground.now.grid a.ground.now.n c.requires.0 _
     (omega (arith, c.requires.1, c.prepare.auto.work)) c.prepare.ensures.members c.prepare.ensures.counted c.prepare.ensures.roads
 
 pub whole_size-size-requires : goal.whole_size-size-requires
 whole_size-size-requires c =
     let a = c.args in
-    (long a.network.now a.dv a.nodes.now a.edges.now a.grid a.n c.requires.0, small c)
+    (long a.network.now a.dv a.ground.now.nodes.now a.ground.now.edges.now a.ground.now.grid a.ground.now.n c.requires.0, small c)
 
 pub returns-then-out-size : goal.returns-then-out-size
 returns-then-out-size c =
@@ -79,7 +80,7 @@ returns-then-out-size c =
 
 pub write_oracle-requires : goal.write_oracle-requires
 write_oracle-requires c =
-    let a = c.args in record { planned = (plan (goal.at.write_oracle-requires c).After-access_size-a, joined a.network.now a.dv a.nodes.now a.edges.now a.grid a.n c.requires.0 (bytes (goal.at.write_oracle-requires c).After-access_size-a)); a_in_bounds = (omega (arith, c.if-out-size.false, c.whole_size-size.ensures), small (goal.at.write_oracle-requires c).After-access_size-a) }
+    let a = c.args in record { planned = (plan (goal.at.write_oracle-requires c).After-access_size-a, joined a.network.now a.dv a.ground.now.nodes.now a.ground.now.edges.now a.ground.now.grid a.ground.now.n c.requires.0 (bytes (goal.at.write_oracle-requires c).After-access_size-a)); a_in_bounds = (omega (arith, c.if-out-size.false, c.whole_size-size.ensures), small (goal.at.write_oracle-requires c).After-access_size-a) }
 
 pub overflow_cast-result : goal.overflow_cast-result
 overflow_cast-result c = omega (
@@ -98,11 +99,11 @@ returns c =
     let a = c.args in
     let p = plan (goal.at.returns c).After-access_size-a in record {
       given = given_built a.network.now a.dv a.out.now _ _ _ (c.whole_size-size.ensures ∙ sized (goal.at.returns c).After-access_size-a)
-          (p.transits ∙ ap length (transits_are a.network.now a.dv a.nodes.now a.edges.now a.grid a.n pre.0))
+          (p.transits ∙ ap length (transits_are a.network.now a.dv a.ground.now.nodes.now a.ground.now.edges.now a.ground.now.grid a.ground.now.n pre.0))
           (omega (arith, c.if-out-size.false, c.whole_size-size.ensures, sized (goal.at.returns c).After-access_size-a))
-          (oracle_written a.network.now a.dv a.nodes.now a.edges.now a.grid a.n pre.0 (bytes (goal.at.returns c).After-access_size-a) _ _
+          (oracle_written a.network.now a.dv a.ground.now.nodes.now a.ground.now.edges.now a.ground.now.grid a.ground.now.n pre.0 (bytes (goal.at.returns c).After-access_size-a) _ _
           p.transits p.access c.write_oracle.ensures.bytes);
-      rest = behind_regions a.network.now a.dv a.nodes.now a.edges.now
-          a.grid a.n pre.0 _ _ c.write_oracle.ensures.others ∙
+      rest = behind_regions a.network.now a.dv a.ground.now.nodes.now a.ground.now.edges.now
+          a.ground.now.grid a.ground.now.n pre.0 _ _ c.write_oracle.ensures.others ∙
           c.prepare.ensures.behind;
     }

@@ -3,6 +3,8 @@ use mathlib.Core.Path.{sym, ◌∙◌, ap}
 use native.Mathlib.Omega.{arith}
 use Rattle.model.specs.Network.{node_count}
 use Rattle.model.specs.Rules.{words_needed}
+use Rattle.builder.specs.Laid.{Laid}
+use Rattle.builder.proofs.Planning.{pass_requires}
 use Rattle.builder.proofs.calls.build_of.Goals as goal
 
 pub network_contents-c-requires : goal.network_contents-c-requires
@@ -19,6 +21,20 @@ over-grid-requires c = rw c.body-nodes.ensures c.requires.0.sound.nodes_rule
 
 pub node_count-n-requires : goal.node_count-n-requires
 node_count-n-requires c = (c.requires.0.contents, c.requires.0.bodies)
+
+pub invariant_of-ground : goal.invariant_of-ground
+unfolding words_needed
+invariant_of-ground c =
+    let a = c.args in
+    let l : Laid a.network.now a.dv c.body-nodes.result.now c.body-edges.result.now c.over-grid.result c.node_count-n.result = record {
+      passed = c.requires.0;
+      of_nodes = c.body-nodes.ensures;
+      of_edges = c.body-edges.ensures;
+      made = c.over-grid.ensures;
+      count = c.node_count-n.ensures ∙ sym (ap node_count c.body-nodes.ensures);
+    } in
+    let p = pass_requires _ _ _ _ _ _ l a.work.now (omega (arith, c.node_count-n.ensures, c.requires.1)) in
+    record { keeps = (p.0, p.1, p.2) }
 
 pub build_in-requires : goal.build_in-requires
 unfolding words_needed

@@ -9,12 +9,12 @@ use Rattle.words.proofs.Stays.{kept_more}
 use Rattle.builder.proofs.calls.prepare.Goals as goal
 
 pub build_index-requires : goal.build_index-requires
-build_index-requires c = record { n_le_max_nodes = (c.requires.2, c.requires.3); edges_value = rw c.requires.1 c.requires.0.edges_rule }
+build_index-requires c = record { n_le_max_nodes = (c.args.ground.now.keeps.2, c.requires.0); edges_value = rw c.args.ground.now.keeps.1 c.args.ground.now.keeps.0.edges_rule }
 
 pub mark_transit-requires : goal.mark_transit-requires
-mark_transit-requires c = record { on_ground = (c.requires.0, c.requires.1, c.requires.2, search rules, c.requires.4); indexed_edges = c.build_index.ensures.roads }
+mark_transit-requires c = record { on_ground = (search rules, c.requires.1); indexed_edges = c.build_index.ensures.roads }
 
 pub returns : goal.returns
 returns c =
     let a = c.args in
-    record { members = c.mark_transit.ensures.members; counted = c.mark_transit.ensures.counted; roads = roads_kept a.edges.now a.n _ _ c.mark_transit.ensures.others c.build_index.ensures.roads; behind = kept_more (index_at a.n) (work_words a.n) _ _ (omega (arith, c.requires.4)) c.mark_transit.ensures.others ∙ c.build_index.ensures.behind }
+    record { members = c.mark_transit.ensures.members; counted = c.mark_transit.ensures.counted; roads = roads_kept a.ground.now.edges.now a.ground.now.n _ _ c.mark_transit.ensures.others c.build_index.ensures.roads; behind = kept_more (index_at a.ground.now.n) (work_words a.ground.now.n) _ _ (omega (arith, c.requires.1)) c.mark_transit.ensures.others ∙ c.build_index.ensures.behind }

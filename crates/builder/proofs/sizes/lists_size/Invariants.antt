@@ -1,5 +1,5 @@
 -- `builder::sizes::lists_size` meets its contract. Assumes nothing.
-use Prim.Native.Nat.{◌+◌, ◌-◌, ◌*◌, ◌≤◌}
+use Prim.Native.Nat.{◌+◌, ◌*◌, ◌≤◌}
 use mathlib.Core.Path.{◌≡◌}
 use Rattle.model.specs.Lists.{total}
 use Rattle.model.specs.Network.{max_nodes}
@@ -10,6 +10,3 @@ use Rattle.builder.proofs.sizes.lists_size.Given as goal
 
 abbrev pub invariant-loop-v : goal.invariant-loop-v
 invariant-loop-v l = (l.v ≤ l.n) × (l.sum ≤ list_size max_nodes * l.v) × (total (list_sizes l.n l.counts) ≡ l.sum + left l.counts l.n l.v)
-
-abbrev pub decreases-loop-v : goal.decreases-loop-v
-decreases-loop-v l = l.n - l.v

@@ -5,4 +5,4 @@ use Rattle.capi.specs.Replies.{reply}
 use Rattle.capi.proofs.oracles.jukesogbi_far.Goals as goal
 
 pub returns : goal.returns
-returns c = c.reply_of.ensures ∙ ap reply (meaning_injective _ _ c.far.ensures.result)
+returns c = c.from.ensures ∙ ap reply (meaning_injective _ _ c.far.ensures.result)

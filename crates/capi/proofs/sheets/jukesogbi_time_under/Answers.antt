@@ -5,4 +5,4 @@ use Rattle.capi.specs.Replies.{reply}
 use Rattle.capi.proofs.sheets.jukesogbi_time_under.Goals as goal
 
 pub returns : goal.returns
-returns c = record { result = c.reply_of.ensures ∙ ap reply (meaning_injective _ _ c.time_under.ensures.result); words = c.time_under.ensures.words }
+returns c = record { result = c.from.ensures ∙ ap reply (meaning_injective _ _ c.time_under.ensures.result); words = c.time_under.ensures.words }

@@ -1,9 +1,8 @@
-use Rattle.codec.proofs.Writes.{write_2}
-use Rattle.std.proofs.Common.{arith, length-set}
+use Rattle.model.specs.Bytes.{bytes16}
+use Rattle.std.proofs.Common.{◌∙◌, refl}
+use Rattle.codec.proofs.Writes.{put_bytes, bytes_16}
 use Rattle.codec.proofs.bytes.write16.Goals as goal
 
-pub bounds-b-i-2 : goal.bounds-b-i-2
-bounds-b-i-2 c = simp length-set (omega arith)
-
 pub returns : goal.returns
-returns c = write_2 c.args.b.now c.args.i c.args.x (omega arith)
+unfolding bytes16
+returns c = put_bytes _ _ _ _ _ (c.copy_from_slice.ensures.after ∙ (c.to_le_bytes.ensures ∙ bytes_16 c.args.x)) refl

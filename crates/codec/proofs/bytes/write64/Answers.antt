@@ -1,10 +1,8 @@
--- `bytes::write64` meets its contract.
-use Rattle.std.proofs.Common.{ap, ◌∙◌}
-use Rattle.model.specs.Bytes.{splice}
-use Rattle.codec.proofs.Writes.{write_8}
+use Rattle.model.specs.Bytes.{bytes16, bytes32, bytes64}
+use Rattle.std.proofs.Common.{◌∙◌, refl}
+use Rattle.codec.proofs.Writes.{put_bytes, bytes_64}
 use Rattle.codec.proofs.bytes.write64.Goals as goal
 
 pub returns : goal.returns
-returns c =
-    let a = c.args in
-    c.write32-2.ensures ∙ (ap (splice _ _) c.write32.ensures ∙ write_8 a.b.now a.i a.x c.requires)
+unfolding bytes64 bytes32 bytes16
+returns c = put_bytes _ _ _ _ _ (c.copy_from_slice.ensures.after ∙ (c.to_le_bytes.ensures ∙ bytes_64 c.args.x)) refl

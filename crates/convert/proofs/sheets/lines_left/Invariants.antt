@@ -1,5 +1,5 @@
 -- `sheets::lines_left` meets its contract. The loop's invariant: the kept lines from k on are left to count. Assumes nothing.
-use Prim.Native.Nat.{◌+◌, ◌-◌, ◌*◌, ◌≤◌}
+use Prim.Native.Nat.{◌+◌, ◌*◌, ◌≤◌}
 use mathlib.Core.Path.{◌≡◌}
 use lib.ListN.{length}
 use Rattle.model.specs.Bytes.{words16}
@@ -11,6 +11,3 @@ use Rattle.convert.proofs.sheets.lines_left.Given as goal
 abbrev pub invariant-loop-k : goal.invariant-loop-k
 invariant-loop-k l = (l.count ≡ line_count l.lines) × (l.k ≤ l.count) × (l.size ≤ line_size * l.k)
     × (l.size + length (left_from (line_at (words16 l.closed) l.lines) l.k l.count) ≡ length (lines_left (words16 l.closed) l.lines))
-
-abbrev pub decreases-loop-k : goal.decreases-loop-k
-decreases-loop-k l = l.count - l.k

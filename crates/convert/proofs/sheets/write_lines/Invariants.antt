@@ -1,5 +1,4 @@
 -- `sheets::write_lines` meets its contract. The loop's invariant: the kept lines from k on are left to write. Assumes nothing.
-use Prim.Native.Nat.{◌-◌}
 use mathlib.Core.Path.{◌≡◌}
 use lib.ListN.{length}
 use Rattle.model.specs.Bytes.{words16}
@@ -12,6 +11,3 @@ use Rattle.convert.proofs.sheets.write_lines.Given as goal
 abbrev pub invariant-loop-k : goal.invariant-loop-k
 invariant-loop-k l = (l.count ≡ line_count l.lines) × (length l.out ≡ length l.initial.out)
     × WrittenFrom l.initial.out l.at (lines_left (words16 l.closed) l.lines) l.end l.out (left_from (line_at (words16 l.closed) l.lines) l.k l.count)
-
-abbrev pub decreases-loop-k : goal.decreases-loop-k
-decreases-loop-k l = l.count - l.k

@@ -1,5 +1,4 @@
 -- `cells::first_of_cell` meets its contract: the answer is that for the nodes from v on.
-use Prim.Native.Nat.{◌-◌, ◌≤◌}
 use mathlib.Core.Path.{◌≡◌}
 use Rattle.crossing.specs.Cells.{first_of_cell}
 use Rattle.crossing.specs.Beside.{CellSquare}
@@ -9,8 +8,5 @@ use Rattle.crossing.proofs.Alike.{none_from}
 use Rattle.crossing.proofs.cells.first_of_cell.Given as goal
 
 abbrev pub invariant-loop-v : goal.invariant-loop-v
-invariant-loop-v l = (l.v ≤ l.u) × ((grid : Grid) → CellSquare l.nodes grid l.u l.square
-    → first_of_cell (cells_in grid l.nodes) l.u ≡ none_from (cells_in grid l.nodes) l.u l.v)
-
-abbrev pub decreases-loop-v : goal.decreases-loop-v
-decreases-loop-v l = l.u - l.v
+invariant-loop-v l = (grid : Grid) → CellSquare l.nodes grid l.u l.square
+    → first_of_cell (cells_in grid l.nodes) l.u ≡ none_from (cells_in grid l.nodes) l.u l.v

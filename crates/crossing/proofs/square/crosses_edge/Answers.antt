@@ -5,24 +5,20 @@ use Rattle.crossing.proofs.Crossed.{crosses_read}
 use Rattle.theory.specs.Sound.{edge_fine}
 use Rattle.crossing.proofs.square.crosses_edge.Goals as goal
 
-pub edge_first-requires : goal.edge_first-requires
+pub read-edge-requires : goal.read-edge-requires
 unfolding edge_count
-edge_first-requires c = omega arith
+read-edge-requires c = omega arith
 
-pub has-first-requires : goal.has-first-requires
+pub has-requires : goal.has-requires
 unfolding node_count
-has-first-requires c = omega (arith, (edge_fine _ _ c.requires.0 c.args.i c.requires.1).first_in, c.edge_first.ensures)
+has-requires c = omega (arith, (edge_fine _ _ c.requires.0 c.args.i c.requires.1).first_in, c.read-edge.ensures.first)
 
-pub edge_second-requires : goal.edge_second-requires
-unfolding edge_count
-edge_second-requires c = omega arith
-
-pub has-second-requires : goal.has-second-requires
+pub has-requires-2 : goal.has-requires-2
 unfolding node_count
-has-second-requires c = omega (arith, (edge_fine _ _ c.requires.0 c.args.i c.requires.1).second_in, c.edge_second.ensures)
+has-requires-2 c = omega (arith, (edge_fine _ _ c.requires.0 c.args.i c.requires.1).second_in, c.read-edge.ensures.second)
 
 pub returns : goal.returns
 returns c =
     let a = c.args in
-    crosses_read a.nodes.now a.square _ _ _ _ _ c.edge_first.ensures.0 c.edge_second.ensures.0
-    c.has-first.ensures c.has-second.ensures
+    crosses_read a.nodes.now a.square _ _ _ _ _ c.read-edge.ensures.first.0 c.read-edge.ensures.second.0
+    c.has.ensures c.has-2.ensures

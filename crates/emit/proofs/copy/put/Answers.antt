@@ -6,4 +6,4 @@ use Rattle.emit.proofs.copy.put.Goals as goal
 pub returns : goal.returns
 returns c =
     let a = c.args in
-    wrote_part a.at _ a.out.now c.copy.new.to _ (omega arith) (omega arith) c.copy.auto.to c.copy.ensures
+    wrote_part a.at _ a.out.now c.copy_from_slice.new.self _ (omega arith) (omega arith) c.copy_from_slice.auto.self c.copy_from_slice.ensures.after

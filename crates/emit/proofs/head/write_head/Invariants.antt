@@ -6,12 +6,9 @@ use Rattle.emit.specs.Parts.{head_bytes, entries_of}
 use Rattle.model.specs.Contents.{entry_at}
 use lib.ListN.{length, drop}
 use mathlib.Core.Path.{◌≡◌}
-use Prim.Native.Nat.{◌+◌, ◌<◌, ◌≤◌, ◌-◌}
+use Prim.Native.Nat.{◌+◌, ◌<◌, ◌≤◌}
 use Rattle.emit.proofs.head.write_head.Given as goal
 
 abbrev pub invariant-loop-k : goal.invariant-loop-k
 invariant-loop-k l = (l.k ≤ l.entries) × (l.entries ≡ length l.sizes) × (l.offset + total (drop l.k l.sizes) < 4294967296) × (length l.out ≡ entry_at l.entries) × Written
     (head_bytes l.edition l.sizes) (entry_at l.k) l.out (entries_of l.k l.offset (drop l.k l.sizes))
-
-abbrev pub decreases-loop-k : goal.decreases-loop-k
-decreases-loop-k l = l.entries - l.k

@@ -6,12 +6,9 @@ use Rattle.emit.specs.Parts.{starts_of, list_sizes}
 use Rattle.model.specs.Oracle.{start_size}
 use lib.ListN.{length}
 use mathlib.Core.Path.{◌≡◌}
-use Prim.Native.Nat.{◌*◌, ◌≤◌, ◌-◌}
+use Prim.Native.Nat.{◌*◌, ◌≤◌}
 use Rattle.emit.proofs.starts.write_starts.Given as goal
 
 abbrev pub invariant-loop-v : goal.invariant-loop-v
 invariant-loop-v l = (l.v ≤ l.n) × (l.start ≤ latest l.counts l.n l.v) × (length l.out ≡ length l.initial.out) × Written (starts_of (start_size * l.n) (list_sizes l.n l.counts)) (start_size * l.v) l.out
     (starts_from l.counts l.n l.start l.v)
-
-abbrev pub decreases-loop-v : goal.decreases-loop-v
-decreases-loop-v l = l.n - l.v

@@ -1,13 +1,13 @@
 -- `grid::Grid::within` meets its contract. Assumes nothing.
-use Rattle.std.proofs.Common.{le-leb}
-use borrow.Author.Tests.{lt-leb}
-use Rattle.model.specs.Grid.{within}
+use Rattle.std.proofs.Common.{arith}
+use Rattle.std.proofs.lemmas.Bool.Decides.{nat_tests}
+use Rattle.model.specs.Grid.{gap, within}
 use Rattle.grid.proofs.Grid.within.Goals as goal
 
-pub returns-then-difference-r : goal.returns-then-difference-r
-unfolding within
-returns-then-difference-r c = rw (← c.difference.ensures, ← c.difference-then-difference-r.ensures) (simp (le-leb _ _ c.if-difference-r.true))
+pub returns-then-abs_diff-r : goal.returns-then-abs_diff-r
+unfolding within gap
+returns-then-abs_diff-r c = grind (arith, nat_tests)
 
-pub returns-else-difference-r : goal.returns-else-difference-r
-unfolding within
-returns-else-difference-r c = rw (← c.difference.ensures) (simp (lt-leb _ _ c.if-difference-r.false))
+pub returns-else-abs_diff-r : goal.returns-else-abs_diff-r
+unfolding within gap
+returns-else-abs_diff-r c = grind (arith, nat_tests)

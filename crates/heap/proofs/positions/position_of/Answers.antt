@@ -6,7 +6,7 @@ use Rattle.heap.specs.Words.{position}
 use Rattle.heap.proofs.positions.position_of.Goals as goal
 
 pub overflow_cast-result : goal.overflow_cast-result
-overflow_cast-result c = omega (arith, c.shared_slice_known-1.given (c.args.n + c.args.v))
+overflow_cast-result c = omega (arith, c.type_inv.w (c.args.n + c.args.v))
 
 pub returns : goal.returns
 unfolding position

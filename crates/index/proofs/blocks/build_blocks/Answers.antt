@@ -2,9 +2,6 @@
 use Rattle.index.proofs.Listing.{cleared_index}
 use Rattle.index.proofs.blocks.build_blocks.Goals as goal
 
-pub returns-then-build_any : goal.returns-then-build_any
-returns-then-build_any c = c.build_any.ensures c.if-build_any.true
-
 pub returns : goal.returns
 returns c = cleared_index _ _ _ c.requires.n_in_bounds.2
     c.clear.ensures

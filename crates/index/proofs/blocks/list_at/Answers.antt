@@ -1,11 +1,7 @@
 -- `blocks::list_at` meets its contract: the block is listed already, or the two words that are written list it.
-use native.Mathlib.Omega.{arith}
 use borrow.Author.Rules.{rules}
 use Rattle.index.proofs.ByBlocks.{was_listed, now_listed}
 use Rattle.index.proofs.blocks.list_at.Goals as goal
-
-pub has_last-requires : goal.has_last-requires
-has_last-requires c = λ l. omega (arith, c.next_of-h.ensures.0, c.requires.growing.heads c.args.x c.requires.x_lt_n.0 (omega (arith, c.next_of-h.ensures.0)))
 
 pub returns-then-has_last : goal.returns-then-has_last
 returns-then-has_last c =

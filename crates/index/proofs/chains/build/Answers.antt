@@ -1,7 +1,6 @@
 -- `chains::build` meets its contract: by links where they fit.
 use native.Mathlib.Omega.{arith}
 use mathlib.Core.Path.{sym, ◌∙◌}
-use Rattle.words.proofs.Windows.{index_fits}
 use Rattle.index.proofs.Places.{links_fit}
 use Rattle.index.proofs.Listing.{linked_index}
 use Rattle.index.proofs.chains.build.Goals as goal
@@ -22,9 +21,3 @@ link_all-requires c = record {
 pub returns-then-is_linked : goal.returns-then-is_linked
 returns-then-is_linked c = linked_index _ _ _ (sym c.is_linked.ensures ∙ c.if-is_linked.true)
     c.link_all.ensures
-
-pub build_blocks-requires : goal.build_blocks-requires
-build_blocks-requires c =
-    let e = c.requires.le_n.2 in
-    let room = index_fits c.args.n c.requires.le_n.0 in
-    record { edges_value = c.requires.edges_value; n_in_bounds = (omega arith, omega arith, sym c.is_linked.ensures ∙ c.if-is_linked.false) }

@@ -2,23 +2,11 @@
 use Prim.Native.Nat.{◌≤◌}
 use native.Mathlib.Omega.{arith}
 use mathlib.Core.Path.{refl, ◌∙◌}
-use Rattle.index.proofs.Laid.{no_index, part_length, laid_index}
+use Rattle.index.proofs.Laid.{no_index, laid_index}
 use Rattle.index.proofs.chains.build_index.Goals as goal
 
 pub returns-then-n-lt2 : goal.returns-then-n-lt2
 returns-then-n-lt2 c = record { roads = no_index _ _ c.requires.edges_value _ c.requires.n_le_max_nodes.1 c.if-n-lt2.true; before = refl; behind = refl }
-
-pub build-requires : goal.build-requires
-build-requires c =
-    let two : 2 ≤ c.args.n = omega (arith, c.if-n-lt2.false) in record {
-      edges_value = c.requires.edges_value;
-      le_n = (
-        two,
-        c.requires.n_le_max_nodes.0,
-        part_length c.args.n _ c.args.work.now
-            (c.index_at-at.ensures ∙ omega (arith, two)) two c.requires.n_le_max_nodes.1,
-      );
-    }
 
 pub returns : goal.returns
 returns c =

@@ -4,9 +4,6 @@ use borrow.Author.Rules.{rules}
 use Rattle.index.specs.Index.{block}
 use Rattle.index.proofs.positions.block_of.Goals as goal
 
-pub overflow_cast-result : goal.overflow_cast-result
-overflow_cast-result c = omega (arith, c.shared_slice_known-1.given c.args.p)
-
 pub returns : goal.returns
 unfolding block
 returns c = (search rules, omega (arith, c.shared_slice_known-1.given c.args.p))

@@ -10,6 +10,3 @@ pub entry_in-requires : goal.entry_in-requires
 entry_in-requires c =
     let a = c.args in
     (c.requires.0, c.requires.1, c.requires.2, omega (arith, heads_fit a.n a.work.now c.requires.2 (omega arith)))
-
-pub returns : goal.returns
-returns c = c.entry_in.ensures

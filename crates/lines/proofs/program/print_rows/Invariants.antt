@@ -4,11 +4,7 @@ use Rattle.model.specs.Contents.{node_body}
 use Rattle.opened.specs.Opened.{Opened}
 use lib.ListN.{length}
 use mathlib.Core.Path.{◌≡◌}
-use Prim.Native.Nat.{◌-◌}
 use Rattle.lines.proofs.program.print_rows.Given as goal
 
 abbrev pub invariant-loop-s : goal.invariant-loop-s
 invariant-loop-s g l = (l.n ≡ node_count (node_body l.o)) × Opened l.o l.work × (length l.work ≡ length l.initial.work) × (length l.out ≡ length l.initial.out)
-
-abbrev pub decreases-loop-s : goal.decreases-loop-s
-decreases-loop-s g l = l.n - l.s

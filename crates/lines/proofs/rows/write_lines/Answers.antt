@@ -7,9 +7,6 @@ use Rattle.lines.proofs.rows.write_lines.Goals as goal
 pub node_count-n-requires : goal.node_count-n-requires
 node_count-n-requires c = c.requires.0.shape
 
-pub overflow_add-t : goal.overflow_add-t
-overflow_add-t c = omega (arith, c.node_count-n.ensures)
-
 pub loop-t-init : goal.loop-t-init
 loop-t-init c = (search rules, search rules, begun_start _ _ _ c.requires.3)
 

@@ -18,26 +18,14 @@ use Rattle.marks.proofs.leads.leads.Goals as goal
 as_plain : (p : Arc → Bool) (edges : Bytes) → any p (arcs_under edges []) ≡ any p (arcs_in edges)
 as_plain p edges = ap (any p) (plain_arcs edges)
 
-pub arc_at-a-requires : goal.arc_at-a-requires
-arc_at-a-requires c = (c.requires.indexed_edges.ends, λ l. (c.first_edge-c.ensures.valid.here l).end)
-
 pub loop-a-init : goal.loop-a-init
 loop-a-init c = unmet_first _ _ _ _ _ _ _ (passes_first _ _ _ _ _ _ _
     (first_arc_here _ _ _ _ _ _ _ c.arc_at-a.ensures.0 c.first_edge-c.ensures.valid (λ z. omega (arith, z, c.arc_at-a.ensures.1)))
     c.first_edge-c.ensures)
 
-pub leads_to-requires : goal.leads_to-requires
-leads_to-requires c = (c.requires.n_le_max_nodes.0, c.requires.n_le_max_nodes.1, c.requires.n_le_max_nodes.2, c.loop-a-test.true, c.loop-a.invariant.passes.low)
-
 pub returns-then-leads_to : goal.returns-then-leads_to
 returns-then-leads_to c = met _ _ _ _ _ _ _ c.loop-a.invariant _ c.if-leads_to.true c.leads_to.ensures c.loop-a-test.true
     ∙ as_plain _ _
-
-pub next_arc-a-requires : goal.next_arc-a-requires
-next_arc-a-requires c = record { n_le_max_nodes = c.requires.n_le_max_nodes; indexed_edges = c.requires.indexed_edges; valid_arc = (c.loop-a.invariant.passes.valid, c.loop-a-test.true) }
-
-pub loop-a-smaller : goal.loop-a-smaller
-loop-a-smaller c = c.next_arc-a.ensures.less
 
 pub loop-a-preserved : goal.loop-a-preserved
 loop-a-preserved c = unmet_next _ _ _ _ _ _ _ c.loop-a.invariant _ _ c.if-leads_to.false c.leads_to.ensures

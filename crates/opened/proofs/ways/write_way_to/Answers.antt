@@ -20,8 +20,12 @@ returns-then-s-t c =
       others = refl;
     }
 
-pub write_way_from-requires : goal.write_way_from-requires
-write_way_from-requires c = record { s_lt_n = (c.requires.1, c.requires.0, omega (arith, c.requires.3, c.search_to.auto.work)); edges_under = edges_behind _ _ _ _ _ c.search_to.ensures.others c.requires.4 }
+pub invariant_of-roads : goal.invariant_of-roads
+invariant_of-roads c = record {
+  few = c.requires.0;
+  enough = omega (arith, c.requires.3, c.search_to.auto.work);
+  under = ∣ edges_behind _ _ _ _ _ c.search_to.ensures.others c.requires.4 ∣₁;
+}
 
 pub returns : goal.returns
 returns c =

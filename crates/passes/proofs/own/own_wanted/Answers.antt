@@ -13,7 +13,7 @@ own_access-requires c =
 pub returns : goal.returns
 returns c =
     let a = c.args in
-    let two = access_alone a.nodes.now a.edges.now a.grid a.n c.requires.on_ground.1 c.requires.on_ground.0 a.u own _ c.own_access.ensures.members in
-    let r = sought_made a.n (omega (arith, c.requires.on_ground.3)) _ _ _ two c.clear.ensures.members c.clear.ensures.others c.unite.ensures.members
+    let two = access_alone a.ground.now.nodes.now a.ground.now.edges.now a.ground.now.grid a.ground.now.n c.args.ground.now.keeps.1 c.args.ground.now.keeps.0 a.u own _ c.own_access.ensures.members in
+    let r = sought_made a.ground.now.n (omega (arith, c.requires.on_ground.0)) _ _ _ two c.clear.ensures.members c.clear.ensures.others c.unite.ensures.members
     c.unite.ensures.others _ c.count.ensures in
     record { members = r.0 ∙ c.own_access.ensures.members; sought = r.1; others = r.2 ∙ c.own_access.ensures.others }

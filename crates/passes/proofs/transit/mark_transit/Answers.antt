@@ -10,16 +10,16 @@ use Rattle.passes.proofs.transit.mark_transit.Goals as goal
 pub loop-u-init : goal.loop-u-init
 loop-u-init c =
     let a = c.args in
-    (omega arith, refl, passed_none a.nodes.now a.edges.now a.grid a.n _ c.clear.ensures.members, refl)
+    (omega arith, refl, passed_none a.ground.now.nodes.now a.ground.now.edges.now a.ground.now.grid a.ground.now.n _ c.clear.ensures.members, refl)
 
 pub pass_cell-requires : goal.pass_cell-requires
 pass_cell-requires c =
     let a = c.args in
-    let r = roads_only a.edges.now a.n a.work.now _ _ _ (omega arith) c.clear.ensures.others c.requires.indexed_edges in record {
-      on_ground = (c.requires.on_ground.0, c.requires.on_ground.1, c.requires.on_ground.2, c.loop-u-test.true, omega (arith, c.requires.on_ground.3, c.loop-u.invariant.1, c.clear.auto.work));
+    let r = roads_only a.ground.now.edges.now a.ground.now.n a.work.now _ _ _ (omega arith) c.clear.ensures.others c.requires.indexed_edges in record {
+      on_ground = (c.loop-u-test.true, omega (arith, c.requires.on_ground.0, c.loop-u.invariant.1, c.clear.auto.work));
       cells_passed = (
         c.loop-u.invariant.2,
-        roads_kept a.edges.now a.n _ c.loop-u.work c.loop-u.invariant.3
+        roads_kept a.ground.now.edges.now a.ground.now.n _ c.loop-u.work c.loop-u.invariant.3
             r,
       );
     }
@@ -35,5 +35,5 @@ loop-u-preserved c = (
 pub returns : goal.returns
 returns c =
     let a = c.args in
-    let r = passed_all a.nodes.now a.edges.now a.grid a.n c.requires.on_ground.0 c.requires.on_ground.1 c.loop-u.u c.loop-u.work c.loop-u-test.false c.loop-u.invariant.2 in
-    record { members = r.0; counted = r.1; others = c.loop-u.invariant.3 ∙ after_kept _ _ a.work.now _ c.clear.ensures.others (index_at a.n) (omega arith) }
+    let r = passed_all a.ground.now.nodes.now a.ground.now.edges.now a.ground.now.grid a.ground.now.n c.args.ground.now.keeps.0 c.args.ground.now.keeps.1 c.loop-u.u c.loop-u.work c.loop-u-test.false c.loop-u.invariant.2 in
+    record { members = r.0; counted = r.1; others = c.loop-u.invariant.3 ∙ after_kept _ _ a.work.now _ c.clear.ensures.others (index_at a.ground.now.n) (omega arith) }

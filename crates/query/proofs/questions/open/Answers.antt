@@ -1,13 +1,24 @@
 -- `questions::open` meets its contract.
-use mathlib.Core.Path.{◌∙◌, sym, refl}
+use mathlib.Core.Path.{sym, refl}
+use Rattle.reader.proofs.Kept.{none_broken, number_broken, some_rule}
 use Rattle.checks.proofs.RulesKept.{room_kept}
 use Rattle.query.proofs.questions.open.Goals as goal
 
-pub returns-then-rule-ne0 : goal.returns-then-rule-ne0
-returns-then-rule-ne0 c = record { rule = c.room_refusal-rule.ensures; opened = λ e. absurd (c.if-rule-ne0.true e); unwritten = λ n. refl; rest = refl }
+pub returns-in-Err : goal.returns-in-Err
+returns-in-Err c = record {
+  rule = number_broken c.room_refusal.ensures c.in-Err.is c.number.ensures;
+  opened = λ e. absurd (some_rule c.in-Err.broken c.number.ensures e);
+  unwritten = λ n. refl;
+  rest = refl;
+}
 
 pub open_words-requires : goal.open_words-requires
-open_words-requires c = room_kept _ _ (sym c.room_refusal-rule.ensures ∙ c.if-rule-ne0.false)
+open_words-requires c = room_kept _ _ (sym (none_broken c.room_refusal.ensures c.in_default.is))
 
 pub returns : goal.returns
-returns c = record { rule = sym c.if-rule-ne0.false ∙ c.room_refusal-rule.ensures; opened = λ e. c.open_words.ensures.opened; unwritten = λ n. absurd (n refl); rest = c.open_words.ensures.rest }
+returns c = record {
+  rule = none_broken c.room_refusal.ensures c.in_default.is;
+  opened = λ e. c.open_words.ensures.opened;
+  unwritten = λ n. absurd (n refl);
+  rest = c.open_words.ensures.rest;
+}

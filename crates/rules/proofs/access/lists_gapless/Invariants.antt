@@ -5,11 +5,8 @@ use Rattle.model.specs.Lists.{gapless, up_to}
 use lib.ListN.{length}
 use mathlib.Core.List.{map}
 use mathlib.Core.Path.{◌≡◌}
-use Prim.Native.Nat.{◌*◌, ◌-◌, ◌≤◌}
+use Prim.Native.Nat.{◌*◌, ◌≤◌}
 use Rattle.rules.proofs.access.lists_gapless.Given as goal
 
 abbrev pub invariant-loop-u : goal.invariant-loop-u
 invariant-loop-u l = (l.at ≤ length l.b) × (start_size * l.n ≤ length l.b) × (gapless (start_size * l.n) (map (list_part l.b) (up_to l.n)) (length l.b) ≡ lists_left l.b l.at l.u l.n)
-
-abbrev pub decreases-loop-u : goal.decreases-loop-u
-decreases-loop-u l = l.n - l.u

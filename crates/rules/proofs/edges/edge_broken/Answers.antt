@@ -4,10 +4,10 @@ use Rattle.std.proofs.lemmas.Bool.Decides.{nat_tests}
 use Rattle.model.specs.Network.{edge_broken}
 use Rattle.rules.proofs.edges.edge_broken.Goals as goal
 
-pub returns-then-first-second : goal.returns-then-first-second
+pub returns-then-edge : goal.returns-then-edge
 unfolding edge_broken
-returns-then-first-second c = grind (arith, nat_tests)
+returns-then-edge c = grind (arith, nat_tests)
 
-pub returns-else-first-second : goal.returns-else-first-second
+pub returns-else-edge : goal.returns-else-edge
 unfolding edge_broken
-returns-else-first-second c = grind (arith, nat_tests)
+returns-else-edge c = grind (arith, nat_tests)

@@ -16,12 +16,13 @@ returns-then-b-values c = sym (table_size _ _ c.if-b-values.true)
 pub loop-i-init : goal.loop-i-init
 loop-i-init c = (c.if-b-values.false, omega arith, table_all _ _ c.if-b-values.false)
 
-pub returns-then-fine-eq0 : goal.returns-then-fine-eq0
-returns-then-fine-eq0 c = sym (c.loop-i.invariant.2
-    ∙ table_found _ _ _ c.loop-i-test.true (c.fine_from-fine.ensures.2 c.if-fine-eq0.true))
+pub returns-in_default : goal.returns-in_default
+returns-in_default c = sym (c.loop-i.invariant.2 ∙ table_found _ _ _ c.loop-i-test.true c.in_default.ensures)
 
 pub loop-i-preserved : goal.loop-i-preserved
-loop-i-preserved c = (c.loop-i.invariant.0, c.fine_from-fine.ensures.0, c.loop-i.invariant.2 ∙ table_passed _ _ _ _ c.fine_from-fine.ensures.1 c.fine_from-fine.ensures.0)
+loop-i-preserved c =
+    let fine = c.in-Some.ensures in
+    (c.loop-i.invariant.0, fine.1, c.loop-i.invariant.2 ∙ table_passed _ _ _ _ fine.2 fine.1)
 
 pub returns : goal.returns
 returns c = sym (c.loop-i.invariant.2 ∙ table_end _ _ _ c.loop-i-test.false)

@@ -30,12 +30,6 @@ round-k-requires c =
       );
     }
 
-pub overflow_sub-e : goal.overflow_sub-e
-overflow_sub-e c = omega (arith, c.loop-k.invariant.2.holds.queue.held, c.loop-k-test.true)
-
-pub loop-k-smaller : goal.loop-k-smaller
-loop-k-smaller c = omega (arith, c.loop-k.invariant.2.holds.queue.held, c.loop-k-test.true)
-
 pub loop-k-preserved : goal.loop-k-preserved
 loop-k-preserved c =
     let a = c.args in (
@@ -44,9 +38,6 @@ loop-k-preserved c =
       next _ a.n a.s c.requires.n_le_max_nodes.0 c.requires.n_le_max_nodes.1 (arcs_bounded _ _ _ _ c.requires.edges_under)
           c.loop-k.k c.loop-k.e _ c.loop-k.invariant.2 _ _ c.round-k.ensures.round,
     )
-
-pub finish-requires : goal.finish-requires
-finish-requires c = (search rules, search rules, c.loop-k.invariant.2.holds.queue.room)
 
 pub returns : goal.returns
 returns c =

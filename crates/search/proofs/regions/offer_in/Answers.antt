@@ -1,9 +1,7 @@
 -- `regions::offer_in` meets its contract: a time that is no less stays, a settled node keeps its time, and for any other the queue's words come back.
 use native.Mathlib.Omega.{arith}
 use mathlib.Core.Path.{sym, ◌∙◌}
-use borrow.Author.Rules.{rules}
 use borrow.Author.Tests.{ltb-true, ltb-false}
-use lib.Seq.{length-take-le}
 use Rattle.words.specs.Times.{time}
 use Rattle.words.proofs.TimeLaws.{time_at}
 use Rattle.search.specs.Held.{time_in}
@@ -29,11 +27,6 @@ returns-then-contains c =
       bit_set a.n a.work.now a.v c.requires.1
           (rw c.queue_words-m.ensures at (sym c.contains.ensures ∙ c.if-contains.true)),
     )))
-
-pub slice_bounds-offer-end-2 : goal.slice_bounds-offer-end-2
-slice_bounds-offer-end-2 c =
-    let a = c.args in
-    sym (length-take-le c.queue_words-m.result a.work.now (search rules))
 
 pub offer-requires : goal.offer-requires
 offer-requires c =

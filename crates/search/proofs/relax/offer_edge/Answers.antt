@@ -1,20 +1,12 @@
 -- `relax::offer_edge` meets its contract: nothing is left of the edge, or one arc out of u.
 use native.Mathlib.Omega.{arith}
-use mathlib.Core.Path.{refl, sym}
-use lib.Seq.{length-take-le}
+use mathlib.Core.Path.{refl}
 use Rattle.model.specs.Network.{edge_count}
-use Rattle.theory.specs.Sound.{edge_fine}
-use Rattle.arcs.proofs.Passes.{two_ends, none_left}
+use Rattle.arcs.proofs.Passes.{none_left}
 use Rattle.words.proofs.Parts.{front_others}
 use Rattle.words.specs.Regions.{search_words}
 use Rattle.search.proofs.Edges.{edge_room, end_in, cost_low, one_arc, closed_edge, offered}
 use Rattle.search.proofs.relax.offer_edge.Goals as goal
-
-pub cost_left-cost-requires : goal.cost_left-cost-requires
-cost_left-cost-requires c =
-    let a = c.args in
-    let f = edge_fine a.n a.edges.now c.requires.edges_value.0 a.i c.requires.edges_value.1 in
-    record { le_n = (two_ends f, c.requires.holds.0.queue.positioned.few, c.requires.holds.2, c.requires.edges_value.3); i_bound = c.requires.edges_value.1 }
 
 pub returns-then-cost-eq-NO_WALK : goal.returns-then-cost-eq-NO_WALK
 returns-then-cost-eq-NO_WALK c =
@@ -24,27 +16,9 @@ returns-then-cost-eq-NO_WALK c =
       others = refl;
     }
 
-pub edge_first-requires : goal.edge_first-requires
+pub read-edge-requires : goal.read-edge-requires
 unfolding edge_count
-edge_first-requires c = omega (arith, c.requires.edges_value.1)
-
-pub edge_second-requires : goal.edge_second-requires
-unfolding edge_count
-edge_second-requires c = omega (arith, c.requires.edges_value.1)
-
-pub search_words-front-requires : goal.search_words-front-requires
-search_words-front-requires c = c.requires.holds.0.queue.positioned.few
-
-pub slice_bounds-offer_in-end : goal.slice_bounds-offer_in-end
-slice_bounds-offer_in-end c =
-    let a = c.args in
-    omega (arith, c.search_words-front.ensures, edge_room a.n a.edges.now a.i a.work.now c.requires.edges_value.0 c.requires.edges_value.1 c.requires.holds.2)
-
-pub slice_bounds-offer_in-end-2 : goal.slice_bounds-offer_in-end-2
-slice_bounds-offer_in-end-2 c =
-    let a = c.args in
-    sym (length-take-le c.search_words-front.result a.work.now
-    (omega (arith, c.search_words-front.ensures, edge_room a.n a.edges.now a.i a.work.now c.requires.edges_value.0 c.requires.edges_value.1 c.requires.holds.2)))
+read-edge-requires c = omega (arith, c.requires.edges_value.1)
 
 pub overflow_add-d : goal.overflow_add-d
 overflow_add-d c =
@@ -53,8 +27,8 @@ overflow_add-d c =
       arith,
       c.requires.holds.3,
       cost_low a.edges.now a.lines.now a.n a.u a.i c.requires.edges_value.0 c.requires.edges_value.1 c.requires.edges_value.2 _ _ _ _
-          c.edge_first.ensures.0
-          c.edge_second.ensures.0 c.other_end-v.ensures
+          c.read-edge.ensures.first.0
+          c.read-edge.ensures.second.0 c.other_end-v.ensures
           c.cost_left-cost.ensures c.if-cost-eq-NO_WALK.false,
     )
 
@@ -62,7 +36,7 @@ pub offer_in-requires : goal.offer_in-requires
 offer_in-requires c =
     let a = c.args in
     let i = end_in a.edges.now a.lines.now a.n a.u a.i c.requires.edges_value.0 c.requires.edges_value.1 c.requires.edges_value.2 _ _ _ _
-    c.edge_first.ensures.0 c.edge_second.ensures.0
+    c.read-edge.ensures.first.0 c.read-edge.ensures.second.0
     c.other_end-v.ensures c.cost_left-cost.ensures in
     rw c.search_words-front.ensures (c.requires.holds.0, i, λ h. omega (arith, c.requires.holds.1 _ i h))
 
@@ -72,8 +46,8 @@ returns c =
     let k = rw c.search_words-front.ensures at c.offer_in.auto.work in
     let l = edge_room a.n a.edges.now a.i a.work.now c.requires.edges_value.0 c.requires.edges_value.1 c.requires.holds.2 in
     let x = one_arc a.edges.now a.lines.now a.n a.u a.i c.requires.edges_value.0 c.requires.edges_value.1 c.requires.edges_value.2 _ _ _ _
-    c.edge_first.ensures.0
-    c.edge_second.ensures.0
+    c.read-edge.ensures.first.0
+    c.read-edge.ensures.second.0
     c.other_end-v.ensures
     c.cost_left-cost.ensures
     c.if-cost-eq-NO_WALK.false in record {

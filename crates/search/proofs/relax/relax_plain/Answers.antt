@@ -1,21 +1,11 @@
 -- `relax::relax_plain` meets its contract: the arcs that the walk has passed are relaxed, and at its end those are all.
 use native.Mathlib.Omega.{arith}
-use mathlib.Core.Path.{refl, sym}
+use mathlib.Core.Path.{refl}
 use borrow.Author.Rules.{rules}
 use mathlib.Core.List.{[]}
-use lib.Seq.{length-take-le}
 use Rattle.search.proofs.Relaxes.{passed_first, turn_passes, turn_edges, passed_next, passed_last, time_read}
 use Rattle.arcs.proofs.Passes.{first_arc_here, passes_first}
 use Rattle.search.proofs.relax.relax_plain.Goals as goal
-
-pub search_words-front-requires : goal.search_words-front-requires
-search_words-front-requires c = c.requires.holds.0.queue.positioned.few
-
-pub first_edge-c-requires : goal.first_edge-c-requires
-first_edge-c-requires c = record { n_le_max_nodes = (c.requires.holds.0.queue.positioned.few, c.requires.edges_under.1, c.requires.holds.1); indexed_edges = c.requires.edges_under.0.roads }
-
-pub arc_at-a-requires : goal.arc_at-a-requires
-arc_at-a-requires c = (c.requires.edges_under.0.roads.ends, λ l. (c.first_edge-c.ensures.valid.here l).end)
 
 pub loop-a-init : goal.loop-a-init
 loop-a-init c =
@@ -26,22 +16,6 @@ loop-a-init c =
           (passes_first _ _ _ _ _ _ _ (first_arc_here _ _ _ _ _ _ _ c.arc_at-a.ensures.0 c.first_edge-c.ensures.valid
           (λ z. omega (arith, z, c.arc_at-a.ensures.1))) c.first_edge-c.ensures),
     )
-
-pub slice_bounds-offer_in-end : goal.slice_bounds-offer_in-end
-slice_bounds-offer_in-end c = omega (arith, c.search_words-front.ensures, c.loop-a.invariant.0, c.requires.edges_under.1)
-
-pub slice_bounds-offer_in-end-in-loop-a : goal.slice_bounds-offer_in-end-in-loop-a
-slice_bounds-offer_in-end-in-loop-a c = sym (length-take-le c.search_words-front.result c.loop-a.work
-    (omega (arith, c.search_words-front.ensures, c.loop-a.invariant.0, c.requires.edges_under.1)))
-
-pub overflow_add-d : goal.overflow_add-d
-overflow_add-d c = omega (arith, c.loop-a.invariant.1.passes.low)
-
-pub offer_in-held-requires : goal.offer_in-held-requires
-offer_in-held-requires c =
-    let g = c.loop-a.invariant.1 in
-    rw c.search_words-front.ensures
-    (g.relaxed.holds, c.loop-a-test.true, λ h. omega (arith, g.within c.loop-a.a.to c.loop-a-test.true h))
 
 pub next_arc-a-requires : goal.next_arc-a-requires
 next_arc-a-requires c =
@@ -58,9 +32,6 @@ next_arc-a-requires c =
         c.loop-a-test.true,
       );
     }
-
-pub loop-a-smaller : goal.loop-a-smaller
-loop-a-smaller c = c.next_arc-a.ensures.less
 
 pub loop-a-preserved : goal.loop-a-preserved
 loop-a-preserved c =

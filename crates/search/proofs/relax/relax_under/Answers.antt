@@ -8,9 +8,6 @@ use Rattle.search.proofs.Relaxes.{time_read}
 use Rattle.search.proofs.Edges.{edges_first, turn_edges, turn_passing, edges_next, edges_last}
 use Rattle.search.proofs.relax.relax_under.Goals as goal
 
-pub first_edge-c-requires : goal.first_edge-c-requires
-first_edge-c-requires c = record { n_le_max_nodes = (c.requires.holds.0.queue.positioned.few, c.requires.edges_under.1, c.requires.holds.1); indexed_edges = c.requires.edges_under.0.roads }
-
 pub loop-c-init : goal.loop-c-init
 loop-c-init c =
     let a = c.args in (
@@ -38,9 +35,6 @@ next_edge-c-requires c =
         c.loop-c-test.true,
       );
     }
-
-pub loop-c-smaller : goal.loop-c-smaller
-loop-c-smaller c = c.next_edge-c.ensures.less
 
 pub loop-c-preserved : goal.loop-c-preserved
 loop-c-preserved c =

@@ -1,19 +1,7 @@
 -- `rounds::finish` meets its contract: the words of the search come back with the plain order.
-use mathlib.Core.Path.{sym, ◌∙◌}
 use borrow.Author.Rules.{rules}
-use lib.Seq.{length-take-le}
 use Rattle.search.proofs.Fronts.{finished}
 use Rattle.search.proofs.rounds.finish.Goals as goal
-
-pub slice_bounds-plain_order-end-2 : goal.slice_bounds-plain_order-end-2
-slice_bounds-plain_order-end-2 c = sym (length-take-le c.search_words-m.result c.args.work.now (search rules))
-
-pub plain_order-requires : goal.plain_order-requires
-plain_order-requires c = (
-  length-take-le c.search_words-m.result c.args.work.now (search rules) ∙
-      c.search_words-m.ensures,
-  search rules,
-)
 
 pub returns : goal.returns
 returns c =

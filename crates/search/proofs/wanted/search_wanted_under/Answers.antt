@@ -36,13 +36,6 @@ round-k-requires c =
       );
     }
 
-pub overflow_sub-e : goal.overflow_sub-e
-overflow_sub-e c = omega (
-  arith,
-  c.loop-k.invariant.2.standing.holds.queue.held,
-  c.loop-k-test.true,
-)
-
 pub left_then-lacking-requires : goal.left_then-lacking-requires
 left_then-lacking-requires c =
     let a = c.args in
@@ -55,13 +48,6 @@ left_then-lacking-requires c =
           c.loop-k.invariant.2 _ c.round-k.ensures.round,
     )
 
-pub loop-k-smaller : goal.loop-k-smaller
-loop-k-smaller c = omega (
-  arith,
-  c.loop-k.invariant.2.standing.holds.queue.held,
-  c.loop-k-test.true,
-)
-
 pub loop-k-preserved : goal.loop-k-preserved
 loop-k-preserved c =
     let a = c.args in (
@@ -70,9 +56,6 @@ loop-k-preserved c =
       turn _ a.n a.s c.requires.n_le_max_nodes.0 c.requires.n_le_max_nodes.1 (arcs_bounded _ _ _ _ c.requires.edges_under) c.loop-k.k c.loop-k.e _ _ _ _
           c.loop-k-test.true (c.round-k.ensures.others ∙ c.loop-k.invariant.1) c.loop-k.invariant.2 _ c.round-k.ensures.round _ c.left_then-lacking.ensures,
     )
-
-pub finish-requires : goal.finish-requires
-finish-requires c = (search rules, search rules, c.loop-k.invariant.2.standing.holds.queue.room)
 
 pub returns : goal.returns
 returns c =

@@ -1,22 +1,20 @@
 -- `form::line_broken` meets its contract: by the first byte.
+use mathlib.Core.Path.{refl, ap}
+use mathlib.Core.Bool.{not}
+use Prim.Native.Nat.{ℕ}
+use lib.Dec.{eqb}
 use Rattle.sheet.specs.Sheet.{line}
-use Rattle.sheet.proofs.Forms.{by_delayed, by_closed, by_neither}
+use Rattle.sheet.proofs.Forms.{by_status}
 use Rattle.sheet.proofs.form.line_broken.Goals as goal
 
-pub returns-then-status-eq-DELAYED : goal.returns-then-status-eq-DELAYED
-unfolding line
-returns-then-status-eq-DELAYED c =
-    let a = c.args in
-    by_delayed (line a.lines.now a.k) _ c.byte-status.ensures.0 c.if-status-eq-DELAYED.true
+pub returns-in-Some-Delayed : goal.returns-in-Some-Delayed
+returns-in-Some-Delayed c = by_status (line c.args.lines.now c.args.k) _ _ (rw c.in-Some-Delayed.field-0-is at c.in-Some-Delayed.ensures) refl
 
-pub returns-then-status-eq-CLOSED : goal.returns-then-status-eq-CLOSED
+pub returns-in-Some-Closed : goal.returns-in-Some-Closed
 unfolding line
-returns-then-status-eq-CLOSED c =
-    let a = c.args in
-    by_closed (line a.lines.now a.k) _ c.byte-status.ensures.0 _ c.if-status-eq-CLOSED.true c.read32.ensures
+returns-in-Some-Closed c =
+    by_status (line c.args.lines.now c.args.k) _ _ (rw c.in-Some-Closed.field-0-is at c.in-Some-Closed.ensures)
+    (ap (λ (x : ℕ). not (eqb x 0)) c.read32.ensures)
 
-pub returns : goal.returns
-unfolding line
-returns c =
-    let a = c.args in
-    by_neither (line a.lines.now a.k) _ c.byte-status.ensures.0 c.if-status-eq-DELAYED.false c.if-status-eq-CLOSED.false
+pub returns-in-None : goal.returns-in-None
+returns-in-None c = by_status (line c.args.lines.now c.args.k) _ _ c.in-None.ensures refl

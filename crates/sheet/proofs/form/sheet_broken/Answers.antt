@@ -6,8 +6,5 @@ use Rattle.sheet.proofs.form.sheet_broken.Goals as goal
 pub returns-then-form_broken : goal.returns-then-form_broken
 returns-then-form_broken c = by_form _ (sym c.form_broken.ensures ∙ c.if-form_broken.true)
 
-pub line_body-requires : goal.line_body-requires
-line_body-requires c = sym c.form_broken.ensures ∙ c.if-form_broken.false
-
 pub returns : goal.returns
 returns c = c.some_line_broken.ensures ∙ by_lines _ _ (sym c.form_broken.ensures ∙ c.if-form_broken.false) c.line_body.ensures

@@ -5,29 +5,23 @@ use mathlib.Core.Path.{sym, ◌∙◌, ap}
 use Rattle.sheet.specs.Sheet.{line_count}
 use Rattle.sheet.specs.Codes.{effect_in}
 use Rattle.sheet.proofs.Effects.{from, from_step, from_end, from_first}
-use borrow.Author.Rules.{rules}
 use Rattle.sheet.proofs.lines.effect_among.Goals as goal
 
 pub loop-k-init : goal.loop-k-init
 unfolding effect_in
-loop-k-init c =
-    let a = c.args in (omega arith, from_first a.lines.now a.i a.first a.end)
+loop-k-init c = from_first c.args.lines.now c.args.i c.args.first c.args.end
 
 pub after_line-x-requires : goal.after_line-x-requires
 unfolding line_count
-after_line-x-requires c = omega (arith, c.requires, c.loop-k.invariant.0, c.loop-k-test.true)
-
-pub overflow_add-k : goal.overflow_add-k
-unfolding line_count
-overflow_add-k c = search rules
+after_line-x-requires c = omega arith
 
 pub loop-k-preserved : goal.loop-k-preserved
 loop-k-preserved c =
     let a = c.args in
-    let step = from_step a.lines.now a.i a.end c.loop-k.k (effect_in c.loop-k.x) c.loop-k-test.true in
-    (omega (arith, c.loop-k.invariant.0), ap (from a.lines.now a.i a.end (c.loop-k.k + 1)) c.after_line-x.ensures ∙ (sym step ∙ c.loop-k.invariant.1))
+    let step = from_step a.lines.now a.i a.end c.loop-k.k (effect_in c.loop-k.x) (omega arith) in
+    ap (from a.lines.now a.i a.end (c.loop-k.k + 1)) c.after_line-x.ensures ∙ (sym step ∙ c.loop-k.invariant)
 
 pub returns : goal.returns
 returns c =
     let a = c.args in
-    sym (from_end a.lines.now a.i a.end c.loop-k.k (effect_in c.loop-k.x) (omega (arith, c.loop-k-test.false))) ∙ c.loop-k.invariant.1
+    sym (from_end a.lines.now a.i a.end c.loop-k.k (effect_in c.loop-k.x) (omega arith)) ∙ c.loop-k.invariant

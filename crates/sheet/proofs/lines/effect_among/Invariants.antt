@@ -1,5 +1,4 @@
 -- `lines::effect_among` meets its contract. The loop's invariant: what the lines from k on do after x is what holds.
-use Prim.Native.Nat.{◌-◌, ◌≤◌}
 use mathlib.Core.Path.{◌≡◌}
 use Rattle.sheet.specs.Sheet.{holds}
 use Rattle.sheet.specs.Codes.{effect_in, lines_from}
@@ -7,7 +6,4 @@ use Rattle.sheet.proofs.Effects.{from}
 use Rattle.sheet.proofs.lines.effect_among.Given as goal
 
 abbrev pub invariant-loop-k : goal.invariant-loop-k
-invariant-loop-k l = (l.first ≤ l.k) × (from l.lines l.i l.end l.k (effect_in l.x) ≡ holds (lines_from l.lines l.first l.end) l.i)
-
-abbrev pub decreases-loop-k : goal.decreases-loop-k
-decreases-loop-k l = l.end - l.k
+invariant-loop-k l = from l.lines l.i l.end l.k (effect_in l.x) ≡ holds (lines_from l.lines l.first l.end) l.i

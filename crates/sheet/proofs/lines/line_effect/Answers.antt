@@ -1,16 +1,17 @@
 -- `lines::line_effect` meets its contract: by the first byte.
-use native.Mathlib.Omega.{arith}
 use Rattle.sheet.specs.Sheet.{line}
 use Rattle.sheet.proofs.Effects.{as_closed, as_delayed}
 use Rattle.sheet.proofs.lines.line_effect.Goals as goal
+use Rattle.sheet.proofs.lines.line_effect.Goals.{in_default-via-in-Some+in_default, in_default-via-in_default}
 
-pub returns-then-byte-eq-CLOSED : goal.returns-then-byte-eq-CLOSED
-returns-then-byte-eq-CLOSED c =
+pub returns-in-Some-Closed : goal.returns-in-Some-Closed
+returns-in-Some-Closed c =
     let a = c.args in
-    as_closed (line a.lines.now a.k) c.byte.result (unfold line in c.byte.ensures.0) c.if-byte-eq-CLOSED.true
+    as_closed (line a.lines.now a.k) (rw c.in-Some-Closed.field-0-is at c.in-Some-Closed.ensures)
 
-pub returns : goal.returns
-returns c =
+pub returns-in_default : goal.returns-in_default
+returns-in_default c =
     let a = c.args in
-    as_delayed (line a.lines.now a.k) c.byte.result c.read32.result (unfold line in c.byte.ensures.0) c.if-byte-eq-CLOSED.false
-    (unfold line in c.read32.ensures) (omega arith)
+    as_delayed (line a.lines.now a.k) c.line_status.result c.read32.result c.line_status.ensures
+    (λ e. elim c.in_default.branch [ in_default-via-in-Some+in_default w ↦ cc | in_default-via-in_default w ↦ cc ])
+    (unfold line in c.read32.ensures)

@@ -4,6 +4,7 @@ use mathlib.Core.Bool.{Bool}
 use Rattle.model.specs.Lists.{any}
 use Rattle.model.specs.Bytes.{Bytes}
 use Rattle.model.specs.Network.{edge_count}
+use Rattle.rules.specs.Refusals.{number_of, refused}
 use Rattle.theory.specs.Firsts.{stops, goes, none}
 use Rattle.sheet.specs.Sheet.{lines_in, names_none}
 use Rattle.sheet.specs.Under.{too_slow}
@@ -21,13 +22,14 @@ module _ {b body : Bytes} (edges : Bytes) where
   slowed p q h = sym (ap (λ (l : Bytes). any too_slow (left_under edges l)) p) ∙ (sym q ∙ h)
 
 pub returns-then-sheet_broken : goal.returns-then-sheet_broken
+unfolding number_of refused
 returns-then-sheet_broken c = stops 18 _ (sym c.sheet_broken.ensures ∙ c.if-sheet_broken.true)
 
 pub line_body-lines-requires : goal.line_body-lines-requires
 line_body-lines-requires c = kept_form _ (sym c.sheet_broken.ensures ∙ c.if-sheet_broken.false)
 
 pub returns-then-names_broken : goal.returns-then-names_broken
-unfolding edge_count
+unfolding edge_count number_of refused
 returns-then-names_broken c =
     let a = c.args in
     goes 18 _ (sym c.sheet_broken.ensures ∙ c.if-sheet_broken.false) (stops 19 _ (named a.edges.now
@@ -38,7 +40,7 @@ unfolding edge_count
 slow_broken-requires c = record { quick = c.requires; lines_value = sym c.names_broken.ensures ∙ c.if-names_broken.false }
 
 pub returns-then-slow_broken : goal.returns-then-slow_broken
-unfolding edge_count
+unfolding edge_count number_of refused
 returns-then-slow_broken c =
     let a = c.args in
     goes 18 _ (sym c.sheet_broken.ensures ∙ c.if-sheet_broken.false) (goes 19 _ (named a.edges.now c.line_body-lines.ensures c.names_broken.ensures
@@ -46,7 +48,7 @@ returns-then-slow_broken c =
     c.if-slow_broken.true)))
 
 pub returns : goal.returns
-unfolding edge_count
+unfolding edge_count refused
 returns c =
     let a = c.args in
     goes 18 _ (sym c.sheet_broken.ensures ∙ c.if-sheet_broken.false) (goes 19 _ (named a.edges.now c.line_body-lines.ensures c.names_broken.ensures

@@ -4,14 +4,14 @@ use Rattle.model.specs.Network.{edge, edge_count}
 use Rattle.sheet.proofs.SlowLines.{over_shut, over_delayed}
 use Rattle.sheet.proofs.slow.over.Goals as goal
 
-pub returns-then-x-ge-SHUT : goal.returns-then-x-ge-SHUT
-returns-then-x-ge-SHUT c = over_shut c.args.x (edge c.args.edges.now c.args.i) c.if-x-ge-SHUT.true
-
-pub edge_seconds-requires : goal.edge_seconds-requires
+pub read-requires : goal.read-requires
 unfolding edge_count
-edge_seconds-requires c = omega (arith, c.requires)
+read-requires c = omega arith
 
-pub returns : goal.returns
-returns c =
+pub returns-in-Shut : goal.returns-in-Shut
+returns-in-Shut c = rw c.in-Shut.is (over_shut (edge c.args.edges.now c.args.i))
+
+pub returns-in-Delayed : goal.returns-in-Delayed
+returns-in-Delayed c =
     let a = c.args in
-    over_delayed a.x _ (edge a.edges.now a.i) (omega (arith, c.if-x-ge-SHUT.false)) c.edge_seconds.ensures
+    rw c.in-Delayed.is (over_delayed c.in-Delayed.added _ (edge a.edges.now a.i) c.read.ensures.seconds)

@@ -8,7 +8,7 @@ use Rattle.sheet.proofs.spans.cost_left.Goals as goal
 
 pub edge_key-cost-requires : goal.edge_key-cost-requires
 unfolding edge_count
-edge_key-cost-requires c = omega (arith, c.requires.i_bound)
+edge_key-cost-requires c = omega arith
 
 pub returns-then-x-eq0 : goal.returns-then-x-eq0
 returns-then-x-eq0 c =
@@ -19,21 +19,8 @@ returns-then-x-eq0 c =
     as_was (holds (lines_in a.lines.now) a.i) _ (edge a.edges.now a.i)
     (nothing_held a.lines.now span_of.result a.i c.if-x-eq0.true all) c.edge_key-cost.ensures.0
 
-pub effect_in-added-requires : goal.effect_in-added-requires
-effect_in-added-requires c =
-    let a = c.args in
-    let span_of = c.span_of-x in
-    spanned_in a.lines.now (spans_in a.n a.work.now) span_of.result a.i
-    c.requires.le_n.3 span_of.ensures
+pub returns-in-Shut : goal.returns-in-Shut
+returns-in-Shut c = by_shut _ _ c.in-Shut.ensures
 
-pub returns-then-added-ge-SHUT : goal.returns-then-added-ge-SHUT
-returns-then-added-ge-SHUT c = by_shut _ _ _ c.effect_in-added.ensures c.if-added-ge-SHUT.true
-
-pub overflow_mul-result : goal.overflow_mul-result
-overflow_mul-result c = omega (arith, c.if-added-ge-SHUT.false)
-
-pub overflow_add-result : goal.overflow_add-result
-overflow_add-result c = omega (arith, c.if-added-ge-SHUT.false, c.edge_key-cost.ensures.1)
-
-pub returns : goal.returns
-returns c = by_delay _ _ _ c.effect_in-added.ensures c.if-added-ge-SHUT.false _ c.edge_key-cost.ensures.0
+pub returns-in-Delayed : goal.returns-in-Delayed
+returns-in-Delayed c = by_delay _ _ c.in-Delayed.added c.in-Delayed.ensures _ c.edge_key-cost.ensures.0

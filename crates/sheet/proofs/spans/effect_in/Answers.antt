@@ -3,8 +3,7 @@ use Prim.Native.Nat.{◌/◌, ◌%◌}
 use native.Mathlib.Omega.{arith}
 use mathlib.Core.Path.{refl, sym, ◌∙◌}
 use Rattle.sheet.specs.Sheet.{line_count}
-use Rattle.sheet.proofs.Costs.{span_fits, whole_span, cut_span}
-use borrow.Author.Rules.{rules}
+use Rattle.sheet.proofs.Costs.{span_fits, cut_span}
 use Rattle.sheet.proofs.spans.effect_in.Goals as goal
 
 pub overflow_mul-first : goal.overflow_mul-first
@@ -21,21 +20,11 @@ overflow_mul-end c =
 
 pub effect_among-requires : goal.effect_among-requires
 unfolding line_count
-effect_among-requires c = search rules
-
-pub returns-then-end-m : goal.returns-then-end-m
-unfolding line_count
-returns-then-end-m c =
-    let a = c.args in
-    c.effect_among.ensures ∙ sym (whole_span a.lines.now _ c.block_lines-size.result a.x a.i refl c.block_lines-size.ensures (c.requires)
-    c.if-end-m.true)
-
-pub effect_among-requires-2 : goal.effect_among-requires-2
-unfolding line_count
-effect_among-requires-2 c = search rules
+effect_among-requires c = omega arith
 
 pub returns : goal.returns
 unfolding line_count
 returns c =
     let a = c.args in
-    c.effect_among-2.ensures ∙ sym (cut_span a.lines.now _ c.block_lines-size.result a.x a.i refl c.block_lines-size.ensures (c.requires))
+    c.effect_among.ensures
+    ∙ sym (cut_span a.lines.now _ c.block_lines-size.result a.x a.i refl c.block_lines-size.ensures c.requires c.min.result c.min.ensures)

@@ -1,8 +1,6 @@
 -- `spans::note_line` meets its contract: the word of the edge with the block of the line.
 use native.Mathlib.Omega.{arith}
-use native.Mathlib.Nat.{mod-lt}
 use mathlib.Core.Path.{refl}
-use lib.ListN.{length}
 use Rattle.sheet.specs.Sheet.{line_count}
 use Rattle.sheet.specs.Spans.{block_lines}
 use Rattle.sheet.proofs.Noting.{small, noted_next}
@@ -16,16 +14,6 @@ pub nonzero_div-k : goal.nonzero_div-k
 unfolding block_lines
 nonzero_div-k c = omega (arith, c.requires.0)
 
-pub offset_bounds-spans-j : goal.offset_bounds-spans-j
-offset_bounds-spans-j c =
-    let a = c.args in
-    omega (arith, mod-lt c.line_edge.result {m = length a.spans.now} c.requires.2)
-
-pub bounds-spans-j : goal.bounds-spans-j
-bounds-spans-j c =
-    let a = c.args in
-    mod-lt c.line_edge.result {m = length a.spans.now} c.requires.2
-
 pub overflow_cast-k : goal.overflow_cast-k
 overflow_cast-k c =
     let a = c.args in
@@ -35,16 +23,6 @@ pub with_block-requires : goal.with_block-requires
 with_block-requires c =
     let a = c.args in
     small a.lines.now a.size a.k c.requires.0 c.requires.1
-
-pub offset_bounds-spans-j-2 : goal.offset_bounds-spans-j-2
-offset_bounds-spans-j-2 c =
-    let a = c.args in
-    omega (arith, mod-lt c.line_edge.result {m = length a.spans.now} c.requires.2)
-
-pub bounds-spans-j-2 : goal.bounds-spans-j-2
-bounds-spans-j-2 c =
-    let a = c.args in
-    mod-lt c.line_edge.result {m = length a.spans.now} c.requires.2
 
 pub returns : goal.returns
 returns c =

@@ -5,15 +5,6 @@ use native.Mathlib.Omega.{arith}
 use lib.ListN.{length}
 use Rattle.sheet.proofs.spans.note_lines.Goals as goal
 
-pub overflow_add-e : goal.overflow_add-e
-overflow_add-e c = omega (arith, c.requires.1, spans_room _ c.requires.0 _ _ c.spans_at-a.ensures c.span_count.ensures.0)
-
-pub offset_bounds-work-a : goal.offset_bounds-work-a
-offset_bounds-work-a c = omega (arith, c.requires.1, spans_room _ c.requires.0 _ _ c.spans_at-a.ensures c.span_count.ensures.0)
-
-pub slice_bounds-note_all-end : goal.slice_bounds-note_all-end
-slice_bounds-note_all-end c = omega (arith, c.requires.2, spans_room _ c.requires.0 _ _ c.spans_at-a.ensures c.span_count.ensures.0)
-
 pub returns : goal.returns
 returns c =
     let a = c.args in

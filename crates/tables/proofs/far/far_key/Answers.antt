@@ -12,7 +12,7 @@ loop-i-init c = (least_all _ _ _ _ c.list_count-n.ensures.0, omega arith)
 
 pub loop-i-preserved : goal.loop-i-preserved
 loop-i-preserved c =
-    let next = least_next _ _ _ _ _ _ _ _ c.loop-i-test.true c.least_from.ensures c.lesser-least.ensures in
+    let next = least_next _ _ _ _ _ _ _ _ c.loop-i-test.true c.least_from.ensures c.min-least.ensures in
     (c.loop-i.invariant.0 ∙ next, omega (arith, c.loop-i.invariant.1))
 
 pub returns : goal.returns

@@ -1,5 +1,5 @@
 -- `far::far_key` meets its contract. The loop's invariant: the least so far and the entries from i on give the whole answer.
-use Prim.Native.Nat.{◌-◌, ◌≤◌}
+use Prim.Native.Nat.{◌≤◌}
 use mathlib.Core.Path.{◌≡◌}
 use Rattle.model.specs.Distance.{soonest}
 use Rattle.model.specs.Oracle.{no_walk, access_list}
@@ -10,6 +10,3 @@ use Rattle.tables.proofs.far.far_key.Given as goal
 abbrev pub invariant-loop-i : goal.invariant-loop-i
 invariant-loop-i l = (far_distance l.table l.t (access_list l.access l.s) (access_list l.access l.e) ≡
     least_left (λ a. soonest (sum_by l.table l.t a) (access_list l.access l.e)) l.access l.s l.n l.least l.i) × (l.least ≤ no_walk)
-
-abbrev pub decreases-loop-i : goal.decreases-loop-i
-decreases-loop-i l = l.n - l.i

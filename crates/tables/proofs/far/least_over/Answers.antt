@@ -10,8 +10,8 @@ loop-j-init c = (least_all _ _ _ _ c.list_count-n.ensures.0, λ h. omega arith, 
 
 pub loop-j-preserved : goal.loop-j-preserved
 loop-j-preserved c =
-    let next = least_next _ _ _ _ _ _ _ _ c.loop-j-test.true c.sum_with.ensures.0 c.lesser-least.ensures in
-    (c.loop-j.invariant.0 ∙ next, rw c.lesser-least.ensures (lesser_most _ _ c.loop-j.invariant.1 c.sum_with.ensures.1), omega (arith, c.loop-j.invariant.2))
+    let next = least_next _ _ _ _ _ _ _ _ c.loop-j-test.true c.sum_with.ensures.0 c.min-least.ensures in
+    (c.loop-j.invariant.0 ∙ next, rw c.min-least.ensures (lesser_most _ _ c.loop-j.invariant.1 c.sum_with.ensures.1), omega (arith, c.loop-j.invariant.2))
 
 pub returns : goal.returns
 returns c = (sym (c.loop-j.invariant.0 ∙ least_end _ _ _ _ _ _ c.loop-j-test.false), c.loop-j.invariant.1, c.loop-j.invariant.2)

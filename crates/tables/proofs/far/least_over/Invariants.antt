@@ -1,5 +1,5 @@
 -- `far::least_over` meets its contract. The loop's invariant: the least so far and the entries from j on give the whole answer.
-use Prim.Native.Nat.{◌-◌, ◌≤◌}
+use Prim.Native.Nat.{◌≤◌}
 use mathlib.Core.Path.{◌≡◌}
 use Rattle.model.specs.Distance.{soonest}
 use Rattle.model.specs.Oracle.{no_walk, access_list}
@@ -9,6 +9,3 @@ use Rattle.tables.proofs.far.least_over.Given as goal
 
 abbrev pub invariant-loop-j : goal.invariant-loop-j
 invariant-loop-j l = (soonest (sum_in l.row) (access_list l.access l.e) ≡ least_left (sum_in l.row) l.access l.e l.n l.least l.j) × InTwo l.least × (l.least ≤ no_walk)
-
-abbrev pub decreases-loop-j : goal.decreases-loop-j
-decreases-loop-j l = l.n - l.j

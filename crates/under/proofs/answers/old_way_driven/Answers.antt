@@ -19,11 +19,11 @@ search_to-requires c =
     let g = noted_edges a.edges.now a.lines.now a.n _ _ c.requires.n_le_max_nodes.5 c.requires.n_le_max_nodes.4 c.requires.lines_value c.note_lines.ensures.noted c.note_lines.ensures.others in
     (c.requires.n_le_max_nodes.0, c.requires.n_le_max_nodes.2, c.requires.n_le_max_nodes.1, search rules, plain _ _ _ g.roads, c.requires.n_le_max_nodes.5)
 
-pub still_driven-requires : goal.still_driven-requires
-still_driven-requires c =
+pub invariant_of-roads : goal.invariant_of-roads
+invariant_of-roads c =
     let a = c.args in
     let g = noted_edges a.edges.now a.lines.now a.n _ _ c.requires.n_le_max_nodes.5 c.requires.n_le_max_nodes.4 c.requires.lines_value c.note_lines.ensures.noted c.note_lines.ensures.others in
-    record { s_lt_n = (c.requires.n_le_max_nodes.1, c.requires.n_le_max_nodes.0, search rules); edges_under = edges_behind _ _ _ _ _ c.search_to.ensures.others g }
+    record { few = c.requires.n_le_max_nodes.0; enough = search rules; under = ∣ edges_behind _ _ _ _ _ c.search_to.ensures.others g ∣₁ }
 
 pub returns : goal.returns
 returns c =

@@ -6,6 +6,7 @@ use Rattle.opened.proofs.OpenLaws.{stays, stays_then}
 use Rattle.under.proofs.Networks.{own_itself}
 use Rattle.under.proofs.Stands.{stands_itself, stands_driven, stands_none, stands_not}
 use Rattle.under.proofs.answers.time_under_of.Goals as goal
+use Rattle.under.proofs.answers.time_under_of.Goals.{then-driven-via-then-driven, then-driven-via-else-driven+then-is_none}
 
 pub returns-then-s-t : goal.returns-then-s-t
 returns-then-s-t c =
@@ -23,10 +24,13 @@ pub old_answer-old-requires : goal.old_answer-old-requires
 old_answer-old-requires c = record { opened = (c.judge-driven.ensures.stays.opened, c.requires.opened.1, c.requires.opened.2); s_value = c.judge-driven.ensures.old }
 
 pub returns-then-driven : goal.returns-then-driven
-returns-then-driven c = record { answer = c.old_answer-old.ensures ∙ stands_driven _ _ _ _ (sym c.judge-driven.ensures.driven ∙ c.if-driven.true); stays = c.judge-driven.ensures.stays }
-
-pub returns-then-is_none : goal.returns-then-is_none
-returns-then-is_none c = record { answer = c.old_answer-old.ensures ∙ stands_none _ _ _ _ (sym (ap is_none c.old_answer-old.ensures) ∙ (sym c.is_none.ensures ∙ c.if-is_none.true)); stays = c.judge-driven.ensures.stays }
+returns-then-driven c = elim c.then-driven.branch [
+  | then-driven-via-then-driven w ↦ record { answer = c.old_answer-old.ensures ∙ stands_driven _ _ _ _ (sym c.judge-driven.ensures.driven ∙ w.if-driven.true); stays = c.judge-driven.ensures.stays }
+  | then-driven-via-else-driven+then-is_none w ↦ record {
+    answer = c.old_answer-old.ensures ∙ stands_none _ _ _ _ (sym (ap is_none c.old_answer-old.ensures) ∙ (sym w.is_none.ensures ∙ w.if-is_none.true));
+    stays = c.judge-driven.ensures.stays;
+  }
+]
 
 pub searched-requires : goal.searched-requires
 searched-requires c = record { opened = (c.judge-driven.ensures.stays.opened, c.requires.opened.1, c.requires.opened.2, c.if-s-t.false); edges_under = c.judge-driven.ensures.edges }

@@ -1,19 +1,8 @@
 -- `refusals::pair_under_refusal` meets its contract.
-use mathlib.Core.Path.{◌∙◌, sym}
-use Rattle.theory.specs.BuiltCalls.{pair_counted}
+use mathlib.Core.Path.{sym}
+use Rattle.reader.proofs.Kept.{none_broken}
 use Rattle.checks.proofs.RulesKept.{pair_kept}
-use Rattle.checks.proofs.CheckOrder.{sooner}
-use Rattle.sheet.specs.SheetCalls.{pair_under_rules}
-use Rattle.theory.specs.Firsts.{first_append}
 use Rattle.under.proofs.refusals.pair_under_refusal.Goals as goal
 
-pub returns-then-r-ne0 : goal.returns-then-r-ne0
-unfolding pair_under_rules
-returns-then-r-ne0 c = sooner _ _ c.pair_refusal-r.ensures _ c.if-r-ne0.true
-
 pub sheet_rule-requires : goal.sheet_rule-requires
-sheet_rule-requires c = (pair_kept _ _ _ (sym c.pair_refusal-r.ensures ∙ c.if-r-ne0.false)).shape
-
-pub returns : goal.returns
-unfolding pair_under_rules
-returns c = c.sheet_rule.ensures ∙ sym (first_append _ _ (pair_counted _ _ _) (sym c.pair_refusal-r.ensures ∙ c.if-r-ne0.false))
+sheet_rule-requires c = (pair_kept _ _ _ (sym (none_broken c.pair_refusal.ensures c.in_ok-pair_refusal.was))).shape

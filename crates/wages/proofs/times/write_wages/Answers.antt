@@ -1,6 +1,6 @@
 -- `times::write_wages` meets its contract. The loop's invariant: the first i legs are written and tallied, and the oracle stays opened.
 use native.Mathlib.Omega.{arith}
-use mathlib.Core.Path.{refl, ◌∙◌}
+use mathlib.Core.Path.{◌≡◌, refl, ◌∙◌}
 use Rattle.opened.proofs.OpenLaws.{opened_kept}
 use Rattle.wages.specs.Sizes.{length_wages}
 use Rattle.wages.proofs.Paying.{paying_start, paying_next, paying_end}
@@ -30,4 +30,9 @@ pub write_tally-requires : goal.write_tally-requires
 write_tally-requires c = omega (arith, c.loop-i.invariant.3, c.loop-i.invariant.4.far, c.requires.2)
 
 pub returns : goal.returns
-returns c = record { bytes = paying_end _ _ _ _ _ _ _ (omega (arith, c.loop-i.invariant.0, c.loop-i-test.false)) c.loop-i.invariant.4 c.write_tally.ensures; others = c.loop-i.invariant.2 }
+returns c =
+    let e : c.leg_count-count.result ≡ c.loop-i.i = omega (arith, c.loop-i-test.false) in
+    record {
+      bytes = paying_end _ _ _ _ _ _ _ (omega (arith, c.loop-i.invariant.0, c.loop-i-test.false)) c.loop-i.invariant.4 (rw e at c.write_tally.ensures);
+      others = c.loop-i.invariant.2;
+    }

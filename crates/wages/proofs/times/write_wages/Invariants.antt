@@ -1,5 +1,4 @@
 -- `times::write_wages` meets its contract. The loop's invariant: the first i legs are written and tallied, and the oracle stays opened.
-use Prim.Native.Nat.{◌-◌}
 use mathlib.Core.Path.{◌≡◌}
 use lib.ListN.{length}
 use Rattle.model.specs.Contents.{node_body}
@@ -13,6 +12,3 @@ use Rattle.wages.proofs.times.write_wages.Given as goal
 abbrev pub invariant-loop-i : goal.invariant-loop-i
 invariant-loop-i l = (l.count ≡ leg_count l.legs) × (length l.work ≡ length l.initial.work) × KeptFrom (grid_at (node_count (node_body l.o))) l.initial.work l.work × (length l.out ≡ length l.initial.out)
     × Paying l.o l.legs l.initial.out l.i l.out l.tally
-
-abbrev pub decreases-loop-i : goal.decreases-loop-i
-decreases-loop-i l = l.count - l.i

@@ -3,13 +3,14 @@ use native.Mathlib.Omega.{arith}
 use mathlib.Core.Path.{refl, ap}
 use lib.ListN.{length}
 use Rattle.way.proofs.Splices.{splice_none, splice_on}
+use Rattle.arcs.proofs.Walked.{walked}
 use Rattle.way.proofs.Steps.{stops, goes}
 use Rattle.way.proofs.after.+way_after.Goals as goal
 
-pub returns-then-v-n : goal.returns-then-v-n
-returns-then-v-n t c =
+pub returns-in-None : goal.returns-in-None
+returns-in-None t c =
     let p = c.requires in
-    let e = stops _ _ _ _ p.edges_under _ _ p.u_value.0 _ c.next_node-v.ensures c.if-v-n.true in
+    let e = stops _ _ _ _ (walked c.args.roads.now) _ _ p.u_value c.in-None.ensures in
     record { end = omega (arith, ap length e); bytes = splice_none _ _ _ e }
 
 pub overflow_cast-v : goal.overflow_cast-v
@@ -17,8 +18,8 @@ overflow_cast-v t c =
     let p = c.requires in
     omega (
       arith,
-      (goes _ _ _ _ p.edges_under _ _ p.u_value.0 _ c.next_node-v.ensures c.if-v-n.false _ refl).inside,
-      p.u_value.1,
+      (goes _ _ _ _ (walked c.args.roads.now) _ _ p.u_value _ c.in-Some.ensures _ refl).inside,
+      c.args.roads.now.few,
     )
 
 pub write16-requires : goal.write16-requires
@@ -26,27 +27,27 @@ write16-requires t c =
     let p = c.requires in
     omega (
       arith,
-      ap length (goes _ _ _ _ p.edges_under _ _ p.u_value.0 _ c.next_node-v.ensures c.if-v-n.false _ refl).on,
+      ap length (goes _ _ _ _ (walked c.args.roads.now) _ _ p.u_value _ c.in-Some.ensures _ refl).on,
       p.fits,
     )
 
 pub time_of-rest-requires : goal.time_of-rest-requires
 time_of-rest-requires t c =
     let p = c.requires in (
-      omega arith,
-      (goes _ _ _ _ p.edges_under _ _ p.u_value.0 _ c.next_node-v.ensures c.if-v-n.false _ refl).inside,
+      omega (arith, c.args.roads.now.enough),
+      (goes _ _ _ _ (walked c.args.roads.now) _ _ p.u_value _ c.in-Some.ensures _ refl).inside,
     )
 
 pub way_after-requires : goal.way_after-requires
 way_after-requires t c =
     let p = c.requires in
-    let s = goes _ _ _ _ p.edges_under _ _ p.u_value.0 _ c.next_node-v.ensures c.if-v-n.false _ c.time_of-rest.ensures.1 in
-    (omega (arith, s.less), ((s.time, p.u_value.1, p.u_value.2), (omega (arith, ap length s.on, p.fits), p.edges_under)))
+    let s = goes _ _ _ _ (walked c.args.roads.now) _ _ p.u_value _ c.in-Some.ensures _ c.time_of-rest.ensures.1 in
+    (omega (arith, s.less), (s.time, omega (arith, ap length s.on, p.fits)))
 
-pub returns : goal.returns
-returns t c =
+pub returns-in-Some : goal.returns-in-Some
+returns-in-Some t c =
     let p = c.requires in
-    let s = goes _ _ _ _ p.edges_under _ _ p.u_value.0 _ c.next_node-v.ensures c.if-v-n.false _ c.time_of-rest.ensures.1 in
+    let s = goes _ _ _ _ (walked c.args.roads.now) _ _ p.u_value _ c.in-Some.ensures _ c.time_of-rest.ensures.1 in
     let r = c.way_after in
     record {
       end = omega (arith, ap length s.on, r.ensures.end);

@@ -5,4 +5,4 @@ use Rattle.words.proofs.HalfLaws.{half_shifted}
 use Rattle.words.proofs.halves.half_of.Goals as goal
 
 pub returns : goal.returns
-returns c = (half_shifted c.args.w.now c.args.p (omega (arith, c.shared_slice_known-1.given (c.args.p / 2))), omega arith)
+returns c = (half_shifted c.args.w.now c.args.p (omega (arith, c.type_inv.w (c.args.p / 2))), omega arith)

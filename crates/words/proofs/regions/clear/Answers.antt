@@ -6,4 +6,4 @@ use Rattle.words.proofs.regions.clear.Goals as goal
 pub returns : goal.returns
 returns c =
     let a = c.args in
-    let w = a.work.now in record { members = emptied a.n a.k _ _ w c.region_at-a.ensures c.set_words.ensures (search rules) c.fill.new.s c.fill.auto.s c.fill.ensures; others = emptied_only a.n a.k _ _ w c.region_at-a.ensures c.set_words.ensures (search rules) c.fill.new.s c.fill.auto.s }
+    let w = a.work.now in record { members = emptied a.n a.k _ _ w c.region_at-a.ensures c.set_words.ensures (search rules) c.fill.new.self c.fill.auto.self (c.fill.ensures.after (λ y e. e)); others = emptied_only a.n a.k _ _ w c.region_at-a.ensures c.set_words.ensures (search rules) c.fill.new.self c.fill.auto.self }

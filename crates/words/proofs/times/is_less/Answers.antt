@@ -6,11 +6,11 @@ use Rattle.words.proofs.times.is_less.Goals as goal
 pub returns-then-a-b : goal.returns-then-a-b
 returns-then-a-b c =
     let a = c.args in
-    less_seconds a.n a.work.now (λ i. omega (arith, c.shared_slice_known-2-1.given i)) a.u a.v (λ e. c.if-a-b.true e)
+    less_seconds a.n a.work.now (λ i. omega (arith, c.type_inv.work i)) a.u a.v (λ e. c.if-a-b.true e)
 
 pub returns : goal.returns
 returns c =
     let a = c.args in
     rw (c.half_of.ensures.0, c.half_of-2.ensures.0)
-    (less_hops a.n a.work.now (λ i. omega (arith, c.shared_slice_known-2-1.given i)) a.u a.v
+    (less_hops a.n a.work.now (λ i. omega (arith, c.type_inv.work i)) a.u a.v
     c.if-a-b.false)

@@ -12,5 +12,5 @@ returns c =
     let e : c.key_of.result ≡ time a.n a.work.now a.v = c.key_of.ensures ∙ rw c.half_of.ensures.0 refl in (
       e,
       e ∙ sym (time_at a.n a.work.now a.v c.requires.1),
-      omega (arith, c.key_of.ensures, c.half_of.ensures.1, c.shared_slice_known-1.given a.v),
+      omega (arith, c.key_of.ensures, c.half_of.ensures.1, c.type_inv.work a.v),
     )

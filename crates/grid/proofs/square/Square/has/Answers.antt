@@ -4,4 +4,4 @@ use Rattle.grid.proofs.square.Square.has.Goals as goal
 
 pub returns : goal.returns
 unfolding reaches_node
-returns c = rw (c.inside-across.ensures, c.inside-up.ensures, c.node_x.ensures, c.node_y.ensures)
+returns c = rw (c.inside-across.ensures, c.inside-up.ensures, c.read-node.ensures.x, c.read-node.ensures.y)

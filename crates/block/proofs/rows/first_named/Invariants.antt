@@ -1,9 +1,0 @@
--- `rows::first_named` meets its contract.
-use Prim.Native.Nat.{◌-◌, ◌≤◌}
-use Rattle.block.proofs.rows.first_named.Given as goal
-
-abbrev pub invariant-loop-k : goal.invariant-loop-k
-invariant-loop-k l = l.k ≤ l.i
-
-abbrev pub decreases-loop-k : goal.decreases-loop-k
-decreases-loop-k l = l.i - l.k

@@ -1,6 +1,0 @@
-use Rattle.model.specs.Network.{edge}
-use Rattle.codec.proofs.records.edge_second.Goals as goal
-
-pub returns : goal.returns
-unfolding edge
-returns c = c.read16.ensures

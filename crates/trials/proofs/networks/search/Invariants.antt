@@ -1,9 +1,0 @@
--- `networks::search` meets its contract. Assumes nothing.
-use Rattle.std.proofs.Common.{◌≡◌, ◌-◌, length}
-use Rattle.trials.proofs.networks.search.Given as goal
-
-abbrev pub invariant-loop-i : goal.invariant-loop-i
-invariant-loop-i l = length l.d ≡ length l.initial.d
-
-abbrev pub decreases-loop-i : goal.decreases-loop-i
-decreases-loop-i l = 16384 - l.i
