@@ -8,9 +8,9 @@ use codec::bytes::{byte, read16, read32};
 pub const LINE_SIZE: usize = 7;
 
 // "A byte (1 closed, 2 delayed), a 16-bit road, 32-bit added seconds."
-const CLOSED: u32 = 1;
+pub const CLOSED: u32 = 1;
 
-const DELAYED: u32 = 2;
+pub const DELAYED: u32 = 2;
 
 pub const EDGE_AT: usize = 1;
 
