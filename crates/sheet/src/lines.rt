@@ -61,13 +61,16 @@ pub fn line_effect(lines: &[u8], k: usize) -> Effect
     }
 }
 
-// What is done to edge i by line k, after x: a closure stays.
+// What is done to edge i by line k, after x: a closure stays. The edge is asked for first: of most lines of a span it is another.
 fn after_line(lines: &[u8], k: usize, i: usize, x: Effect) -> Effect
     requires { line_size * k + line_size ≤ length lines.now }
     ensures { effect_in result ≡ cond (is_about i (line lines.now k)) (held_after (effect_in x) (effect_of (line lines.now k))) (effect_in x) }
 {
+    if line_edge(lines, k) != i {
+        return x;
+    }
     match x {
-        Effect::Delayed(_) if line_edge(lines, k) == i => line_effect(lines, k),
+        Effect::Delayed(_) => line_effect(lines, k),
         _ => x,
     }
 }
