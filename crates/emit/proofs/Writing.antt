@@ -43,9 +43,9 @@ module _ {whole out rest r more : Bytes} {at : ℕ} (t : Then rest r more) (w : 
 pub byte_next : (from old : Bytes) (i at : ℕ) → i < length from → at + i < length old → Then (drop i from) (get_or from i 0 ∷ []) (drop (i + 1) from)
     × Wrote old (at + i) (get_or from i 0 ∷ []) (at + (i + 1)) (set old (at + i) (get_or from i 0))
 byte_next from old i at h k = (
-    record { is = rw add-one (drop-cons from i 0 h) },
-    record { ends = omega arith; spliced = splice_byte old (at + i) (get_or from i 0) k },
-  )
+  record { is = rw add-one (drop-cons from i 0 h) },
+  record { ends = omega arith; spliced = splice_byte old (at + i) (get_or from i 0) k },
+)
 
 pub written_end : {whole out rest : Bytes} {at : ℕ} → rest ≡ [] → Written whole at out rest → out ≡ whole
 unfolding splice
