@@ -1,4 +1,5 @@
-// A distance in bodies 6 and 7: 32-bit seconds, then 16-bit hops, as a key, of which NO_WALK means 'no walk'. Both bodies are read and written by these.
+// A distance in bodies 6 and 7: 32-bit seconds, then 16-bit hops, as a key, of which NO_WALK means 'no walk'. `read_value` reads both bodies; building lays
+// them out by emit `value_bytes`, in the bytes that `write_value` writes.
 ghost use Rattle.std.specs.Prelude.{◌≡◌, ◌+◌, ◌≤◌, length};
 ghost use Rattle.model.specs.Bytes.{splice};
 ghost use Rattle.model.specs.Oracle.{value_size, no_walk, value_bytes, decoded, value};

@@ -1,11 +1,13 @@
 -- Writing a part record by record, in terms of what is left to write from a position on. Assumes nothing.
-use Prim.Native.Nat.{ℕ, ◌+◌, ◌≤◌}
+use Prim.Native.Nat.{ℕ, ◌+◌, ◌<◌, ◌≤◌}
 use native.Mathlib.Omega.{arith}
+use native.Mathlib.Numerals.{add-one}
 use mathlib.Core.Path.{◌≡◌, refl, sym, ◌∙◌, ap}
-use mathlib.Core.List.{[], ◌++◌, append-nil}
-use lib.ListN.{length, length-append, take-append-drop, drop_of_length-le}
+use mathlib.Core.List.{[], ◌∷◌, ◌++◌, append-nil}
+use lib.ListN.{length, get_or, drop, set, length-append, take-append-drop, drop_of_length-le}
+use lib.Seq.{drop-cons}
 use Rattle.model.specs.Bytes.{Bytes, splice}
-use Rattle.theory.specs.Splices.{length_splice, splice_then}
+use Rattle.theory.specs.Splices.{length_splice, splice_byte, splice_then}
 use Rattle.emit.specs.Records.{Wrote}
 
 -- ---- all records of a part
@@ -36,6 +38,14 @@ module _ {whole out rest r more : Bytes} {at : ℕ} (t : Then rest r more) (w : 
         room = omega (arith, length_splice out at r written_fits, w.room, ap length t.is, length-append r more);
         same = rw (splice_then out at r written_fits more, ← t.is) w.same;
       })
+
+-- One byte of `from` after another, from `at` on.
+pub byte_next : (from old : Bytes) (i at : ℕ) → i < length from → at + i < length old → Then (drop i from) (get_or from i 0 ∷ []) (drop (i + 1) from)
+    × Wrote old (at + i) (get_or from i 0 ∷ []) (at + (i + 1)) (set old (at + i) (get_or from i 0))
+byte_next from old i at h k = (
+  record { is = rw add-one (drop-cons from i 0 h) },
+  record { ends = omega arith; spliced = splice_byte old (at + i) (get_or from i 0) k },
+)
 
 pub written_end : {whole out rest : Bytes} {at : ℕ} → rest ≡ [] → Written whole at out rest → out ≡ whole
 unfolding splice

@@ -51,25 +51,9 @@ module _ (l : Line) where
       pick true b f = absurd (q f)
       pick false b f = refl
 
--- ---- one line after x
-module _ (l : Line) (i e : ℕ) (p : e ≡ l.edge) where
-  pub about_yes : (x : ℕ) → e ≡ i → {y : Effect} → y ≡ effect_of l
-      → y ≡ cond (is_about i l) (held_after (effect_in (Delayed x)) (effect_of l)) (effect_in (Delayed x))
-  unfolding is_about effect_in held_after
-  about_yes x q h = rw (eq-eqb l.edge i (sym p ∙ q)) h
-
-  pub about_no : (x : Done) → (e ≡ i → ⊥) → effect_in x ≡ cond (is_about i l) (held_after (effect_in x) (effect_of l)) (effect_in x)
-  unfolding is_about
-  about_no x q = rw (ne_eqb l.edge i (λ z. q (p ∙ z)))
-
--- A closure stays.
-pub about_shut : (l : Line) (i : ℕ) → effect_in Shut ≡ cond (is_about i l) (held_after (effect_in Shut) (effect_of l)) (effect_in Shut)
-unfolding effect_in held_after
-about_shut l i = pick (is_about i l)
-  where
-    pick : (b : Bool) → shut ≡ cond b shut shut
-    pick true = refl
-    pick false = refl
+pub open_delayed : (a : ℕ) → effect_in (Delayed a) ≡ shut → ⊥
+unfolding effect_in
+open_delayed a z = cc
 
 -- ---- line after line
 
@@ -95,6 +79,18 @@ from_step b i end k x h = rw (rest_step k end h) (pick (is_about i (line b k)))
     pick true = refl
     pick false = refl
 
+-- A line about another edge changes nothing.
+pub from_other : (b : Bytes) (i end k e : ℕ) (x : Effect) → k < end → e ≡ (line b k).edge → (e ≡ i → ⊥) → from b i end k x ≡ from b i end (k + 1) x
+unfolding is_about
+from_other b i end k e x h p q = from_step b i end k x h ∙ rw (ne_eqb (line b k).edge i (λ z. q (p ∙ z))) refl
+
+-- One about the edge holds, but after a closure.
+pub from_about : (b : Bytes) (i end k e : ℕ) (x : Effect) → k < end → e ≡ (line b k).edge → e ≡ i → (x ≡ shut → ⊥) → {y : Effect} → y ≡ effect_of (line b k)
+    → from b i end k x ≡ from b i end (k + 1) y
+unfolding is_about held_after
+from_about b i end k e shut h p q n r = absurd (n refl)
+from_about b i end k e (delayed a) h p q n r = from_step b i end k (delayed a) h ∙ rw (eq-eqb (line b k).edge i (sym p ∙ q), r) refl
+
 pub from_end : (b : Bytes) (i end k : ℕ) (x : Effect) → end ≤ k → from b i end k x ≡ x
 unfolding from lines_from about filter held_all
 from_end b i end k x h = rw (rest_end k end h)
@@ -103,6 +99,10 @@ shut_stays : (ls : List Line) → held_all shut ls ≡ shut
 unfolding held_all held_after
 shut_stays [] = refl
 shut_stays (l ∷ ls) = shut_stays ls
+
+pub from_shut : (b : Bytes) (i end k : ℕ) → from b i end k shut ≡ shut
+unfolding from
+from_shut b i end k = shut_stays (about (lines_from b k end) i)
 
 -- Line after line they do what the definition says.
 all_held : (n : ℕ) (ls : List Line) → held_all (delayed n) ls ≡ cond (any closes ls) shut (last_effect (delayed n) ls)

@@ -1,6 +1,6 @@
 // The lines of a sheet, and what they do to an edge.
-ghost use Rattle.std.specs.Prelude.{◌≡◌, cond, ◌+◌, ◌*◌, ◌<◌, ◌≤◌, length};
-ghost use Rattle.sheet.specs.Sheet.{line_size, line, line_count, lines_in, is_about, effect_of, holds};
+ghost use Rattle.std.specs.Prelude.{◌≡◌, true, false, ◌+◌, ◌*◌, ◌<◌, ◌≤◌, length};
+ghost use Rattle.sheet.specs.Sheet.{line_size, line, line_count, lines_in, is_about, effect_of, holds, Effect.shut};
 ghost use Rattle.sheet.specs.Codes.{status_of, effect_in, held_after, lines_from};
 
 use codec::bytes::{byte, read16, read32};
@@ -8,9 +8,9 @@ use codec::bytes::{byte, read16, read32};
 pub const LINE_SIZE: usize = 7;
 
 // "A byte (1 closed, 2 delayed), a 16-bit road, 32-bit added seconds."
-const CLOSED: u32 = 1;
+pub const CLOSED: u32 = 1;
 
-const DELAYED: u32 = 2;
+pub const DELAYED: u32 = 2;
 
 pub const EDGE_AT: usize = 1;
 
@@ -61,25 +61,29 @@ pub fn line_effect(lines: &[u8], k: usize) -> Effect
     }
 }
 
-// What is done to edge i by line k, after x: a closure stays.
-fn after_line(lines: &[u8], k: usize, i: usize, x: Effect) -> Effect
-    requires { line_size * k + line_size ≤ length lines.now }
-    ensures { effect_in result ≡ cond (is_about i (line lines.now k)) (held_after (effect_in x) (effect_of (line lines.now k))) (effect_in x) }
+fn is_shut(x: Effect) -> bool
+    ensures yes { result ≡ true → effect_in x ≡ shut }
+    ensures no { result ≡ false → effect_in x ≡ shut → ⊥ }
 {
-    match x {
-        Effect::Delayed(_) if line_edge(lines, k) == i => line_effect(lines, k),
-        _ => x,
-    }
+    matches!(x, Effect::Shut)
 }
 
-// What the lines from the first to before the end do to edge i.
+// What the lines from the first to before the end do to edge i: a closure stays, and over a delay the later line holds. The edge is asked for first, as nearly
+// all lines are about another.
 pub fn effect_among(lines: &[u8], first: usize, end: usize, i: usize) -> Effect
     requires { end ≤ line_count lines.now }
     ensures { effect_in result ≡ holds (lines_from lines.now first end) i }
 {
     let mut x = Effect::Delayed(0);
     for k in first..end {
-        x = after_line(lines, k, i, x);
+        if line_edge(lines, k) != i {
+            continue;
+        }
+        let y = line_effect(lines, k);
+        if is_shut(y) {
+            return y;
+        }
+        x = y;
     }
     x
 }

@@ -30,12 +30,12 @@ fn is_step(roads: &Roads, to: usize, cost: u64, left: u64, v: usize) -> bool
     requires { (to < roads.now.n) × (cost ≤ max_cost) }
     ensures { result ≡ (agree (plus (finite cost) (distance_by roads.now to)) (finite left) && eqb v to) }
 {
-    is_next(roads, to, cost, left) && v == to
+    is_next(roads.work, roads.n, to, cost, left) && v == to
 }
 
 // Whether some arc that the sheet leaves leads from u to v in just the time by which v is nearer. A parallel road may serve.
 fn drives(roads: &Roads, u: usize, v: usize, left: u64) -> bool
-    requires { distance_by roads.now u ≡ finite left }
+    requires { (distance_by roads.now u ≡ finite left) × (v < roads.now.n) }
     ensures { result ≡ member v (nexts (distance_by roads.now) (arcs_by roads.now) u) }
 {
     let mut a = roads.first_arc(u);

@@ -1,30 +1,32 @@
 // The next node of a way: "the lowest-numbered neighbour v with road time + d(v, t) = d(u, t)", in pairs. The distances to the way's end t are the times in the
 // working words, as keys, and `left` is that of u.
-ghost use Rattle.std.specs.Prelude.{◌≡◌, cond, ◌<◌, ◌≤◌, min};
+ghost use Rattle.std.specs.Prelude.{◌≡◌, cond, ◌<◌, ◌≤◌, min, length};
 ghost use Rattle.model.specs.Distance.{finite, plus, agree};
 ghost use Rattle.model.specs.Query.{nexts};
 ghost use Rattle.theory.specs.Sound.{max_cost};
-ghost use Rattle.way.specs.Distances.{distance_by, arcs_by, lowest};
+ghost use Rattle.words.specs.Regions.{times_in};
+ghost use Rattle.words.specs.Times.{time_words};
+ghost use Rattle.way.specs.Distances.{distance_in, distance_by, arcs_by, lowest};
 
 use arcs::roads::Roads;
 use codec::records::NO_WALK;
 use words::times::time_of;
 
 // Whether v is next by an arc of this cost. 'No walk' is no time to add.
-pub fn is_next(roads: &Roads, v: usize, cost: u64, left: u64) -> bool
-    requires { (v < roads.now.n) × (cost ≤ max_cost) }
-    ensures { result ≡ agree (plus (finite cost) (distance_by roads.now v)) (finite left) }
+pub fn is_next(work: &[u32], n: usize, v: usize, cost: u64, left: u64) -> bool
+    requires { (time_words n ≤ length work.now) × (v < n) × (cost ≤ max_cost) }
+    ensures { result ≡ agree (plus (finite cost) (distance_in (times_in n work.now) v)) (finite left) }
 {
-    let x = time_of(roads.work, roads.n, v);
+    let x = time_of(work, n, v);
     x != NO_WALK && cost + x == left
 }
 
 // The lower of `best` and v where v is next by an arc of this cost, and else `best`.
-fn lower(roads: &Roads, v: usize, cost: u64, left: u64, best: usize) -> usize
-    requires { (v < roads.now.n) × (cost ≤ max_cost) }
-    ensures { result ≡ cond (agree (plus (finite cost) (distance_by roads.now v)) (finite left)) (min best v) best }
+pub fn lower(work: &[u32], n: usize, v: usize, cost: u64, left: u64, best: usize) -> usize
+    requires { (time_words n ≤ length work.now) × (v < n) × (cost ≤ max_cost) }
+    ensures { result ≡ cond (agree (plus (finite cost) (distance_in (times_in n work.now) v)) (finite left)) (min best v) best }
 {
-    if is_next(roads, v, cost, left) {
+    if is_next(work, n, v, cost, left) {
         best.min(v)
     } else {
         best
@@ -39,7 +41,7 @@ pub fn next_node(roads: &Roads, u: usize, left: u64) -> Option<usize>
     let mut r = roads.n;
     let mut a = roads.first_arc(u);
     while a.to < roads.n {
-        r = lower(roads, a.to, a.cost, left, r);
+        r = lower(roads.work, roads.n, a.to, a.cost, left, r);
         a = roads.next_under(u, a);
     }
     if r == roads.n { None } else { Some(r) }

@@ -33,7 +33,9 @@ pub drives-requires : goal.drives-requires
 drives-requires c =
     let r = c.args.roads.now in
     let t = c.time_of-left.ensures.1 in
-    starts r.n r.work.now [] c.args.u _ c.requires.0 t (λ z. c.requires.1 (sym t ∙ z))
+    let e = starts r.n r.work.now [] c.args.u _ c.requires.0 t (λ z. c.requires.1 (sym t ∙ z)) in
+    let g = plain r.edges.now r.n r.work.now (walked r).roads in
+    (e, (goes _ _ _ _ g c.args.u _ e _ c.in-Some.ensures _ refl).inside)
 
 pub returns-in-Some : goal.returns-in-Some
 returns-in-Some c =

@@ -8,16 +8,13 @@ use Rattle.words.specs.Regions.{times_in}
 use Rattle.way.proofs.Words.{next_none, next_sum}
 use Rattle.way.proofs.next.is_next.Goals as goal
 
-pub time_of-x-requires : goal.time_of-x-requires
-time_of-x-requires c = (omega (arith, c.args.roads.now.enough), c.requires.0)
-
 pub returns-then-x-ne-NO_WALK : goal.returns-then-x-ne-NO_WALK
 returns-then-x-ne-NO_WALK c =
-    let r = c.args.roads.now in
-    next_sum (times_in r.n r.work.now) c.args.v (omega (arith, times_length r.n r.work.now, r.enough)) _ c.time_of-x.ensures.1 _ _ c.if-x-ne-NO_WALK.true
+    let a = c.args in
+    next_sum (times_in a.n a.work.now) a.v (omega (arith, times_length a.n a.work.now)) _ c.time_of-x.ensures.1 _ _ c.if-x-ne-NO_WALK.true
 
 pub returns-else-x-ne-NO_WALK : goal.returns-else-x-ne-NO_WALK
 returns-else-x-ne-NO_WALK c =
-    let r = c.args.roads.now in
+    let a = c.args in
     ap not (eq-eqb _ _ c.if-x-ne-NO_WALK.false)
-    ∙ next_none (times_in r.n r.work.now) c.args.v (omega (arith, times_length r.n r.work.now, r.enough)) _ c.time_of-x.ensures.1 _ _ c.if-x-ne-NO_WALK.false
+    ∙ next_none (times_in a.n a.work.now) a.v (omega (arith, times_length a.n a.work.now)) _ c.time_of-x.ensures.1 _ _ c.if-x-ne-NO_WALK.false

@@ -12,7 +12,7 @@ pub loop-a-init : goal.loop-a-init
 loop-a-init c = lowered_first _ _ _ _ _ _ _ _ c.first_arc-a.ensures
 
 pub lower-r-requires : goal.lower-r-requires
-lower-r-requires c = (c.loop-a-test.true, c.loop-a.invariant.passes.low)
+lower-r-requires c = (omega (arith, c.args.roads.now.enough), c.loop-a-test.true, c.loop-a.invariant.passes.low)
 
 pub next_under-a-requires : goal.next_under-a-requires
 next_under-a-requires c = record { u_lt_n = node_there c.args.roads.now _ _ c.requires; valid_arc = (c.loop-a.invariant.passes.valid, c.loop-a-test.true) }
